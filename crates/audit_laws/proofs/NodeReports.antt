@@ -1,5 +1,5 @@
 -- What a node tells of the steps of a script keeps each law.
-use Rattle.std.proofs.Common.{◌<◌, ℕ, zero, suc, ◌+◌, List, [], ◌∷◌, ◌++◌, length, append-nil, refl, sym, subst, arith, inl, inr, ◌⊎◌}
+use Rattle.std.proofs.Common.{◌<◌, ℕ, zero, suc, ◌+◌, List, [], ◌∷◌, ◌++◌, length, map, append-nil, refl, sym, subst, arith, inl, inr, ◌⊎◌}
 use Rattle.std.specs.Prelude.{ℤ, All, IfSome, slice_get}
 use Rattle.std.proofs.lemmas.Bool.{cases_lt}
 use Rattle.std.proofs.lemmas.List.Elements.{All-head, All-tail}
@@ -8,25 +8,24 @@ use Rattle.mate_num.specs.declared.call.End.{End}
 use Rattle.mate_num.specs.declared.call.End.TheVariants as end
 use Rattle.mate_num.specs.declared.id.HandlerId.{HandlerId}
 use Rattle.vm_desc.specs.declared.description.Description.{Description}
-use Rattle.mate_journal.specs.Journal.{JournalEntry, Posted, Dropped, Started, Asked, Answered, Ended, Installed, Reset, Seen, Void, TimedEntry, NodeState, first_state, state_after_all, untimed, whole_run, journal_of, AtEachEntry}
+use Rattle.mate_journal.specs.Journal.{JournalEntry, Posted, Dropped, Started, Asked, Answered, Ended, Installed, Reset, Seen, Void, TimedEntry, NodeState, first_state, next_state, state_after_entries, whole_run, journal_of, AtEachEntry}
 use Rattle.mate_journal.specs.Log.{Log}
 use Rattle.mate_journal.specs.Machine.{Machine}
 use Rattle.mate_journal.specs.Grants.{IsStart}
 use Rattle.mate_journal.specs.NodeReport.{IsNodeReport}
 use Rattle.mate_journal.specs.NodeRun.{IsNodeRun}
-use Rattle.mate_journal.specs.NodeScript.{Step, Install, Post, StepIn, Run, Answer, Show, ResetNode, Occasion, Installs, IsNotNewer, AnswersCall, IsNotWaiting, Makes, HaveMade, RunEnd, Whole, Full, Cut, EndsRun, IsRunOf}
+use Rattle.mate_journal.specs.NodeScript.{Step, Install, Post, StepIn, Run, Answer, Show, ResetNode, Occasion, Installs, IsNotNewer, AnswersCall, IsNotWaiting, Makes, made_at, HaveMade, RunEnd, Whole, Full, Cut, EndsRun, IsRunOf}
 use Rattle.mate_journal.specs.Pace.{Pace, no_pace}
 use Rattle.mate_journal.specs.Turns.{Turn, IsTurn, entry_at, mark_of}
 use Rattle.mate_journal.specs.declared.program.Program.{Program}
 use Rattle.mate_journal.specs.declared.report.Report.{Report}
-use Rattle.journal_laws.proofs.Append.{AtEachEntry-append}
 use Rattle.node_programs.specs.Sources.{meaning_by}
 use Rattle.world_install_laws.proofs.Agree.{NoInstall, NoneInstall, by_made, occasions-none, settles-none}
 use Rattle.audit_rules.specs.Laws.{InstallsProgram, machine_by}
 use Rattle.audit_rules.specs.Verdicts.{LogKeepsAll, IsVerdict}
 use Rattle.audit_verdict.specs.declared.law.Verdict.TheVariants.{Serial}
 use Rattle.audit_laws.specs.NodeInstalls.{IsInstallOf, InstallPrograms}
-use Rattle.audit_laws.proofs.Told.{at_events, InstallsRight, none-right, install-right, keeps-all}
+use Rattle.audit_laws.proofs.Told.{InstallsRight, none-right, install-right, keeps-all}
 
 -- ---- entries that install nothing
 
@@ -82,30 +81,28 @@ step-right ps m r p ResetNode told q is made = none-right ps m r told (by_made t
 
 -- ---- the run
 
-made-right : (ps : List Program) (m : Machine) (records n : ℕ) (r : NodeState) (p : Pace) (steps : List Step) (es : List TimedEntry) (q : Pace) → InstallPrograms ps steps → HaveMade m records n r p steps es q
+-- what a step made, and then the rest
+step-then : (ps : List Program) (m : Machine) (n : ℕ) (r : NodeState) (es : List TimedEntry) (told : List JournalEntry) (rest : List TimedEntry) → es ≡ map (made_at n) told ++ rest → InstallsRight ps m r told
+    → AtEachEntry (InstallsProgram ps) m (state_after_entries m r told) rest → AtEachEntry (InstallsProgram ps) m r es
+step-then ps m n r es told rest is right later = subst (λ (all : List TimedEntry). AtEachEntry (InstallsProgram ps) m r all) (sym is) (go r told right later) where
+  go : (r : NodeState) (told : List JournalEntry) → InstallsRight ps m r told → AtEachEntry (InstallsProgram ps) m (state_after_entries m r told) rest → AtEachEntry (InstallsProgram ps) m r (map (made_at n) told ++ rest)
+  go r [] right later = later
+  go r (t ∷ ts) right later = (right.0, go (next_state m r t) ts right.1 later)
+
+ends-right : (ps : List Program) (m : Machine) (how : RunEnd) (left : List Step) (records n : ℕ) (r : NodeState) (p : Pace) (es : List TimedEntry) → EndsRun m how left records n r p es → AtEachEntry (InstallsProgram ps) m r es
+ends-right ps m Whole left records n r p es (none, told, shows, is) = step-then ps m n r es told [] (is ∙ sym (append-nil (map (made_at n) told))) (none-right ps m r told (by_made told _ shows.made (tt, tt))) tt
+ends-right ps m Full left records n r p es ends = subst (λ (all : List TimedEntry). AtEachEntry (InstallsProgram ps) m r all) (sym ends.2) tt
+ends-right ps m Cut left records n r p es ends = subst (λ (all : List TimedEntry). AtEachEntry (InstallsProgram ps) m r all) (sym ends) tt
+
+made-right : (ps : List Program) (m : Machine) (how : RunEnd) (left : List Step) (records n : ℕ) (r : NodeState) (p : Pace) (steps : List Step) (es : List TimedEntry) → InstallPrograms ps (steps ++ left) → HaveMade (EndsRun m how left) m records n r p steps es
     → AtEachEntry (InstallsProgram ps) m r es
-made-right ps m records n r p [] es q install made = subst (λ (all : List TimedEntry). AtEachEntry (InstallsProgram ps) m r all) (sym made.0) tt
-made-right ps m records n r p (step ∷ steps) es q install made =
-    subst (λ (all : List TimedEntry). AtEachEntry (InstallsProgram ps) m r all) (sym made.4)
-    (AtEachEntry-append (InstallsProgram ps) m r made.1 made.2
-    (at_events (InstallsProgram ps) m r made.1 (step-right ps m r p step (untimed made.1) made.3 install.0 made.6))
-    (made-right ps m (records + length made.1) (suc n) (state_after_all m r made.1) made.3 steps made.2 q install.1 made.7))
-
-front-install : (ps : List Program) (done left : List Step) → InstallPrograms ps (done ++ left) → InstallPrograms ps done
-front-install ps [] left h = tt
-front-install ps (step ∷ done) left h = (h.0, front-install ps done left h.1)
-
-last-right : (ps : List Program) (m : Machine) (how : RunEnd) (records n : ℕ) (r : NodeState) (p : Pace) (left : List Step) (es : List TimedEntry) → EndsRun m how records n r p left es → AtEachEntry (InstallsProgram ps) m r es
-last-right ps m Whole records n r p left es ends = at_events (InstallsProgram ps) m r es (none-right ps m r (untimed es) (by_made (untimed es) _ ends.1.made (tt, tt)))
-last-right ps m Full records n r p left es ends = subst (λ (all : List TimedEntry). AtEachEntry (InstallsProgram ps) m r all) (sym ends.2) tt
-last-right ps m Cut records n r p left es ends = subst (λ (all : List TimedEntry). AtEachEntry (InstallsProgram ps) m r all) (sym ends) tt
+made-right ps m how left records n r p [] es install made = ends-right ps m how left records n r p es made
+made-right ps m how left records n r p (step ∷ steps) es install (few, told, rest, then, is, makes, later) =
+    step-then ps m n r es told rest is (step-right ps m r p step told then install.0 makes)
+    (made-right ps m how left (records + length told) (suc n) (state_after_entries m r told) then steps rest install.1 later)
 
 run-right : (ps : List Program) (m : Machine) (how : RunEnd) (steps : List Step) (es : List TimedEntry) → InstallPrograms ps steps → IsRunOf m how steps es → AtEachEntry (InstallsProgram ps) m (first_state m) es
-run-right ps m how steps es install run =
-    subst (λ (all : List TimedEntry). AtEachEntry (InstallsProgram ps) m (first_state m) all) (sym run.events_are)
-    (AtEachEntry-append (InstallsProgram ps) m (first_state m) run.front run.last
-    (made-right ps m 0 1 (first_state m) no_pace run.done run.front run.pace (front-install ps run.done run.left (subst (InstallPrograms ps) run.steps_are install)) run.made)
-    (last-right ps m how (length run.front) (suc (length run.done)) (state_after_all m (first_state m) run.front) run.pace run.left run.last run.ends))
+run-right ps m how steps es install run = made-right ps m how run.left 0 1 (first_state m) no_pace run.done es (subst (InstallPrograms ps) run.steps_are install) run.made
 
 node-keeps : (d : Description) (ps : List Program) (how : RunEnd) (steps : List Step) (l : Log) → InstallPrograms ps steps → IsNodeRun (machine_by d ps) how steps l → LogKeepsAll d ps l
 node-keeps d ps how steps l install run =

@@ -10,7 +10,7 @@ pub struct Capsule {
     /// The machine's number.
     pub vm_id: u32,
     pub handler: HandlerId,
-    /// From 1 on. A node takes only newer versions than the one it holds.
+    /// 1 or more. A node takes only versions that are newer than the one it holds.
     pub version: u32,
     /// 1 to 1,040 bytes.
     pub code: Code,

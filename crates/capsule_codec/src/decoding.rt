@@ -13,7 +13,7 @@ use vm_desc::Description;
 /// Why bytes are no capsule of the machine.
 #[derive(Clone, Copy)]
 pub enum CapsuleFault {
-    /// The first four bytes aren't there, or differ.
+    /// There are fewer than four bytes, or the first four aren't `MATE`.
     BadMagic,
     /// The format is neither 1 nor 2.
     BadFormat,
@@ -21,8 +21,8 @@ pub enum CapsuleFault {
     OtherVm { id: u32 },
     /// The machine has no such handler.
     BadHandler,
-    /// There are fewer than 16 bytes, or the code's length isn't one of the format, or isn't that of the
-    /// bytes behind the first 16.
+    /// There are fewer than 16 bytes, or the code's length isn't one of the format, or isn't the number of bytes
+    /// after the first 16.
     BadLength,
     /// The version is 0.
     BadVersion,

@@ -12,7 +12,7 @@ use mate_num::{IMAGE_MAX, Image, SHORT_CODE};
 /// The bytes with which every image begins.
 pub(crate) const MAGIC: [u8; 4] = *b"MATE";
 
-/// The length of what stands before the code, in bytes.
+/// The length of what comes before the code, in bytes.
 pub(crate) const HEAD: usize = 16;
 
 /// The capsule's one image: the bytes in which it is stored and sent.
@@ -20,8 +20,9 @@ pub fn encode(capsule: &Capsule) -> Image
     ensures bytes { result.items ≡ capsule_image (capsule_parts capsule.now) }
     ensures fits { IsCapsule (capsule_parts capsule.now) }
 
-    // A machine that it is for decodes it to this capsule.
-    ensures again { (d : Description) → IsOfMachine d (capsule_parts capsule.now) → capsule_in d result.items ≡ Ok (capsule_parts capsule.now) }
+    // A machine that the capsule is for decodes the image to this capsule.
+    ensures again { (d : Description) → IsOfMachine d (capsule_parts capsule.now)
+        → capsule_in d result.items ≡ Ok (capsule_parts capsule.now) }
 {
     let size = capsule.code.len();
     let format = if size <= SHORT_CODE { 1 } else { 2 };
@@ -35,7 +36,7 @@ pub fn encode(capsule: &Capsule) -> Image
     image
 }
 
-// Appends the bytes, for which there is room.
+// Appends the bytes; there must be room for them.
 fn put(image: &mut Image, bytes: &[u8])
     requires { length image.old.items + length bytes.now ≤ IMAGE_MAX }
     ensures appended { image.new.items ≡ image.old.items ++ bytes.now }

@@ -18,9 +18,9 @@ pub fn count(image: &Image) -> u8
     image.len().div_ceil(piece_len(image)) as u8
 }
 
-/// The piece of the image at `index`, from 0. None exactly from `count` on.
+/// The piece of the image at `index`, from 0; None exactly if `index` is `count` or more.
 ///
-/// A piece has 24 bytes where the image has at most `SHORT_IMAGE`, and else 48. The last one is the rest.
+/// A piece has 24 bytes if the image has at most `SHORT_IMAGE` bytes, else 48. The last one is the rest.
 pub fn fragment(image: &Image, index: u8) -> Option<Piece>
     ensures { SomeIff result (index < count_of image.now.items) (record { items = piece_at image.now.items index }) }
 {

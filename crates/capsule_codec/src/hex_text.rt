@@ -18,7 +18,7 @@ pub enum HexFault {
     TooLong,
 }
 
-/// The image's bytes in hexadecimal digits, two for each, in lower case.
+/// The image's bytes in hexadecimal digits, two for each, in lower case. `NoMemory` is the only refusal.
 pub fn to_hex(alloc: Global, image: &Image) -> Result<String, NoMemory>
     ensures digits { IfOk result (λ text. string_bytes text ≡ encode_lower image.now.items) }
 
@@ -57,7 +57,7 @@ pub fn from_hex(text: &[u8]) -> Result<Image, HexFault>
     Ok(image)
 }
 
-/// Writes the bytes that the digits spell, two digits for each.
+/// Writes the bytes that the digits spell, two digits for each. There must be twice as many digits as bytes.
 pub fn read_digits(digits: &[u8], bytes: &mut [u8])
     requires hex { IsTrue (is_hex digits.now) }
     requires room { length digits.now ≡ 2 * length bytes.old }

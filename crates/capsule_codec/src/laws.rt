@@ -9,16 +9,16 @@ ghost use Rattle.capsule_codec.specs.Image.{CapsuleParts, capsule_image, IsCapsu
 ghost use Rattle.capsule_codec.specs.Reading.{capsule_in};
 ghost use Rattle.capsule_codec.specs.Fragments.{piece_len, pieces_of, AreCut};
 
-/// A machine reads the image of one of its capsules as that capsule; and bytes that it reads as a
-/// capsule are this capsule's one image.
+/// A machine reads the image of one of its capsules as that capsule; and bytes that it reads as a capsule are this
+/// capsule's one image.
 pub fn one_image()
     ensures again { (d : Description) (c : CapsuleParts) → IsCapsule c → IsOfMachine d c → capsule_in d (capsule_image c) ≡ Ok c }
     ensures only { (d : Description) (bytes : List ℕ) (c : CapsuleParts) → IsBytes bytes → capsule_in d bytes ≡ Ok c
         → (bytes ≡ capsule_image c) × IsCapsule c × IsOfMachine d c }
 {}
 
-/// The pieces of an image, put together in order, are the image. So a list of pieces is one image's at
-/// most; and a list of pieces of right lengths is that of the image that they make.
+/// The pieces of an image, put together in order, are the image. So a list of pieces belongs to one image at most;
+/// and a list of pieces of the right lengths belongs to the image that they make.
 pub fn pieces_make_the_image()
     ensures whole { (image : List ℕ) → concat (pieces_of image) ≡ image }
     ensures cut { (image : List ℕ) → AreCut (piece_len (length image)) (pieces_of image) }

@@ -1,4 +1,4 @@
--- What a node answers, by its states, is what looking back tells.
+-- What a node answers, computed from its states, is what looking back over the happenings gives.
 use Rattle.std.proofs.Common.{add-one, ◌≡◌, ℕ, zero, suc, ◌+◌, ◌-◌, ◌*◌, ◌/◌, ◌%◌, ◌^◌, ◌<◌, ◌≤◌, Bool, true, false, cond, ltb, ◌↔◌, List, [], ◌∷◌, length, map, set, get_or, take, Option, Some, None, refl, sym, ap, ◌∙◌, subst, arith, inl, inr}
 use Rattle.std.specs.Prelude.{IfSome, IsTrue, All, is_some, is_none}
 use Rattle.std.specs.List.{filter, find, list_any, list_all, flat_map, range_with_len}

@@ -1,4 +1,4 @@
--- A complete image is made of fragments that were heard, and the mask of a request has the bits of the empty places.
+-- A complete image is made of fragments that were received, and the mask of a request has the bits of the empty places.
 use Rattle.std.proofs.Common.{add-one, ◌≡◌, ℕ, zero, suc, ◌+◌, ◌-◌, ◌*◌, ◌^◌, ◌<◌, ◌≤◌, Bool, true, false, cond, eqb, ◌&&◌, ◌↔◌, List, [], ◌∷◌, ◌++◌, length, map, get_or, Option, Some, None, refl, sym, ap, ◌∙◌, subst, arith, inl, inr}
 use Rattle.std.specs.Prelude.{All, Contains, IsTrue, is_some, is_none}
 use Rattle.std.specs.Bool.{beq}

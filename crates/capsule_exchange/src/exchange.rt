@@ -20,12 +20,12 @@ use packet_codec::Packet;
 use std::alloc::Global;
 use std::marker::Model;
 
-/// What a node does about a packet that it heard.
+/// What a packet that a node received calls for.
 #[derive(PartialEq, Eq, Debug, Drop)]
 pub struct Heard {
     /// Whether a Vector has exactly the versions that the node holds; None for other packets.
     pub consistent: Option<bool>,
-    /// The handler of a fragment with which the fragments of its target became complete.
+    /// The handler of a fragment that completed the fragments of its target.
     pub complete: Option<HandlerId>,
 }
 
@@ -42,9 +42,9 @@ impl Heard {
     }
 }
 
-/// The capsules that a node holds, what it collects of newer ones, and the fragments that it owes.
+/// The capsules that a node holds, what it collects of newer ones, and the fragments that it has yet to send.
 ///
-/// Contracts speak of the happenings that led here: they see what the node knows after them.
+/// Contracts speak of all that happened so far: they see what the node knows after it.
 #[derive(Drop)]
 pub struct Exchange {
     handlers: Vec<HandlerState>,
@@ -64,7 +64,7 @@ impl Model for Exchange {
 }
 
 impl Exchange {
-    /// Nothing is held, collected or owed of so many handlers. No other call takes memory.
+    /// Nothing is held, collected or to be sent for any of the handlers. No other call takes memory.
     pub fn new(alloc: Global, handlers: u8) -> Result<Exchange, NoMemory>
         requires low { 1 ≤ handlers }
         requires high { handlers ≤ 8 }
@@ -98,10 +98,10 @@ impl Exchange {
         self.handlers[usize::from(handler.0)].held
     }
 
-    /// A packet was heard. A Vector or a fragment tells of a version, which becomes the target where it is over
-    /// the held one and the target; a fragment of the target is collected; a Status marks the fragments that it
-    /// asks for of the held version. `asks` gets the packets that the node sends at once: one Status for each handler
-    /// of which a Vector has a greater version than the held one.
+    /// A packet was received. A Vector or a fragment names a version, which becomes the target if it is over the held
+    /// one and the target; a fragment of the target is collected; a Status marks the fragments that it asks for of
+    /// the held version. `asks` gets the packets that the node sends at once: one Status for each handler of which a
+    /// Vector has a greater version than the held one.
     pub fn hear(&mut self, packet: &Packet, asks: &mut ArrayVec<Packet, 8>) -> Heard
         requires right { IsRightPacket (length self.old.handlers) packet.now }
         requires empty { asks.old.items ≡ [] }
@@ -111,7 +111,7 @@ impl Exchange {
         ensures asks { Whatever self.old (λ n before. asks.new.items ≡ asks_after n packet.now before) }
         ensures complete { Whatever self.old (λ n before. result.complete ≡ completed_by packet.now before) }
 
-        // What is asked for is right, unless an image that is complete was not installed.
+        // What is asked for is right, unless a complete image was not installed.
         ensures right { Whatever self.old (λ n before. IsOpen n before → All (IsRightPacket n) asks.new.items) }
     {
         match packet {
@@ -145,7 +145,7 @@ impl Exchange {
         }
     }
 
-    // The versions of a Vector were heard of: whether they are those that are held, and what is asked for.
+    // A Vector was received: whether its versions are those that are held, and what is asked for.
     fn hear_vector(&mut self, versions: &ArrayVec<u32, 8>, asks: &mut ArrayVec<Packet, 8>) -> bool
         requires same_len { length versions.now.items ≡ length self.old.handlers }
         requires empty { asks.old.items ≡ [] }
@@ -154,7 +154,7 @@ impl Exchange {
         ensures asks { asks.new.items ≡ asks_upto versions.now.items self.new.handlers (length self.new.handlers) }
         ensures sound { AreSound self.new.handlers }
     {
-        // Of versions that are held nothing is new.
+        // If the versions are those that are held, nothing is new.
         if versions.as_slice() == self.summary.held.as_slice() {
             return true;
         }
@@ -164,7 +164,7 @@ impl Exchange {
         false
     }
 
-    // A Status of the handler was heard.
+    // A Status of the handler was received.
     fn hear_status(&mut self, handler: HandlerId, version: u32, missing: u32)
         requires { handler.0 < length self.old.handlers }
         ensures { self.new ≡ with_state self.old handler.0 (hears_status version missing (state_at self.old.handlers handler.0)) }
@@ -174,7 +174,7 @@ impl Exchange {
         self.summary = Summary::of(self.handlers.as_slice());
     }
 
-    // A fragment of the handler was heard: the handler, where its fragments became complete.
+    // A fragment of the handler was received: the handler, if its fragments became complete.
     fn hear_fragment(
         &mut self,
         handler: HandlerId,
@@ -186,7 +186,8 @@ impl Exchange {
         requires handler { handler.0 < length self.old.handlers }
         requires index { index < 22 }
         requires count { form.count ≤ 22 }
-        ensures state { self.new ≡ with_state self.old handler.0 (hears_fragment version index form bytes.now (state_at self.old.handlers handler.0)) }
+        ensures state { self.new ≡ with_state self.old handler.0
+            (hears_fragment version index form bytes.now (state_at self.old.handlers handler.0)) }
         ensures complete { result ≡ completes_in handler (state_at self.old.handlers handler.0) (state_at self.new.handlers handler.0) }
         ensures sound_before { AreSound self.old.handlers }
         ensures sound { AreSound self.new.handlers }
@@ -209,15 +210,15 @@ impl Exchange {
         }
     }
 
-    /// Whether a fragment is owed.
+    /// Whether a fragment is marked, that is, to be sent.
     pub fn marked(&self) -> bool
         ensures { Whatever self.now (λ n hs. result ≡ list_any (is_marked_slot hs) (slots_from n 0)) }
     {
         self.summary.owes
     }
 
-    /// Sends the fragment that is owed and comes next, in the order of the slots: the first after the last one
-    /// sent, and behind all the first of all. None comes exactly where nothing is marked.
+    /// Sends the marked fragment that comes next, in the order of the slots: the first after the last one sent, and
+    /// after the last slot the first of all. None comes exactly if nothing is marked.
     pub fn pump(&mut self) -> Option<Packet>
         ensures learned { Whatever self.old (λ n before. self.new ≡ knowledge n (with_sent (next_slot n before) before)) }
         ensures packet { Whatever self.old (λ n before. result ≡ option_map (fragment_for before) (next_slot n before)) }
@@ -233,7 +234,8 @@ impl Exchange {
     fn send(&mut self, slot: usize) -> Packet
         requires within { slot < 22 * length self.old.handlers }
         requires marked { IsTrue (is_marked_in self.old.handlers slot) }
-        ensures state { self.new ≡ record (with_state self.old (slot / 22) (after_sending (slot % 22) (state_at self.old.handlers (slot / 22)))) { last = Some slot } }
+        ensures state { self.new ≡ record (with_state self.old (slot / 22)
+            (after_sending (slot % 22) (state_at self.old.handlers (slot / 22)))) { last = Some slot } }
         ensures packet { result ≡ fragment_in self.old.handlers slot }
         ensures right { IsRightPacket (length self.old.handlers) result }
     {
@@ -247,7 +249,7 @@ impl Exchange {
         packet
     }
 
-    /// The image of the handler's target; None exactly where there is no target, or a fragment of it is missing.
+    /// The image of the handler's target; None exactly if there is no target, or a fragment of it is missing.
     pub fn complete(&self, handler: HandlerId) -> Option<Image>
         requires { handler.0 < length self.now.handlers }
         ensures { Whatever self.now (λ n hs. result ≡ collected_image handler.0 hs) }
@@ -255,7 +257,7 @@ impl Exchange {
         self.handlers[usize::from(handler.0)].collected()
     }
 
-    /// The image was installed: what was collected and owed of the handler is dropped.
+    /// The image was installed: what was collected and marked of the handler is dropped.
     pub fn installed(&mut self, handler: HandlerId, version: u32, image: &Image)
         requires handler { handler.0 < length self.old.handlers }
         requires newer { held_of self.old handler < version }
@@ -268,7 +270,7 @@ impl Exchange {
         self.summary = Summary::of(self.handlers.as_slice());
     }
 
-    /// What is collected and owed is dropped.
+    /// What is collected and marked is dropped.
     pub fn forget(&mut self)
         ensures learned { Learns self.old Forgets self.new }
         ensures handlers { length self.new.handlers ≡ length self.old.handlers }

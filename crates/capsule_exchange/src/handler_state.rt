@@ -1,4 +1,4 @@
-//! What a node holds of one handler, what it collects of a newer version, and which fragments it owes.
+//! What a node holds of one handler, what it collects of a newer version, and which fragments it has yet to send.
 
 ghost use Rattle.std.specs.Prelude.{◌≡◌, ℕ, ◌<◌, ◌≤◌, length, IfSome};
 ghost use Rattle.packet_codec.specs.Packet.{IsRightPacket};
@@ -16,6 +16,7 @@ use packet_codec::Packet;
 pub struct Form {
     /// From 1 to 22.
     pub count: u8,
+    /// Whether the pieces have up to 48 bytes, and not 24.
     pub large: bool,
 }
 
@@ -28,7 +29,7 @@ pub struct HandlerState {
     pub(crate) image: Image,
     /// The newer version that is collected, 0 for none.
     pub(crate) target: u32,
-    /// Of the target's fragments, once one was heard.
+    /// The form of the target's fragments, once one was received.
     pub(crate) form: Option<Form>,
     /// The pieces of the target that are collected.
     pub(crate) pieces: [Option<Piece>; 22],
@@ -52,7 +53,7 @@ impl Default for HandlerState {
 }
 
 impl HandlerState {
-    /// The version becomes the target where it is over the held one and the target.
+    /// The version becomes the target if it is over the held one and the target.
     pub(crate) fn aim(&mut self, version: u32)
         ensures { self.new ≡ aimed version self.old }
     {
@@ -63,7 +64,7 @@ impl HandlerState {
         }
     }
 
-    /// A fragment of this version was heard.
+    /// A fragment of this version was received.
     pub(crate) fn hear_fragment(&mut self, version: u32, index: u8, form: Form, bytes: &Piece)
         requires { index < 22 }
         ensures { self.new ≡ hears_fragment version index form bytes.now self.old }
@@ -74,7 +75,7 @@ impl HandlerState {
         }
     }
 
-    // Keeps a fragment of the target where it goes with the first one and none of its index is kept.
+    // Keeps a fragment of the target if it goes with the first one and none of its index is kept.
     fn keep(&mut self, index: u8, form: Form, bytes: &Piece)
         requires { index < 22 }
         ensures { self.new ≡ kept index form bytes.now self.old }
@@ -96,7 +97,7 @@ impl HandlerState {
         }
     }
 
-    /// The fragments of this version that a bit of `missing` names were asked for.
+    /// A Status asked for the fragments of this version that the bits of `missing` name.
     pub(crate) fn hear_status(&mut self, version: u32, missing: u32)
         ensures { self.new ≡ hears_status version missing self.old }
     {
@@ -136,7 +137,7 @@ impl HandlerState {
         self.marks = no_marks();
     }
 
-    // The places of the target's pieces, by index: all where no fragment was heard.
+    // The places of the target's pieces, by index: as many as it has fragments, or all 22 if no fragment was received.
     fn places(&self) -> &[Option<Piece>]
         requires { IfSome self.now.form (λ form. form.count ≤ 22) }
         ensures value { result.now ≡ places_in self.now }
@@ -148,7 +149,7 @@ impl HandlerState {
         }
     }
 
-    /// The target's image; None exactly where there is no target, or a fragment of it is missing.
+    /// The target's image; None exactly if there is no target, or a fragment of it is missing.
     pub(crate) fn collected(&self) -> Option<Image>
         requires { IfSome self.now.form (λ form. form.count ≤ 22) }
         ensures { result ≡ image_held self.now }
@@ -156,7 +157,7 @@ impl HandlerState {
         joined(self.places())
     }
 
-    /// The target, where all its fragments are collected, and else 0.
+    /// The target if all its fragments are collected, else 0.
     pub(crate) fn complete_version(&self) -> u32
         requires { IfSome self.now.form (λ form. form.count ≤ 22) }
         ensures { result ≡ complete_in self.now }

@@ -23,7 +23,7 @@ pub(crate) fn held_versions(states: &[HandlerState]) -> ArrayVec<u32, 8>
     versions
 }
 
-/// Each handler's version was heard of.
+/// Each handler's version was named by a Vector.
 pub(crate) fn aim_each(states: &mut [HandlerState], versions: &[u32])
     requires { length versions.now ≡ length states.old }
     ensures { states.new ≡ aimed_each versions.now states.old }
@@ -33,7 +33,7 @@ pub(crate) fn aim_each(states: &mut [HandlerState], versions: &[u32])
     }
 }
 
-/// Requests the versions of which more than what is held was heard.
+/// Requests the versions that are greater than what is held.
 pub(crate) fn ask_each(states: &[HandlerState], versions: &[u32], asks: &mut ArrayVec<Packet, 8>)
     requires same_len { length versions.now ≡ length states.now }
     requires few { length states.now ≤ 8 }
@@ -49,7 +49,7 @@ pub(crate) fn ask_each(states: &[HandlerState], versions: &[u32], asks: &mut Arr
     }
 }
 
-/// What is collected and owed of each handler is forgotten.
+/// What is collected and marked of each handler is dropped.
 pub(crate) fn forget_each(states: &mut [HandlerState])
     ensures { states.new ≡ map forgets states.old }
 {
@@ -58,8 +58,8 @@ pub(crate) fn forget_each(states: &mut [HandlerState])
     }
 }
 
-/// The slot that is sent next: the first marked one after `last`, and else the first of all. None comes exactly
-/// where nothing is marked.
+/// The slot that is sent next: the first marked one after `last`, or else the first of all. None comes exactly if
+/// nothing is marked.
 pub(crate) fn next_slot(states: &[HandlerState], last: Option<u8>) -> Option<usize>
     requires { length states.now ≤ 8 }
     ensures value { result ≡ next_in states.now last }
@@ -71,7 +71,7 @@ pub(crate) fn next_slot(states: &[HandlerState], last: Option<u8>) -> Option<usi
     }
 }
 
-// Where the pump goes on.
+// The slot at which the pump goes on.
 fn place_after(last: Option<u8>) -> usize
     ensures { result ≡ next_place last }
 {
@@ -81,7 +81,7 @@ fn place_after(last: Option<u8>) -> usize
     }
 }
 
-/// The first marked slot from there on.
+/// The first marked slot from `first` on.
 pub(crate) fn first_marked(states: &[HandlerState], first: usize) -> Option<usize>
     requires { length states.now ≤ 8 }
     ensures value { result ≡ find (is_marked_in states.now) (slots_from (length states.now) first) }

@@ -9,7 +9,7 @@ ghost use Rattle.capsule_exchange.specs.Happenings.{gaps, mask_of, whole, piece_
 use capsule_codec::Piece;
 use mate_num::Image;
 
-/// The same bytes again.
+/// A copy of the bytes.
 pub(crate) fn copy_of(piece: &Piece) -> Piece
     ensures { result ≡ piece.now }
 {
@@ -33,7 +33,7 @@ pub(crate) fn no_marks() -> [bool; 22]
     [false; 22]
 }
 
-/// Bit i for each index i at which no piece is there.
+/// Bit i for each index i with no piece.
 pub(crate) fn missing_mask(places: &[Option<Piece>]) -> u32
     requires { length places.now ≤ 22 }
     ensures { result ≡ mask_of (gaps places.now) }
@@ -47,7 +47,7 @@ pub(crate) fn missing_mask(places: &[Option<Piece>]) -> u32
     mask
 }
 
-/// The pieces put together; None exactly where one is missing.
+/// The pieces put together; None exactly if one is missing.
 pub(crate) fn joined(places: &[Option<Piece>]) -> Option<Image>
     requires { length places.now ≤ 22 }
     ensures { result ≡ whole places.now }
@@ -66,7 +66,7 @@ pub(crate) fn is_whole(places: &[Option<Piece>]) -> bool
     places.iter().all(|place| place.is_some())
 }
 
-// The bytes of the pieces that are there, in order.
+// The bytes of the pieces, in order.
 fn bytes_in(places: &[Option<Piece>]) -> Image
     requires { length places.now ≤ 22 }
     ensures { result.items ≡ flat_map piece_bytes places.now }
@@ -78,7 +78,7 @@ fn bytes_in(places: &[Option<Piece>]) -> Image
     image
 }
 
-// Appends the bytes of the piece that is there, for which there is room.
+// Appends the bytes of the piece, if there is one; there must be room for them.
 fn append(image: &mut Image, place: &Option<Piece>)
     requires { length image.old.items + 48 ≤ IMAGE_MAX }
     ensures bytes { image.new.items ≡ image.old.items ++ piece_bytes place.now }

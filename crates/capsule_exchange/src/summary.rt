@@ -1,4 +1,4 @@
-//! What a node asks of all its handlers at each event, kept beside their states.
+//! What a node asks of all its handlers at each event, kept together with their states.
 
 ghost use Rattle.std.specs.Prelude.{◌≤◌, length};
 ghost use Rattle.capsule_exchange.specs.Summary.{IsSummaryOf};
@@ -12,7 +12,7 @@ use arrayvec::ArrayVec;
 pub struct Summary {
     /// The versions that are held.
     pub(crate) held: ArrayVec<u32, 8>,
-    /// Whether a fragment is owed.
+    /// Whether a fragment is marked.
     pub(crate) owes: bool,
 }
 

@@ -12,7 +12,7 @@ ghost use Rattle.capsule_feed.specs.Lines.{HasHandler};
 
 use crate::answer::Answer;
 use capsule_codec::{Capsule, decode};
-use code_verifier::verify;
+use code_verifier::Verifier;
 use mate_code::Table;
 use mate_num::HANDLERS_MAX;
 use slip_gateway::FrameFault;
@@ -37,11 +37,12 @@ impl HeldVersions {
     }
 
     /// The answer to a frame of these bytes, or to one that isn't whole, by the machine and its opcode table; a capsule that
-    /// it installs is held from then on.
+    /// it installs is held from then on. `verifier` is room for its code.
     pub(crate) fn answer(
         &mut self,
         desc: &Description,
         table: &Table,
+        verifier: &mut Verifier,
         frame: Result<&[u8], FrameFault>,
     ) -> Answer
         requires { table.now ≡ table_of (shape_of desc.now) }
@@ -51,7 +52,7 @@ impl HeldVersions {
         ensures handler { HasHandler desc.now result }
     {
         match frame {
-            Ok(image) => self.answer_image(desc, table, image),
+            Ok(image) => self.answer_image(desc, table, verifier, image),
             Err(FrameFault::TooLong) => Answer::Long,
             Err(FrameFault::BadEscape) => Answer::Broken,
         }
@@ -59,7 +60,13 @@ impl HeldVersions {
 
     /// The answer to the bytes of a frame.
     #[inline(never)]
-    fn answer_image(&mut self, desc: &Description, table: &Table, image: &[u8]) -> Answer
+    fn answer_image(
+        &mut self,
+        desc: &Description,
+        table: &Table,
+        verifier: &mut Verifier,
+        image: &[u8],
+    ) -> Answer
         requires { table.now ≡ table_of (shape_of desc.now) }
         ensures answer { result ≡ decoded_answer desc.now (held_by self.old) (capsule_in desc.now image.now) }
         ensures held { (h : ℕ) → held_by self.new h ≡ held_after (held_by self.old) result h }
@@ -70,8 +77,8 @@ impl HeldVersions {
             Ok(capsule) => capsule,
             Err(fault) => return Answer::NoCapsule(*fault),
         };
-        match verify(table, desc, capsule.code.as_slice()) {
-            Ok(_code) => self.take(capsule),
+        match verifier.check(table, desc, capsule.code.as_slice()) {
+            Ok(()) => self.take(capsule),
             Err(fault) => Answer::BadCode(fault),
         }
     }

@@ -12,6 +12,7 @@ ghost use Rattle.capsule_feed.specs.Reading.{held_by, PrintsPiece};
 
 use crate::answer::Answer;
 use crate::held_versions::HeldVersions;
+use code_verifier::Verifier;
 use mate_code::Table;
 use mate_files::{Pen, Sink, SinkFault};
 use slip_gateway::{Slip, first_piece, has_escape, plain_frame};
@@ -25,6 +26,8 @@ struct StreamAnswers {
     number: u64,
     // Where the escapes of a frame are replaced.
     slip: Slip,
+    // Where the code of a capsule is verified.
+    verifier: Verifier,
 }
 
 impl StreamAnswers {
@@ -37,6 +40,7 @@ impl StreamAnswers {
             held: HeldVersions::new(),
             number: 0,
             slip: Slip::new(),
+            verifier: Verifier::new(),
         }
     }
 
@@ -50,9 +54,12 @@ impl StreamAnswers {
     {
         if has_escape(piece) {
             self.slip.read_piece(piece);
-            return self.held.answer(desc, table, self.slip.frame());
+            return self
+                .held
+                .answer(desc, table, &mut self.verifier, self.slip.frame());
         }
-        self.held.answer(desc, table, plain_frame(piece))
+        self.held
+            .answer(desc, table, &mut self.verifier, plain_frame(piece))
     }
 
     /// Prints the line of the frame that a piece gives, by the machine's opcode table; an empty one gives none.

@@ -1,4 +1,4 @@
--- What a pen prints that passes a text on at once, where nothing failed before.
+-- What a pen prints that passes a text on at once, if nothing failed before.
 use Rattle.std.proofs.Common.{◌≡◌, ℕ, true, false, List, Option, Result, Ok, Err, refl}
 use Rattle.std.specs.Result.{is_ok}
 use Rattle.mate_files.specs.Pen.{Prints}

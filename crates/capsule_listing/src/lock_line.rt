@@ -30,8 +30,8 @@ impl Group {
     }
 }
 
-/// Prints `locks` and the names of what the set holds, each behind a space, in the order of the description; `:r`
-/// follows directly on a name that is only read.
+/// Prints `locks` and the names of what the set holds, each after a space, in the order of the description; `:r`
+/// comes directly after a name that is only read.
 pub fn print_lock_line<S: Sink>(pen: &mut Pen, out: &mut S, desc: &Description, set: &LockSet)
     ensures { Prints (S.written out.old) (S.faults out.old) pen.old.result
         (S.written out.new) (S.faults out.new) pen.new.result (lock_line desc.now (lock_uses set.now)) }
@@ -54,7 +54,7 @@ fn print_group<S: Sink>(pen: &mut Pen, out: &mut S, set: &LockSet, group: Group,
     }
 }
 
-// Prints the resource's name where the set holds it.
+// Prints the resource's name if the set holds it.
 fn print_mention<S: Sink>(
     pen: &mut Pen,
     out: &mut S,

@@ -23,7 +23,7 @@ use vm_desc::Description;
 /// line for each instruction of `code`, which is the capsule's code; and `locks`, with the names of the shared
 /// variables, buffers and devices that the code reads or writes, `:r` directly after a name that is only read.
 ///
-/// Where `out` fails, a prefix was written.
+/// If `out` fails, a prefix was written.
 pub fn print_capsule<S: Sink>(
     desc: &Description,
     capsule: &Capsule,

@@ -14,7 +14,7 @@ pub struct Setting {
 }
 
 impl Setting {
-    /// With no file, and nothing written.
+    /// No file, and nothing written.
     pub fn new(alloc: Global) -> Setting {
         Setting {
             files: MemFiles::new(alloc),
@@ -49,7 +49,7 @@ pub fn run(alloc: Global, setting: &mut Setting, words: &str) -> Result<Ended, A
     })
 }
 
-/// Of a case that can't be read, or whose answer is no text.
+/// The answer for a case that can't be read, or whose output is no text.
 pub fn unread(alloc: Global) -> Result<Ended, AllocError> {
     Ok(Ended {
         status: 255,

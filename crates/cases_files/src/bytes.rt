@@ -3,8 +3,8 @@
 use capsule_codec::from_hex;
 use std::alloc::{AllocError, Global};
 
-/// The bytes that hexadecimal digits spell, or None where they spell none. `+` stands between parts, and `COUNT*DIGITS`
-/// is a part so many times.
+/// The bytes that hexadecimal digits spell, or None if they spell none. `+` is between parts, and `COUNT*DIGITS` is a
+/// part, COUNT times.
 pub fn bytes_of(alloc: Global, text: &str) -> Result<Option<Vec<u8>>, AllocError> {
     let mut bytes = Vec::new(alloc);
     for part in text.split('+') {

@@ -1,4 +1,4 @@
-//! Files of cases, a line a case, and what a program prints of them: each line with its answer.
+//! Files of cases, one case on each line, and what a program prints of them: each line with its answer.
 #![tactic(auto)]
 
 mod bytes;

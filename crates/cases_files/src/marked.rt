@@ -1,8 +1,8 @@
-//! The bytes that a text with marks stands for.
+//! The bytes that a text with marks spells.
 
 use std::alloc::{AllocError, Global};
 
-/// The bytes of a text in which `⏎` stands for the end of a line, `⟨3×ab⟩` for `ababab`, and `⟨255⟩` for that byte.
+/// The bytes of a text in which `⏎` is the end of a line, `⟨3×ab⟩` is `ababab`, and `⟨255⟩` is that byte.
 pub fn marked_bytes(alloc: Global, text: &str) -> Result<Vec<u8>, AllocError> {
     let text = text.replace(alloc, "⏎", "\n")?;
     let mut bytes = Vec::new(alloc);
@@ -14,7 +14,7 @@ pub fn marked_bytes(alloc: Global, text: &str) -> Result<Vec<u8>, AllocError> {
     Ok(bytes)
 }
 
-/// Appends what stands between `⟨` and `⟩`.
+/// Appends what is between `⟨` and `⟩`.
 fn extend(bytes: &mut Vec<u8>, marked: &str) -> Result<(), AllocError> {
     match marked.split_once("×") {
         Some((count, part)) => {

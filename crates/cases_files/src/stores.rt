@@ -7,7 +7,7 @@ ghost use Rattle.mate_num.specs.declared.bounds.TheConstants.{BUFFERS_MAX, SHARE
 use arrayvec::ArrayVec;
 use mate_num::{BUFFERS_MAX, Payload, Store};
 
-/// A store of so many shared variables, each 0, and so many buffers, each empty.
+/// A store of `shared` shared variables, each 0, and `buffers` buffers, each empty.
 pub fn zero_store(shared: u8, buffers: u8) -> Store
     requires shared { shared ≤ SHARED_MAX }
     requires buffers { buffers ≤ BUFFERS_MAX }

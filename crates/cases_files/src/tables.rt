@@ -6,8 +6,8 @@ use std::{fs, io};
 use vm_desc::{Description, builtin};
 use vm_reader::read;
 
-/// Prints a table: its name behind `==`, and each line of the file of this name with its answer behind ` => `. A line has
-/// the name of a machine, a space, and the case; a case that can't be read has an answer of its own.
+/// Prints a table: its name after `==`, and each line of the file of this name with its answer after ` => `. A line
+/// has the name of a machine, a space, and the case; a case that can't be read has an answer of its own.
 pub fn print_table<F: Fn(Global, &str, &Description, &str) -> Result<String, AllocError>>(
     rt: &(impl Files + Print + AllocGlobal),
     table: &str,
@@ -28,7 +28,7 @@ pub fn print_table<F: Fn(Global, &str, &Description, &str) -> Result<String, All
     Ok(())
 }
 
-/// Prints a table whose cases have no name of a machine: its name behind `==`, and each line with its answer behind ` => `.
+/// Prints a table whose cases have no name of a machine: its name after `==`, and each line with its answer after ` => `.
 pub fn print_cases<F: Fn(Global, &str, &str) -> Result<String, AllocError>>(
     rt: &(impl Files + Print + AllocGlobal),
     table: &str,
@@ -45,7 +45,7 @@ pub fn print_cases<F: Fn(Global, &str, &str) -> Result<String, AllocError>>(
     Ok(())
 }
 
-/// The built-in machine, or the one that the file of this name describes; None where that is refused.
+/// The built-in machine, or the one that the file of this name describes; None if that is refused.
 pub fn description(rt: &(impl Files + AllocGlobal), name: &str) -> io::Result<Option<Description>> {
     if name == "builtin" {
         return Ok(Some(builtin()));

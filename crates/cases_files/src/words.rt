@@ -57,7 +57,7 @@ fn function_words(alloc: Global, function: &FunShape) -> Result<String, AllocErr
     format!(in alloc; "FunShape {{ args: {args}, send: {send}, device: {device} }}")
 }
 
-/// The device that a function speaks to, if to any.
+/// The device that a function uses, if any.
 pub fn device_words(alloc: Global, device: Option<DeviceId>) -> Result<String, AllocError> {
     match device {
         Some(device) => format!(in alloc; "Some(DeviceId({}))", device.0),

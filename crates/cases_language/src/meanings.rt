@@ -4,8 +4,8 @@ use crate::sources::accepted;
 use cases_files::{fault_word, zero_store};
 use mate_num::{End, Payload};
 use std::alloc::{AllocError, Global};
+use ts_checked::Checked;
 use ts_play::play;
-use ts_syntax::Checked;
 use vm_desc::Description;
 
 /// What the message holds.

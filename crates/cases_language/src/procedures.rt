@@ -19,7 +19,7 @@ pub fn answer(alloc: Global, case: &str) -> Result<String, AllocError> {
     }
 }
 
-/// The script of at most 1,048,576 bytes; of longer ones, that the byte there is wrong.
+/// The script, if the source has at most 1,048,576 bytes; for longer ones, that the byte after these is wrong.
 fn script(alloc: Global, bytes: &[u8]) -> Result<ProcScript, SourceFault> {
     if bytes.len() > FILE_MAX {
         return Err(SourceFault::BadByte {

@@ -4,12 +4,12 @@ use crate::sources::accepted;
 use cases_files::{call_words, end_words, store_words, zero_store};
 use mate_num::{Call, Outcome, Payload};
 use std::alloc::{AllocError, Global};
+use ts_checked::Checked;
 use ts_play::play;
-use ts_syntax::Checked;
 use vm_desc::{Description, shape};
 
 /// How the run of a case `TURNS | MESSAGE | ANSWERS | SOURCE` ends, the store that it leaves, and the calls that were
-/// answered. Numbers stand with a space between two, and `-` is none.
+/// answered. Numbers have a space between two, and `-` is none.
 pub fn answer(alloc: Global, machine: &Description, case: &str) -> Result<String, AllocError> {
     let (turns, rest) = case.split_once(" | ").unwrap_or((case, ""));
     let (msg, rest) = rest.split_once(" | ").unwrap_or((rest, ""));

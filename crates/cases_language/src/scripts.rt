@@ -19,7 +19,7 @@ pub fn answer(alloc: Global, case: &str) -> Result<String, AllocError> {
     }
 }
 
-/// The script of at most 1,048,576 bytes; of longer ones, that the byte there is wrong.
+/// The script, if the source has at most 1,048,576 bytes; for longer ones, that the byte after these is wrong.
 fn script(alloc: Global, bytes: &[u8]) -> Result<Script, SourceFault> {
     if bytes.len() > FILE_MAX {
         return Err(SourceFault::BadByte {
@@ -30,8 +30,8 @@ fn script(alloc: Global, bytes: &[u8]) -> Result<Script, SourceFault> {
     parse(alloc, &tokens, bytes.len() as u32)
 }
 
-/// What a sink has of a case `CALL | SOURCE` once the source is printed into it, and how that ended. Its call of that
-/// number fails; none does at 0.
+/// What a sink holds of a case `CALL | SOURCE` after the source is printed into it, and how that ended. Its call of
+/// that number fails, or none if it is 0.
 pub fn printed(alloc: Global, case: &str) -> Result<String, AllocError> {
     let Some((call, source)) = case.split_once(" | ") else {
         return "not two parts".to_string(alloc);

@@ -1,11 +1,11 @@
-//! Bodies that are right for one machine, and asked of another.
+//! Bodies that are right for one machine, tested for another.
 
 use crate::sources::accepted;
 use cases_files::marked_bytes;
 use mate_num::{FunId, Shape, VarId};
 use std::alloc::{AllocError, Global};
+use ts_checked::{CArgs, CBlock, CExpr, CForHead, CStmt, CVar};
 use ts_right::is_right;
-use ts_syntax::{CArgs, CBlock, CExpr, CForHead, CStmt, CVar};
 use vm_desc::{Description, shape};
 use vm_reader::read;
 

@@ -5,9 +5,9 @@ use cases_trees::block_text;
 use mate_num::FILE_MAX;
 use mate_steps::{SourceRefusal, accept};
 use std::alloc::{AllocError, Global};
+use ts_checked::Checked;
 use ts_parser::SourceFault;
 use ts_scope::CheckFault;
-use ts_syntax::Checked;
 use vm_desc::Description;
 
 /// The checked tree of a source, or its first refusal.

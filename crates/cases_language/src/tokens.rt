@@ -9,7 +9,7 @@ use ts_syntax::{Token, TokenKind};
 /// Longer lists of tokens aren't printed.
 const PRINTED: usize = 100;
 
-/// The tokens of a text with their places, names quoted; the number of them where they are over 100; or the first fault.
+/// The tokens of a text with their places, names quoted; the number of them if they are over 100; or the first fault.
 pub fn answer(alloc: Global, case: &str) -> Result<String, AllocError> {
     let bytes = marked_bytes(alloc, case)?;
     if bytes.len() > FILE_MAX {

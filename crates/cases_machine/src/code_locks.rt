@@ -1,5 +1,5 @@
 //! The locks of code in hexadecimal digits, by the names of the machine's variables, buffers and devices in their order:
-//! `:r` stands behind one that is only read.
+//! `:r` comes after one that is only read.
 
 ghost use Rattle.std.specs.Prelude.{◌≡◌, IfOk, IsTrue};
 ghost use Rattle.mate_num.specs.Locks.{is_resource};
@@ -41,7 +41,7 @@ fn names_of(alloc: Global, desc: &Description, set: &LockSet) -> Result<String, 
     Ok(line)
 }
 
-/// Appends the resource's name where the set has it.
+/// Appends the resource's name if the set has it.
 fn append(
     line: &mut String,
     set: &LockSet,

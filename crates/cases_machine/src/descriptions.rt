@@ -8,8 +8,8 @@ use vm_desc::{
 };
 use vm_reader::read;
 
-/// The number of instructions that the machine of a case has, or why its text describes none: there are 28,
-/// six more with a buffer, and one a function. Behind the text stands the end of its line.
+/// The number of instructions that the machine of a case has, or why its text describes none: there are 28, six more
+/// with a buffer, and one for each function. After the text comes the end of its line.
 pub fn instructions(alloc: Global, case: &str) -> Result<String, AllocError> {
     let mut bytes = marked_bytes(alloc, case)?;
     bytes.push(b'\n')?;

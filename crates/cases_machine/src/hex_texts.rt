@@ -1,4 +1,4 @@
-//! Hexadecimal texts: the digits of the image that a text spells, or the fault. Before `*` stands how many digits 0 the
+//! Hexadecimal texts: the digits of the image that a text spells, or the fault. Before `*` is how many digits 0 the
 //! text begins with; the signs '|', '^', '%' and '@' are the bytes 10, 13, 9 and 11.
 
 use capsule_codec::{HexFault, from_hex, to_hex};

@@ -1,4 +1,4 @@
-//! The pieces of an image of so many bytes: how many, the length of the last, and whether they make the image.
+//! The pieces of an image of this many bytes: how many, the length of the last, and whether they make the image.
 
 use capsule_codec::{count, fragment};
 use mate_num::Image;
@@ -21,7 +21,7 @@ pub fn answer(alloc: Global, case: &str) -> Result<String, AllocError> {
     format!(in alloc; "{} {last} {} {beyond}", count(&image), joined == image)
 }
 
-/// So many bytes, which count from 0.
+/// An image of `len` bytes, which count from 0.
 fn image_of(len: u16) -> Image {
     let mut image = Image::new();
     for index in 0..len {

@@ -33,7 +33,7 @@ pub fn answer(alloc: Global, desc: &Description, case: &str) -> Result<String, A
     outcome(alloc, &code, Machine::new(turns, msg), answers.as_slice())
 }
 
-/// The values between commas, of which a message has 10 at most; `-` is none.
+/// The values between commas, at most 10; `-` is none.
 fn values_of(text: &str) -> Payload {
     let mut values = Payload::new();
     for word in text.split(',') {
@@ -87,7 +87,7 @@ fn run(code: &Verified, machine: &mut Machine, heap: &mut Heap, answers: &[i16])
     StepEnd::Next
 }
 
-// Steps the machine, and answers the call that it may make. Answers how the run ended.
+// Steps the machine, and answers the call that it may make. Returns how the run ended.
 fn go_on(
     code: &Verified,
     machine: &mut Machine,

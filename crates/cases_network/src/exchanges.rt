@@ -105,7 +105,7 @@ impl Tally {
     }
 }
 
-// The image that is a handler's in a version.
+// The image of a handler in a version.
 fn image_of(handler: u8, version: u32) -> Image {
     let place = version.wrapping_mul(5).wrapping_add(u32::from(handler) * 3) % 7;
     let first = version
@@ -119,7 +119,7 @@ fn image_of(handler: u8, version: u32) -> Image {
     image
 }
 
-// Whether the packet is right for a machine with so many handlers.
+// Whether the packet is right for a machine with `handlers` handlers.
 fn is_right(handlers: usize, packet: &Packet) -> bool
     ensures { IsTrue result → IsRightPacket handlers packet.now }
 {
@@ -156,7 +156,7 @@ fn is_right(handlers: usize, packet: &Packet) -> bool
     }
 }
 
-// The node hears the packet, which is right for it, and asks for what it lacks.
+// The node receives the packet, which is right for it, and asks for what it lacks.
 fn hear(node: &mut Exchange, packet: &Packet, asks: &mut ArrayVec<Packet, 8>) -> Option<Heard>
     requires { asks.old.items ≡ [] }
 {
@@ -210,7 +210,7 @@ impl Air {
         })
     }
 
-    // A new version of a handler comes to a node.
+    // A node gets a new version of a handler.
     fn inject(&mut self, node: usize) -> Option<()>
         requires { node < 2 }
     {
@@ -227,7 +227,7 @@ impl Air {
         install(&mut self.nodes[node], handler, version, &image)
     }
 
-    // Whether a packet that is sent is heard.
+    // Whether a packet that is sent arrives.
     fn carries(&mut self, packet: &Packet) -> bool {
         self.tally.add_packet(packet);
         let heard = self.draws.below(4) != 0;
@@ -237,7 +237,7 @@ impl Air {
         heard
     }
 
-    // A node sends its Vector, and hears what the other one asks for.
+    // A node sends its Vector, and receives what the other one asks for.
     fn tell(&mut self, node: usize) -> Option<()>
         requires { node < 2 }
     {
@@ -254,7 +254,7 @@ impl Air {
         Some(())
     }
 
-    // A node sends a fragment, and the other one installs what becomes complete with it.
+    // A node sends a fragment, and the other one installs the image that it completes.
     fn pump(&mut self, node: usize) -> Option<()>
         requires { node < 2 }
     {
@@ -278,7 +278,7 @@ impl Air {
         }
     }
 
-    // A node installs the image that has become complete.
+    // A node installs the image that it has completed.
     fn complete(&mut self, node: usize, handler: HandlerId, version: u32) -> Option<()>
         requires { node < 2 }
     {
@@ -292,7 +292,7 @@ impl Air {
         Some(())
     }
 
-    // One of the things that happen.
+    // Does one of the things that can happen.
     fn turn(&mut self, number: u32) -> Option<()> {
         let what = self.draws.below(64);
         let node = self.draws.below(2) as usize;

@@ -1,5 +1,5 @@
-//! A stream of bytes in hexadecimal digits, cut into pieces of 1, 2, 3 and 512 bytes: its frames, and whether bytes stand
-//! behind its last end. A frame is its digits, or its length where it has more than 24 bytes.
+//! A stream of bytes in hexadecimal digits, cut into pieces of 1, 2, 3 and 512 bytes: its frames, and whether there
+//! are bytes after its last end. A frame is its digits, or its length if it has more than 24 bytes.
 
 ghost use Rattle.std.specs.Prelude.{◌<◌};
 

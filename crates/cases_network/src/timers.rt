@@ -2,7 +2,7 @@
 //! happens, each with its time: `c` is a consistent packet, `i` an inconsistent one, `r` a reset, `a` another start,
 //! and `e` the end of the interval. `f` is the point with suppression and `F` the point without it. The answers are the
 //! first interval, and for each step the interval that it begins, written `beginning+length@point`, what is done at the
-//! point, or `-`. A step with `COUNT*` before it is taken so many times, and has one answer.
+//! point, or `-`. A step with `COUNT*` before it is taken COUNT times, and has one answer.
 
 ghost use Rattle.std.specs.Prelude.{◌≤◌, IfSome, IsTrue};
 ghost use Rattle.mate_num.specs.declared.bounds.TheConstants.{HOUR};
@@ -43,7 +43,7 @@ fn started(head: &str) -> Option<Trickle> {
     Some(Trickle::start(set, random, node as u8, now))
 }
 
-/// The number that a word spells; where it spells none, the largest of all, which is in no range.
+/// The number that a word spells; if it spells none, the largest of all, which is in no range.
 fn number(word: Option<&str>) -> u32 {
     match word {
         Some(word) => word.parse::<u32>().unwrap_or(u32::MAX),
@@ -71,7 +71,7 @@ fn interval_of(alloc: Global, timer: &Trickle) -> Result<String, AllocError> {
     format!(in alloc; "{}+{}@{}", timer.begin(), timer.length(), timer.point())
 }
 
-/// What the timer answers to a step, the last of so many times.
+/// What the timer answers to a step: to the last one, if it is taken several times.
 fn repeated(alloc: Global, timer: &mut Trickle, step: &str) -> Result<String, AllocError> {
     let (count, step) = step.split_once('*').unwrap_or(("1", step));
     let mut answer = String::new(alloc);

@@ -1,5 +1,5 @@
-//! Runs of a script that gives context 0, in which no invocation is, so many turns of one instruction, and then shows the
-//! store: whether the report is whole, and how many events it has, and entries of each kind.
+//! Runs of a script that gives context 0, in which no invocation is live, a number of turns of one instruction, and
+//! then shows the store: whether the report is whole, how many events it has, and how many entries of each kind.
 
 ghost use Rattle.std.specs.Prelude.{[], IfOk};
 ghost use Rattle.node_programs.specs.ScriptSteps.{AreProgramsOf};
@@ -25,7 +25,7 @@ pub fn answer(alloc: Global, desc: &Description, case: &str) -> Result<String, A
     }
 }
 
-/// The script of so many turns, and a show.
+/// The script of this many turns, and a show.
 #[tactic(auto, using(crate::proofs::IdleLemmas::idle_programs, crate::proofs::IdleLemmas::idle_pushed))]
 fn idle_script(alloc: Global, desc: &Description, turns: u32) -> Result<Steps, NoMemory>
     ensures { IfOk result (λ script. AreProgramsOf desc.now script []) }

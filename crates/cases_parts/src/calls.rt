@@ -52,7 +52,7 @@ fn answer_words(alloc: Global, answered: Result<FunId, NotWaiting>) -> Result<St
     }
 }
 
-/// The function and the values that stand behind `ask` and the context.
+/// The function and the values after `ask` and the context.
 fn call_of(step: &str) -> (FunId, Payload) {
     let mut words = step.split(' ');
     let _verb = words.next();

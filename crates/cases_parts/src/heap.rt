@@ -1,4 +1,4 @@
-//! A heap: `SHARED BUFFERS: `, and then what is done with it in turn. A call that answers nothing prints nothing.
+//! A heap: `SHARED BUFFERS: `, and then what is done with it in turn. A call that returns nothing prints nothing.
 
 ghost use Rattle.std.specs.Prelude.{◌<◌, length};
 

@@ -1,5 +1,5 @@
-//! Names: the length and the text of the name that a case spells, or `none`. The sign '`' is the byte 255, which
-//! stands in no text, so such a name has to be made from bytes.
+//! Names: the length and the text of the name that a case spells, or `none`. The sign '`' is the byte 255, which is
+//! in no text, so such a name has to be made from bytes.
 
 use mate_num::Name;
 use std::alloc::{AllocError, Global};

@@ -1,4 +1,4 @@
-//! Lock sets: `SET / SET` asks each whether it is compatible with the other, and `SET ? RESOURCE` whether the set
+//! Lock sets: `SET / SET` asks of each whether it is compatible with the other, and `SET ? RESOURCE` whether the set
 //! reads and whether it writes the resource. A set is `-` or words like `r:s15` and `w:d0`.
 
 ghost use Rattle.std.specs.Prelude.{IfSome, IsTrue};

@@ -4,7 +4,7 @@ use std::alloc::{AllocError, Global};
 
 /// A part of a node.
 pub trait Part {
-    /// Takes one step, and answers the words that it prints.
+    /// Takes one step, and returns the words that it prints.
     fn take(&mut self, alloc: Global, step: &str) -> Result<String, AllocError>;
 }
 
@@ -18,7 +18,7 @@ pub fn answers<P: Part>(alloc: Global, part: &mut P, steps: &str) -> Result<Stri
     Ok(line)
 }
 
-/// Appends words, with a space before them where there are others.
+/// Appends words, with a space before them if there are others.
 fn append(line: &mut String, words: &str) -> Result<(), AllocError> {
     if !line.is_empty() && !words.is_empty() {
         line.push_str(" ")?;
@@ -46,7 +46,7 @@ pub fn step_of(step: &str) -> Step<'_> {
     }
 }
 
-/// The number from 0 to 255 that the word spells, or 255 where there is none.
+/// The number from 0 to 255 that the word spells, or 255 if it spells none.
 pub fn place(word: Option<&str>) -> u8 {
     match word {
         Some(word) => word.parse::<u8>().unwrap_or(255),
@@ -54,7 +54,7 @@ pub fn place(word: Option<&str>) -> u8 {
     }
 }
 
-/// The number that the word spells, or 0 where there is none.
+/// The number that the word spells, or 0 if it spells none.
 pub fn value(word: Option<&str>) -> i16 {
     match word {
         Some(word) => word.parse::<i16>().unwrap_or(0),

@@ -10,7 +10,7 @@ use vm_desc::Description;
 use world_reader::world_script;
 use world_script::{Link, World};
 
-/// The radio of a world, beside the time of the last event that came and the events' number.
+/// The radio of a world, the time of the last event that came, and its number.
 #[derive(Drop)]
 pub struct Bench {
     pub world: World,
@@ -24,12 +24,12 @@ pub struct Bench {
 #[derive(Drop)]
 pub enum Step {
     Done,
-    /// The time has passed, or the air is full.
+    /// The time has passed, or there is no room on the air for it.
     Refused,
 }
 
 impl Bench {
-    /// The radio of the world that a script plans, with `|` for the end of a line; None where it plans none.
+    /// The radio of the world that a script plans, with `|` for the end of a line; None if it plans none.
     pub fn new(alloc: Global, desc: &Description, script: &str) -> Result<Option<Bench>, NoMemory> {
         let mut bytes = Vec::new(alloc);
         for byte in script.as_bytes() {
@@ -86,7 +86,7 @@ impl Bench {
         Ok(Step::Done)
     }
 
-    /// Notes that a packet came over the link at a position, in the last event.
+    /// Records that a packet came over the link at a position, in the last event.
     pub fn note(&mut self, link: u32, number: u32) -> Result<Step, NoMemory> {
         let Some(link) = self.world.links.get(link as usize) else {
             return Ok(Step::Refused);

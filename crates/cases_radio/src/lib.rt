@@ -14,8 +14,7 @@ use vm_desc::Description;
 /// The tables of cases. Each is named for the module that answers it.
 pub const TABLES: [&str; 3] = ["queues", "transmissions", "loads"];
 
-/// The answer to a case of a table. A case is a world's script, with `|` for the end of a line, and behind ` : ` what is
-/// asked.
+/// The answer to a case of a table. A case is a world's script, with `|` for the end of a line, and after ` : ` what is asked.
 pub fn answer(
     alloc: Global,
     table: &str,

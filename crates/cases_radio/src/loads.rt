@@ -1,6 +1,6 @@
-//! Many events. `COUNT STEP` schedules so many, number i from 1 at the time `i * STEP` modulo the world's end, and takes
-//! all: the answer has how many came, the first and the last time, the sum of the times, whether they never fell, and
-//! whether nothing came behind them.
+//! Many events. `COUNT STEP` schedules COUNT of them, number i from 1 at the time `i * STEP` modulo the world's end,
+//! and takes all: the answer has how many came, the first and the last time, the sum of the times, whether they never
+//! fell, and whether nothing came after them.
 
 use crate::bench::Bench;
 use mate_num::{HandlerId, NoMemory};

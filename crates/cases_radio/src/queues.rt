@@ -1,7 +1,7 @@
 //! What waits and comes. A step `KINDNODE@TIME` schedules an event, whose number is that of the step among such steps,
 //! from 1: `p` a line of the plan, `t` a timer's period, `f` a point, `x` an interval's end, `u` a fragment to be sent,
 //! and `d` an answer. `cT`, `cP` and `cA` with a node cancel what its timer, its fragments and its answers wait for.
-//! `n` takes the next event: the answer has its time and its kind with its number, or with its node where it has none.
+//! `n` takes the next event: the answer has its time and its kind with its number, or with its node if it has none.
 
 use crate::bench::{Bench, Step};
 use mate_num::{ContextId, HandlerId, NoMemory};
@@ -25,7 +25,7 @@ pub fn answer(alloc: Global, bench: &mut Bench, asked: &str) -> Result<String, N
     Ok(text)
 }
 
-/// The next event, or `-` where none waits.
+/// The next event, or `-` if none waits.
 fn next(alloc: Global, bench: &mut Bench) -> Result<String, NoMemory> {
     let Some((time, event)) = bench.next() else {
         return Ok("-".to_string(alloc)?);
@@ -41,7 +41,7 @@ fn next(alloc: Global, bench: &mut Bench) -> Result<String, NoMemory> {
     }?)
 }
 
-/// The cancel that a step names.
+/// The cancelling that a step names.
 fn cancelled(step: &str) -> Option<Cancel> {
     let (kind, node) = step.split_at_checked(2)?;
     let node = node.parse::<u8>().ok()?;
@@ -53,7 +53,7 @@ fn cancelled(step: &str) -> Option<Cancel> {
     }
 }
 
-/// Schedules what a step says, and answers what is wrong with it, if anything.
+/// Schedules what a step says, and returns what is wrong with it, if anything.
 fn scheduled(bench: &mut Bench, number: u32, step: &str) -> Result<&'static str, NoMemory> {
     let Some((time, event)) = event_of(number, step) else {
         return Ok(" ?");

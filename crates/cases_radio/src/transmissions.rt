@@ -38,7 +38,7 @@ pub fn answer(
     aired(alloc, bench)
 }
 
-/// The packet that a word says, and its time.
+/// The packet of a word, and its time.
 fn packet_of(word: &str) -> Option<(u32, Packet)> {
     let (time, rest) = word.split_once('.')?;
     let (node, digits) = rest.split_once('.')?;
@@ -53,7 +53,7 @@ fn bytes_of(digits: &str) -> Option<PacketBytes> {
     PacketBytes::try_from(image.as_slice()).ok()
 }
 
-/// Sends the packets at their times, and notes where they come.
+/// Sends the packets at their times, and records where they arrive.
 fn run(desc: &Description, bench: &mut Bench, packets: &[Packet]) -> Result<(), NoMemory> {
     for _ in 0..1_000_000 {
         let Some((_, event)) = bench.next() else {

@@ -1,4 +1,4 @@
-//! Command lines, split at single spaces, where `_` is the empty word: the flags, the command, and each word that goes to
+//! Command lines, split at single spaces, where `_` is the empty word: the flags, the command, and each word for
 //! it, in brackets; or the fault.
 
 use command_line::{CommandLine, WordsFault, read};

@@ -1,4 +1,4 @@
-//! Lines of reports: what is written of that which a line tells, so the same line, or `no line`.
+//! Lines of reports: what is written for what a line says, so the same line, or `no line`.
 
 use cases_files::in_one_line;
 use mate_journal::{Aired, Entry, NodeLog, Stamped};

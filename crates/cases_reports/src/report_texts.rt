@@ -1,5 +1,5 @@
-//! Whole texts of reports, with `|` for the end of each line: `read`, where the text is read and what was read is written as
-//! the same text again; else the number of the first line that doesn't fit.
+//! Whole texts of reports, with `|` for the end of each line: `read` if the text is read and what was read is written
+//! as the same text again; else the number of the first line that doesn't fit.
 
 ghost use Rattle.report_text.specs.Tidy.{IsTidy};
 

@@ -1,5 +1,5 @@
-//! Node scripts: the steps and the files, or the line that is refused and the cause. `unescaped` says what the signs in
-//! them stand for.
+//! Node scripts: the steps and the files, or the line that is refused and the cause. `unescaped` gives the bytes of
+//! the signs in them.
 
 use cases_files::{cause_word, quoted};
 use mate_num::FILE_MAX;
@@ -28,7 +28,7 @@ pub fn answer(alloc: Global, desc: &Description, case: &str) -> Result<String, A
     }
 }
 
-/// The steps with their fields, a comma between two.
+/// The steps with their fields, with commas between them.
 fn steps_text(alloc: Global, steps: &[Step]) -> Result<String, AllocError> {
     let mut text = String::new(alloc);
     for (place, step) in steps.iter().enumerate() {
@@ -67,7 +67,7 @@ fn step_text(alloc: Global, step: &Step) -> Result<String, AllocError> {
     }
 }
 
-/// The byte that a sign of a case stands for.
+/// The byte of a sign of a case.
 fn unescaped(sign: u8) -> u8 {
     match sign {
         b'|' => b'\n',

@@ -27,7 +27,7 @@ pub struct Case {
     files: MemFiles,
     script: String,
     report: String,
-    // whether its text goes to a sink that fails, or that memory is refused to, at each write in turn
+    // whether its text goes to a sink that fails, or runs out of memory, at each write in turn
     fails: bool,
 }
 
@@ -52,7 +52,7 @@ impl Case {
         Ok(case)
     }
 
-    /// A file of the case more.
+    /// Adds a file to the case.
     fn add(&mut self, alloc: Global, file: &str, text: &str) -> Result<(), AllocError> {
         match file {
             "report" => {
@@ -101,7 +101,7 @@ impl Case {
     }
 }
 
-/// What the run of the world gives.
+/// How the run of the world ends, compared with the case.
 fn ran(
     alloc: Global,
     desc: &Description,
@@ -118,7 +118,7 @@ fn ran(
     }
 }
 
-/// How the run ended, how many records and events its report has, and whether it is the wanted one, where there is one.
+/// How the run ended, how many records and events its report has, and whether it is the wanted one, if there is one.
 fn told(
     alloc: Global,
     desc: &Description,

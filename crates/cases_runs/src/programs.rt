@@ -13,8 +13,7 @@ use std::alloc::{AllocError, Global};
 use vm_desc::Description;
 use world_script::{Planned, What, World};
 
-/// The programs of the files that the script injects, in the order of its lines, which are right for the machine; None
-/// where one is refused.
+/// The programs of the files that the script injects, in the order of its lines, right for the machine; None if one is refused.
 pub fn programs_of_script(
     alloc: Global,
     files: &mut MemFiles,
@@ -82,7 +81,7 @@ fn has_its(what: &What, programs: &Programs) -> bool
     }
 }
 
-/// Whether the program at a place is for the handler, and has this version.
+/// Whether the program at a place is for the handler and has this version.
 fn is_at(programs: &Programs, place: u32, handler: HandlerId, version: u32) -> bool
     ensures { IsTrue result ↔ IsSomeAnd (slice_get programs.now place) (λ p. (p.handler ≡ handler) × (p.version ≡ version)) }
 {

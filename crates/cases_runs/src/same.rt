@@ -1,4 +1,4 @@
-//! Whether two reports tell the same.
+//! Whether two reports say the same.
 
 use mate_files::SinkFault;
 use mate_journal::{Aired, Images, NodeLog, Report, StoreRef, Stores};
@@ -7,7 +7,7 @@ use report_text::write_event;
 use std::alloc::Global;
 use vm_desc::Description;
 
-/// Whether two reports tell the same. It tells no where a text finds no memory.
+/// Whether two reports say the same. The answer is no if memory for a text runs out.
 pub fn are_same(alloc: Global, desc: &Description, a: &Report, b: &Report) -> bool {
     if a.events() != b.events() || a.whole() != b.whole() || a.nodes().len() != b.nodes().len() {
         return false;
@@ -79,7 +79,7 @@ fn are_same_values(a: &StoreRef, b: &StoreRef) -> bool {
     true
 }
 
-// The lines of what happened on the air and of a log's entries, each as of node 0.
+// The lines of what happened on the air and of a log's entries, each as if of node 0.
 fn lines(
     alloc: Global,
     desc: &Description,

@@ -1,4 +1,4 @@
-//! A sink in memory that refuses one write and each further one, for want of memory.
+//! A sink in memory that runs out of memory at one write and at each later one.
 
 ghost use Rattle.memory_files.specs.MemSink.{sink_told, write_faults};
 
@@ -6,7 +6,7 @@ use mate_files::{Sink, SinkFault};
 use memory_files::MemSink;
 use std::alloc::Global;
 
-/// A sink in memory that takes the writes before one and no further one. A write of no bytes isn't counted.
+/// A sink in memory that takes `left` more writes and none after them. A write of no bytes isn't counted.
 #[derive(Drop)]
 pub(crate) struct ScarceSink {
     sink: MemSink,
@@ -15,7 +15,7 @@ pub(crate) struct ScarceSink {
 }
 
 impl ScarceSink {
-    /// No byte was written, and it takes so many writes.
+    /// A sink with no bytes, which takes `writes` writes.
     pub(crate) fn new(alloc: Global, writes: u64) -> ScarceSink {
         ScarceSink {
             sink: MemSink::new(alloc),

@@ -1,4 +1,4 @@
-//! Runs whose text goes to a sink that fails or that memory is refused to, and the report that is handed out then.
+//! Runs whose sink fails or runs out of memory, and the report that is handed out then.
 
 ghost use Rattle.std.specs.Prelude.{◌≤◌};
 ghost use Rattle.node_programs.specs.WorldPrograms.{AreProgramsOfWorld};
@@ -20,9 +20,9 @@ const WRITES_MAX: u64 = 100_000;
 /// How a run ended whose sink refused one write.
 #[derive(Clone, Copy)]
 enum Stop {
-    /// It wrote all before.
+    /// It wrote everything before that write.
     Unstopped,
-    /// It handed out the report of the events that ended, behind the beginning of its text.
+    /// It handed out the report of the events that ended, and had written the beginning of its text.
     Rightly,
     Wrongly,
 }
@@ -45,7 +45,7 @@ impl Stop {
     }
 }
 
-/// Whether a run hands out the report that it should at whichever write the sink fails, or memory is refused to it, by the
+/// Whether a run hands out the report that it should, at whichever write the sink fails or runs out of memory, by the
 /// text of the whole run.
 pub(crate) fn stopped(
     alloc: Global,
@@ -90,7 +90,7 @@ fn failed_at(
     }
 }
 
-/// How the run ends to whose sink memory is refused from this write on.
+/// How the run ends whose sink runs out of memory from this write on.
 fn refused_at(
     alloc: Global,
     desc: &Description,
@@ -121,9 +121,9 @@ fn is_of(alloc: Global, desc: &Description, report: &Report, text: &str) -> bool
     }
 }
 
-/// The text of the report that is handed out where so many bytes were written. The next line that was to be written is of the last
-/// event that
-/// ended, and its report has all that this one and those before it told. Behind the events it is the whole report.
+/// The text of the report that is handed out after `written` bytes. The next line that was to be written is of the
+/// last event that ended; the report has all that this event and those before it recorded. After the events it is the
+/// whole report.
 fn wanted_text(alloc: Global, text: &str, written: usize) -> Result<String, AllocError> {
     let (events, nodes) = counts(text);
     match event_of(line_at(text, written)) {
@@ -132,7 +132,7 @@ fn wanted_text(alloc: Global, text: &str, written: usize) -> Result<String, Allo
     }
 }
 
-/// The lines of these first events, and the last line of a report that isn't whole.
+/// The lines of the events up to `last`, and the last line of a report that isn't whole.
 fn cut(alloc: Global, text: &str, last: u64, nodes: u64) -> Result<String, AllocError> {
     let mut lines = String::new(alloc);
     let mut records: u64 = 0;
@@ -145,7 +145,7 @@ fn cut(alloc: Global, text: &str, last: u64, nodes: u64) -> Result<String, Alloc
     format!(in alloc; "{lines}full {records} {last} {nodes}\n")
 }
 
-/// The line that a byte of the text is of.
+/// The line that the byte at a place of the text is in.
 fn line_at(text: &str, place: usize) -> &str {
     let mut end: usize = 0;
     for line in text.lines() {
@@ -157,7 +157,7 @@ fn line_at(text: &str, place: usize) -> &str {
     ""
 }
 
-/// The event that a line is of. The last line is of none.
+/// The event that a line is of; None for the last line.
 fn event_of(line: &str) -> Option<u64> {
     line.split(' ').next()?.parse::<u64>().ok()
 }

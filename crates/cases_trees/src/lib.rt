@@ -3,7 +3,7 @@
 
 use mate_num::{BufId, FunId};
 use std::alloc::{AllocError, Global};
-use ts_syntax::{BinOp, CArgs, CBlock, CExpr, CForHead, CStmt, CVar};
+use ts_checked::{BinOp, CArgs, CBlock, CExpr, CForHead, CStmt, CVar};
 
 /// A block as text.
 #[cycle(stmt_text)]

@@ -1,3 +1,4 @@
 mod ListingLemmas
+mod RunLemmas
 mod StepLemmas
 mod VerifyLemmas

@@ -1,4 +1,4 @@
--- What an answer of a verification is where the definitions compute it.
+-- What a verification answers, if the definitions compute it.
 use Rattle.std.proofs.Common.{◌≡◌, ℕ, List, Ok, Err, refl, ap, ap₂}
 use Rattle.std.specs.Prelude.{Result, IsOk}
 use Rattle.mate_num.specs.declared.shape.Shape.{Shape}

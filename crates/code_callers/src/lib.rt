@@ -3,6 +3,7 @@
 
 pub mod listings;
 pub mod locks;
+pub mod runs;
 pub mod steps;
 pub mod tables;
 pub mod verifications;

@@ -1,5 +1,5 @@
 -- Marks in a list, by place.
-use Rattle.std.proofs.Common.{◌≡◌, ◌≢◌, ℕ, ◌<◌, ◌≤◌, List, [], ◌∷◌, Bool, true, false, length, refl, ap, sym, ◌∙◌, arith, get_or, replicate, inl, inr}
+use Rattle.std.proofs.Common.{◌≡◌, ℕ, ◌<◌, ◌≤◌, List, Bool, true, false, length, refl, ap, sym, ◌∙◌, arith, get_or, replicate, inl, inr}
 use Rattle.std.specs.Prelude.{◌==◌, ◌⊎◌, if◌then◌else◌}
 use Rattle.std.proofs.Math.ListN.{set}
 use Rattle.std.proofs.lemmas.Bool.{eqb-true, eqb-false, cases_lt}
@@ -7,7 +7,7 @@ use Rattle.std.proofs.lemmas.List.{get_or-set_same, get_or-set_other, get_or-rep
 use Rattle.mate_code.specs.Verification.{given, mark}
 use Rattle.mate_code.specs.Verification as verification
 use Rattle.code_verifier.specs.declared.marks.Mark.{Mark}
-use Rattle.code_verifier.specs.declared.marks.Mark.TheVariants.{Blank, Depth}
+use Rattle.code_verifier.specs.declared.marks.Mark.TheVariants.{Blank}
 use Rattle.code_verifier.specs.Marks.{mark_in, marks_in}
 
 -- a write at a place gives it one more depth

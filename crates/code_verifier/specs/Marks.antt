@@ -1,5 +1,5 @@
 -- The marks of a pass, kept in a list by place.
-use Rattle.std.specs.Prelude.{ℕ, List, slice_index_or}
+use Rattle.std.specs.Prelude.{List, slice_index_or}
 use Rattle.mate_code.specs.Verification as verification
 use Rattle.code_verifier.specs.declared.marks.Mark.{Mark}
 use Rattle.code_verifier.specs.declared.marks.Mark.TheVariants.{Blank, Depth, Clash}

@@ -1,15 +1,15 @@
 -- What the pass, and its check of one instruction, answer.
-use Rattle.std.specs.Prelude.{◌≡◌, ℕ, Result, Ok, Err, Option, None, Some, ⊤}
+use Rattle.std.specs.Prelude.{◌≡◌, ℕ, Bool, Result, Ok, Err, None, Some, ⊤}
 use Rattle.mate_num.specs.declared.shape.Shape.{Shape}
 use Rattle.mate_code.specs.declared.instr.Instr.{Instr}
 use Rattle.mate_code.specs.Run.{Code}
-use Rattle.mate_code.specs.Verification.{Marks, first_marks, refusal_at, instr_marks, pass}
+use Rattle.mate_code.specs.Verification.{Marks, first_marks, refusal_at, instr_marks, pass, halts}
 use Rattle.code_verifier.specs.declared.fault.VerifyFault.{VerifyFault}
 use Rattle.code_verifier.specs.Faults.{refusal_of}
 
--- the pass comes to its end, or gives its refusal
-abbrev pub PassGives : Shape → Code → Result ⊤ VerifyFault → Type 0
-PassGives shape code (Ok _) = (marks : Marks) × (pass shape code first_marks code ≡ Ok marks)
+-- the pass comes to its end, and says whether the code does; or it gives its refusal
+abbrev pub PassGives : Shape → Code → Result Bool VerifyFault → Type 0
+PassGives shape code (Ok ends) = (marks : Marks) × (pass shape code first_marks code ≡ Ok marks) × (ends ≡ halts code)
 PassGives shape code (Err fault) = pass shape code first_marks code ≡ Err (refusal_of fault)
 
 -- the instruction is right and leaves its marks; or it is refused

@@ -39,13 +39,13 @@ impl Mark {
     }
 }
 
-/// The marks with which a pass begins: place 0 has depth 0.
-pub fn first() -> [Mark; MARKS]
-    ensures { marks_in result ≡ first_marks }
+/// Puts the marks with which a pass begins in place of those that are there: place 0 has depth 0.
+pub fn begin(marks: &mut [Mark])
+    requires { 0 < length marks.old }
+    ensures { marks_in marks.new ≡ first_marks }
 {
-    let mut marks = [Mark::Blank; MARKS];
-    give(&mut marks, 0, 0);
-    marks
+    marks.fill(Mark::Blank);
+    give(marks, 0, 0);
 }
 
 /// Gives a place one more depth.

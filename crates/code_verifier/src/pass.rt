@@ -1,42 +1,37 @@
 //! The pass over decoded code, with a depth of the stack at each place.
 
-ghost use Rattle.std.specs.Prelude.{◌≡◌, ◌≤◌, ◌+◌, length, IsTrue};
+ghost use Rattle.std.specs.Prelude.{◌≡◌, ◌<◌, ◌≤◌, ◌+◌, length, IsTrue};
 ghost use Rattle.mate_code.specs.Instr.{size_of};
 ghost use Rattle.mate_code.specs.Run.{size_of_code};
-ghost use Rattle.mate_code.specs.Verification.{AreFrom, halts, has_target, has_direction, has_back_depth, marks_after};
+ghost use Rattle.mate_code.specs.Verification.{AreFrom, has_target, has_direction, has_back_depth, marks_after};
 ghost use Rattle.mate_num.specs.declared.bounds.TheConstants.{CODE_MAX};
 ghost use Rattle.code_verifier.specs.Flows.{IsTargetBelow};
 ghost use Rattle.code_verifier.specs.Marks.{marks_in};
 ghost use Rattle.code_verifier.specs.Pass.{PassGives, CheckGives};
 
 use crate::fault::VerifyFault;
-use crate::marks::{Mark, depth, first, give};
+use crate::marks::{Mark, begin, depth, give};
 use crate::placed::Placed;
 use mate_code::{Flow, Instr};
 use mate_num::{STACK_MAX, Shape};
 
-/// Goes over the instructions by their places. Answers the first refusal.
-pub fn pass(shape: &Shape, code: &Placed, instrs: &[(u16, Instr)]) -> Result<(), VerifyFault>
-    requires same { instrs.now ≡ code.now }
+/// Goes over the instructions by their places, with marks that it begins anew. Answers the first refusal, and else whether
+/// the last instruction halts.
+pub fn pass(shape: &Shape, code: &Placed, marks: &mut [Mark]) -> Result<bool, VerifyFault>
     requires from { AreFrom 0 code.now }
     requires fits { size_of_code code.now ≤ CODE_MAX }
+    requires marks { size_of_code code.now < length marks.old }
     ensures { PassGives shape.now code.now result }
 {
-    let mut marks = first();
-    'instrs: for (place, instr) in instrs {
-        check_instr(shape, code, &mut marks, *place, *instr)?;
+    begin(marks);
+    let mut place: u16 = 0;
+    let mut ends = false;
+    'instrs: while let Some(instr) = code.get(place) {
+        check_instr(shape, code, marks, place, instr)?;
+        ends = instr.flow().is_end();
+        place += instr.size() as u16;
     }
-    Ok(())
-}
-
-/// Whether the last instruction halts.
-pub fn halts(instrs: &[(u16, Instr)]) -> bool
-    ensures { result ≡ halts instrs.now }
-{
-    match instrs {
-        [.., (_, last)] => last.flow().is_end(),
-        [] => false,
-    }
+    Ok(ends)
 }
 
 // Checks one instruction, and gives the depth after it to where it goes on.
@@ -47,8 +42,9 @@ fn check_instr(
     place: u16,
     instr: Instr,
 ) -> Result<(), VerifyFault>
-    requires room { place + size_of instr ≤ CODE_MAX }
-    requires marks { length marks.old ≡ CODE_MAX + 1 }
+    requires from { AreFrom 0 code.now }
+    requires room { place + size_of instr ≤ size_of_code code.now }
+    requires marks { size_of_code code.now < length marks.old }
     ensures { CheckGives shape.now code.now place instr (marks_in marks.old) result (marks_in marks.new) }
 {
     let at = place as u32;
@@ -85,7 +81,7 @@ fn check_instr(
 // Whether the target, if there is one, is an instruction's start.
 fn has_target(code: &Placed, flow: Flow) -> bool
     ensures value { result ≡ has_target code.now flow }
-    ensures below { IsTrue result → IsTargetBelow CODE_MAX flow }
+    ensures below { AreFrom 0 code.now → IsTrue result → IsTargetBelow (size_of_code code.now) flow }
 {
     match flow {
         Flow::Next | Flow::Ends => true,
@@ -118,9 +114,8 @@ fn has_back_depth(marks: &[Mark], after: u8, flow: Flow) -> bool
 
 // Gives the depth to the next place and to the target of a jump forward.
 fn give_on(marks: &mut [Mark], flow: Flow, next: usize, after: u8)
-    requires marks { length marks.old ≡ CODE_MAX + 1 }
-    requires target { IsTargetBelow CODE_MAX flow }
-    requires next { next ≤ CODE_MAX }
+    requires target { IsTargetBelow (length marks.old) flow }
+    requires next { next < length marks.old }
     ensures { marks_in marks.new ≡ marks_after flow next after (marks_in marks.old) }
 {
     match flow {

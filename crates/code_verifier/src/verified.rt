@@ -5,14 +5,14 @@ ghost use Rattle.mate_code.specs.Instr.{size_of};
 ghost use Rattle.mate_code.specs.Run.{fetch};
 ghost use Rattle.mate_code.specs.Table.{table_of};
 ghost use Rattle.mate_code.specs.Verification.{is_start, IsRightInstr};
-ghost use Rattle.code_verifier.specs.Faults.{refusal_of};
+ghost use Rattle.mate_num.specs.declared.bounds.TheConstants.{CODE_MAX};
 ghost use Rattle.code_verifier.specs.Verified.{depth_of, IsVerifiedCode, KeepsFitting, Verifies};
 
 use crate::fault::VerifyFault;
-use crate::pass::{halts, pass};
 use crate::placed::Placed;
-use mate_code::{Instr, Instrs, Table, decode};
-use mate_num::{CODE_MAX, Code, Shape};
+use crate::verifier::Verifier;
+use mate_code::{Instr, Instrs, Table};
+use mate_num::{Code, Shape};
 use std::marker::Model;
 
 /// Code that was verified for machines of a shape. Only verification makes one.
@@ -87,25 +87,15 @@ impl Verified {
         requires { table.now ≡ table_of shape }
         ensures { Verifies shape bytes.now result }
     {
-        if bytes.len() > CODE_MAX {
-            return Err(VerifyFault::TooLong { len: bytes.len() });
-        }
-        let decoded = match decode(table, bytes) {
-            Ok(decoded) => decoded,
-            Err(fault) => return Err(VerifyFault::of_decode(fault)),
-        };
-        let instrs = Placed::of(&decoded);
-        pass(&shape, &instrs, decoded.as_slice())?;
-        if !halts(decoded.as_slice()) {
-            return Err(VerifyFault::NoHalt);
-        }
+        let mut verifier = Verifier::new();
+        verifier.read(table, &shape, bytes)?;
         let Ok(bytes) = Code::try_from(bytes) else {
             unreachable!()
         };
         Ok(Verified {
             shape,
             bytes,
-            instrs,
+            instrs: verifier.into_code(),
         })
     }
 }

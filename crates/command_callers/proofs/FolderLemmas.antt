@@ -1,9 +1,9 @@
--- What a step on a file answers where it is known what the files hold.
+-- What a step on a file answers, if it is known what the files hold.
 use Rattle.std.proofs.Common.{◌≡◌, ◌≢◌, ◌<◌, ◌≤◌, ◌∙◌, inl, inr, ℕ, List, length, Option, None, Some, Result, Ok, Err, false, refl, sym, ap, subst, arith}
 use Rattle.std.specs.Prelude.{IsSomeAnd, IfErr, IfOk}
 use Rattle.std.specs.Global.{Vec}
 use Rattle.mate_files.specs.Files.{Names, WhereTold}
-use Rattle.ts_syntax.specs.Checked.{tree_of}
+use Rattle.ts_checked.specs.Checked.{checked_tree}
 use Rattle.ts_syntax.specs.declared.script.Script.{Script}
 use Rattle.ts_checker.specs.Accepted.{IsAccepted}
 use Rattle.mate_steps.specs.declared.code.CompiledScript.{CompiledScript}
@@ -107,9 +107,9 @@ right_machine f word bytes parts r other h few right (inl x) = absurd (other x.0
 right_machine f word bytes parts r other h few right (inr x) = right_file f word bytes parts r h few right x.1
 
 pub keeps_tree : (f : Folder) (d : Description) (name bytes : List ℕ) (c : CompiledScript) → HoldsFile f name (Some bytes) → source f d false name (Ok c)
-    → IsAccepted d bytes (tree_of c.script)
+    → IsAccepted d bytes (checked_tree c.script)
 keeps_tree f d name bytes c h (goes_on read is (goes_on tree accepted compiled)) =
-    subst (λ (bs : List ℕ). IsAccepted d bs (tree_of c.script)) (same_bytes f name bytes read h is) (subst (IsAccepted d read.items) (sym compiled.tree_is) accepted)
+    subst (λ (bs : List ℕ). IsAccepted d bs (checked_tree c.script)) (same_bytes f name bytes read h is) (subst (IsAccepted d read.items) (sym compiled.tree_is) accepted)
 keeps_tree f d name bytes c h (goes_on read is (stops r refused same)) = cc
 keeps_tree f d name bytes c h (stops r refused same) = cc
 
@@ -142,6 +142,6 @@ was_read f name bytes r h few (stops why is same) =
     subst (IsNotUnread {A = Script} name) (sym same) (λ unread. read_but_wanting name why unread (wanting_alone f name bytes h few why is))
 
 pub keep_trees : (f : Folder) (d : Description) (name bytes : List ℕ) (r : Result CompiledScript Refusal) → HoldsFile f name (Some bytes) → source f d false name r
-    → IfOk r (λ c. IsAccepted d bytes (tree_of c.script))
+    → IfOk r (λ c. IsAccepted d bytes (checked_tree c.script))
 keep_trees f d name bytes (Ok c) h is = keeps_tree f d name bytes c h is
 keep_trees f d name bytes (Err r) h is = tt

@@ -1,2 +1,3 @@
+mod AcceptingLemmas
 mod FolderLemmas
 mod ProgramLemmas

@@ -2,7 +2,7 @@
 
 ghost use Rattle.std.specs.Prelude.{◌≡◌, ◌≤◌, ℕ, List, [], ◌∷◌, length, codes, None, Some, Err, All, IfOk, IfSome};
 ghost use Rattle.mate_num.specs.declared.bounds.TheConstants.{FILE_MAX};
-ghost use Rattle.ts_syntax.specs.Checked.{tree_of};
+ghost use Rattle.ts_checked.specs.Checked.{checked_tree};
 ghost use Rattle.ts_checker.specs.Accepted.{IsAccepted};
 ghost use Rattle.script_reader.specs.NodeScript.{node_script_in};
 ghost use Rattle.script_reader.specs.Steps.{IsRightSteps};
@@ -22,7 +22,7 @@ use script_reader::Steps;
 use std::alloc::Global;
 use vm_desc::Description;
 
-/// Of two files that are missing the first one is told.
+/// Of two missing files the first one is reported.
 pub fn files_are_taken_in_order<F: Files>(
     alloc: Global,
     files: &mut F,
@@ -75,7 +75,7 @@ pub fn an_installed_source_keeps_its_tree<F: Files>(
     requires right { IsRightSteps desc.now script.now }
     requires script { script.now ≡ installing (codes "a") }
     ensures { (bytes : List ℕ) → HoldsFile (record { told = F.contents files.old; steady = F.steady files.old }) (codes "a") (Some bytes)
-        → IfOk result (λ programs. All (λ p. IfSome p.source (λ source. IsAccepted desc.now bytes (tree_of source))) programs) }
+        → IfOk result (λ programs. All (λ p. IfSome p.source (λ source. IsAccepted desc.now bytes (checked_tree source))) programs) }
 {
     programs_of(alloc, files, desc, false, script)
 }

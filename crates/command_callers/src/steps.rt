@@ -1,29 +1,40 @@
-//! The steps of commands on files that tell what they hold.
+//! The steps of commands on files whose contents contracts can say.
 
-ghost use Rattle.std.specs.Prelude.{◌≡◌, ◌≢◌, ◌<◌, ◌≤◌, ℕ, List, length, codes, None, Some, Ok, IfOk, IfErr};
+ghost use Rattle.std.specs.Prelude.{◌≡◌, ◌≢◌, ◌⊎◌, ◌<◌, ◌≤◌, ℕ, List, length, codes, None, Some, Ok, IfOk, IfErr, MatchResult};
 ghost use Rattle.mate_num.specs.declared.bounds.TheConstants.{FILE_MAX};
 ghost use Rattle.vm_desc.specs.Limits.{Parts};
 ghost use Rattle.vm_desc.specs.Shapes.{shape_of};
 ghost use Rattle.vm_reader.specs.Text.{description_of};
-ghost use Rattle.ts_syntax.specs.Checked.{tree_of, checked_shape as shape_of_script};
+ghost use Rattle.ts_syntax.specs.Cut.{cut};
+ghost use Rattle.ts_syntax.specs.Faults.{Spells};
+ghost use Rattle.ts_syntax.specs.Tree.{Source};
+ghost use Rattle.ts_syntax.specs.declared.token.Token.{Token};
+ghost use Rattle.ts_parser.specs.declared.fault.SourceFault.{SourceFault};
+ghost use Rattle.ts_parser.specs.declared.fault.SourceFault.TheVariants.{BadByte, NoMemory as SpellingWantsMemory};
+ghost use Rattle.ts_checked.specs.Checked.{checked_tree, checked_shape as shape_of_script};
 ghost use Rattle.ts_checker.specs.Accepted.{IsAccepted};
 ghost use Rattle.command_line.specs.Commands.{builtin_word};
 ghost use Rattle.mate_refusals.specs.declared.cause.Cause.TheVariants.{Unread as UnreadCause};
 ghost use Rattle.mate_refusals.specs.declared.cause.Unread.{Unread};
 ghost use Rattle.mate_refusals.specs.declared.cause.Unread.TheVariants.{Failed, Large};
 ghost use Rattle.mate_refusals.specs.declared.refusal.Refusal.TheVariants.{InFile, NoMemory};
+ghost use Rattle.mate_steps.specs.declared.refusal.SourceRefusal.TheVariants.{Spelling};
 ghost use Rattle.command_callers.specs.Folders.{HoldsFile, RefusesAs};
+ghost use Rattle.command_callers.specs.Refusals.{IsForMemory};
 
 use mate_files::Files;
 use mate_refusals::Refusal;
 use mate_steps::{
-    CodeFault, CompiledScript, compiled_script, expansion_of, machine_of, read_file, source_of,
+    CodeFault, CompiledScript, SourceRefusal, accept, compiled_script, expansion_of, machine_of,
+    read_file, source_of,
 };
 use std::alloc::Global;
-use ts_syntax::{Checked, Script};
+use ts_checked::Checked;
+use ts_parser::verdict_law;
+use ts_syntax::Script;
 use vm_desc::Description;
 
-/// No other description is read in the place of one that isn't there.
+/// No other description is read instead of one that isn't there.
 pub fn a_missing_description_is_told_by_its_name<F: Files>(
     alloc: Global,
     files: &mut F,
@@ -54,12 +65,12 @@ pub fn an_unfolded_source_keeps_its_tree<F: Files>(
     name: &str,
 ) -> Result<CompiledScript, Refusal>
     ensures { (bytes : List ℕ) → HoldsFile (record { told = F.contents files.old; steady = F.steady files.old }) name.now (Some bytes)
-        → IfOk result (λ c. IsAccepted desc.now bytes (tree_of c.script)) }
+        → IfOk result (λ c. IsAccepted desc.now bytes (checked_tree c.script)) }
 {
     source_of(alloc, files, desc, false, name)
 }
 
-/// What isn't folded takes no memory.
+/// A script that isn't folded takes no memory.
 pub fn an_unfolded_script_never_wants_memory(
     alloc: Global,
     desc: &Description,
@@ -71,7 +82,7 @@ pub fn an_unfolded_script_never_wants_memory(
     compiled_script(alloc, desc, false, script)
 }
 
-/// A text of a machine that isn't read for want of memory is no bad description.
+/// A description that isn't read because memory ran out is no bad description.
 pub fn a_right_description_is_refused_for_memory_alone<F: Files>(
     alloc: Global,
     files: &mut F,
@@ -85,7 +96,7 @@ pub fn a_right_description_is_refused_for_memory_alone<F: Files>(
     machine_of(alloc, files, word)
 }
 
-/// A source that isn't expanded for want of memory was read.
+/// A source that isn't expanded because memory ran out was read.
 pub fn a_source_that_is_there_is_never_unread<F: Files>(
     alloc: Global,
     files: &mut F,
@@ -96,4 +107,28 @@ pub fn a_source_that_is_there_is_never_unread<F: Files>(
         → IfErr result (λ r. (why : Unread) → r ≢ InFile name.now (UnreadCause why)) }
 {
     expansion_of(alloc, files, name)
+}
+
+/// A byte that begins no token is told at its place: a body that reads no bytes would accept this source.
+pub fn a_byte_of_no_token_is_told(
+    alloc: Global,
+    desc: &Description,
+) -> Result<Checked, SourceRefusal>
+    ensures { MatchResult result (λ _. ⊥) (λ r. (r ≡ Spelling (BadByte 0)) ⊎ IsForMemory r) }
+{
+    accept(alloc, desc, b"@")
+}
+
+/// What the checks refuse isn't told as misspelt: of a source that spells a script that comes for want of memory alone.
+pub fn a_source_that_spells_a_script_is_not_misspelt(
+    alloc: Global,
+    desc: &Description,
+    bytes: &[u8],
+) -> Result<Checked, SourceRefusal>
+    requires { length bytes.now ≤ FILE_MAX }
+    ensures { (tokens : List Token) (source : Source) → cut bytes.now ≡ Ok tokens → Spells tokens source
+        → IfErr result (λ r. (fault : SourceFault) → r ≡ Spelling fault → fault ≡ SpellingWantsMemory) }
+{
+    verdict_law();
+    accept(alloc, desc, bytes)
 }

@@ -1,4 +1,4 @@
-//! The commands that words say.
+//! The commands that words name.
 
 ghost use Rattle.std.specs.Prelude.{◌≡◌, [], ◌∷◌, codes, Some, None, true, false, option_map};
 ghost use Rattle.command_line.specs.Commands.{Compile, line_said, task_held};
@@ -18,7 +18,7 @@ pub fn compile_is_never_brief<'a>(line: &CommandLine<'a>) -> Option<Command<'a>>
     command_of(line)
 }
 
-/// A line that is refused only for two flags would be taken.
+/// A line that is refused only because of two flags would be taken.
 pub fn a_table_takes_no_flag<'a>(line: &CommandLine<'a>) -> Option<Command<'a>>
     requires { line_said line.now ≡ record { brief = true; fold = false; command = codes "table"; args = codes "builtin" ∷ [] } }
     ensures { option_map task_held result ≡ None }

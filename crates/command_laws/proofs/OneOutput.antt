@@ -1,4 +1,4 @@
--- What is written of a run has one answer, where its reports have one summary.
+-- What is written of a run has one answer, if its reports have one summary.
 use Rattle.std.proofs.Common.{◌≡◌, inl, inr, Bool, true, false, sym, ◌∙◌, subst}
 use Rattle.command_laws.specs.SameText.{SameText}
 use Rattle.journal_once_laws.specs.Ending.{EndsByItself}

@@ -31,7 +31,7 @@ use Rattle.script_programs.specs.SamePrograms.{SameProgram, SamePrograms}
 use Rattle.script_programs.proofs.OnePrograms.{obtained_agrees, programs_agree, installed_same}
 use Rattle.script_programs.proofs.SameMeaning.{meaning-same, places-same}
 use Rattle.script_reader.specs.declared.fault.Cause.{Cause}
-use Rattle.ts_syntax.specs.Statement.{Block}
+use Rattle.ts_checked.specs.Statement.{Block}
 use Rattle.vm_desc.specs.Shapes.{shape_of}
 use Rattle.vm_desc.specs.declared.description.Description.{Description}
 use Rattle.world_programs.specs.Injected.{installs, world_programs}

@@ -1,4 +1,4 @@
--- What is owed of files that tell their bytes is owed of steady ones, but where a file could not be read.
+-- What is owed for files whose bytes contracts can say is owed for steady ones, unless a file could not be read.
 use Rattle.std.proofs.Common.{◌≡◌, ◌⊎◌, inl, inr, ℕ, Bool, true, false, List, [], ◌∷◌, ◌++◌, Option, Some, None, option_to_list, Result, Ok, Err, sym, subst}
 use Rattle.std.specs.Prelude.{IsTrue}
 use Rattle.std.specs.Global.{Vec}

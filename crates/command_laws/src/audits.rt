@@ -1,4 +1,4 @@
-//! What a run wrote, `audit` finds serial.
+//! The law that `audit` finds serial what a run wrote.
 
 ghost use Rattle.std.specs.Prelude.{◌≡◌, ◌≤◌, List, ℕ, Bool, false, length, codes, Some, Result, Ok};
 ghost use Rattle.mate_num.specs.declared.bounds.TheConstants.{FILE_MAX};
@@ -12,9 +12,10 @@ ghost use Rattle.mate_files.specs.Files.{Names};
 ghost use Rattle.mate_refusals.specs.declared.refusal.Refusal.{Refusal};
 ghost use Rattle.mate_steps.specs.OneAnswer.{steady};
 
-/// What `node` wrote, and what `sim` wrote, `audit` finds serial. Where the files are steady, the command owes a run, a text of that run
-/// is that of its whole report or of the one up to where its log was full, and a file holds this text, of 1,048,576 bytes or less:
-/// then `audit` with the same machine, the same script and this file owes `serial` and a line feed, or memory is wanting.
+/// `audit` finds serial what `node` and `sim` wrote. Suppose that the files are steady, the command owes a run, a text is
+/// that of the run's whole report or of the one up to where its log was full, and a file holds this text, of
+/// 1,048,576 bytes or less: then `audit` with the same machine, the same script and this file owes `serial` and a
+/// line feed, unless memory runs out.
 pub fn written_runs_are_found_serial()
     ensures nodes { (names : Names) (fold : Bool) (vm script report : List ℕ) (o : Output) (full : Bool) (bs : List ℕ)
         (answer : Result Output Refusal) →

@@ -1,5 +1,5 @@
-//! Completeness of the top call: what the words and steady files are owed is one answer, and an output that is owed comes; and what a
-//! run wrote, `audit` finds serial.
+//! Completeness of the top call: words and steady files are owed one answer, and an output that is owed comes; and
+//! `audit` finds serial what a run wrote.
 #![tactic(auto)]
 
 pub mod audits;

@@ -11,7 +11,7 @@ use crate::compilation::Compilation;
 use crate::made_run::MadeRun;
 use crate::script_run::ScriptRun;
 
-/// A command, with the words that go to it.
+/// A command, with its words.
 #[derive(Clone, Copy)]
 pub enum Command<'a> {
     /// Runs a node script.
@@ -24,17 +24,17 @@ pub enum Command<'a> {
     Table { machine: &'a str },
     /// Writes the image of a source's capsule.
     Compile(Compilation<'a>),
-    /// Writes the text of the capsule of a machine that the file `capsule` has in hexadecimal digits.
+    /// Writes the text of a capsule; the file `capsule` has it in hexadecimal digits.
     Check { machine: &'a str, capsule: &'a str },
-    /// Writes the plain script that the source with procedures in a file stands for.
+    /// Writes the plain script that a source with procedures expands to.
     Expand { source: &'a str },
-    /// Writes what a new node of a machine answers to the capsules in the file `stream`, which has the bytes of a serial line.
+    /// Writes what a new node of a machine answers to the capsules in the file `stream`, which holds the bytes of a serial line.
     Feed { machine: &'a str, stream: &'a str },
     /// Says whether a report shows serial behaviour.
     Audit(Audit<'a>),
 }
 
-/// The command of a line; None where its word is unknown, or has other words or flags than the command takes.
+/// The command of a line; None if its word is unknown, or the other words or flags are not those that the command takes.
 pub fn command_of<'a>(line: &CommandLine<'a>) -> Option<Command<'a>>
     ensures { option_map task_held result ≡ task_of (line_said line.now) }
 {
@@ -210,7 +210,7 @@ fn number_of(word: &str) -> Option<u64>
     }
 }
 
-/// Whether these are a digit from 1 to 9, and digits.
+/// Whether the first is a digit from 1 to 9, and all others are digits.
 fn is_counting(digits: &[u8]) -> bool
     ensures { result ≡ is_counting digits.now }
 {

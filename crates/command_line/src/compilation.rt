@@ -2,13 +2,13 @@
 
 ghost use Rattle.std.specs.Prelude.{◌≤◌};
 
-/// What to compile: the source in a file, as a version for the handler of this name.
+/// What to compile: the source in a file, as a version of the code of the handler of this name.
 #[derive(Clone, Copy)]
 pub struct Compilation<'a> {
     /// A description's file, or `builtin`.
     pub machine: &'a str,
     pub handler: &'a str,
-    /// From 1 on.
+    /// 1 or more.
     pub version: u32,
     pub source: &'a str,
     /// Whether the source is folded before it is compiled.

@@ -1,4 +1,4 @@
-//! The words of the command line, read by `clap` as one simple command, and the command of the program that they say.
+//! The words of the command line, read by `clap` as one simple command, and the command of the program that they name.
 #![tactic(auto)]
 
 pub mod audit;

@@ -8,6 +8,6 @@ pub struct ScriptRun<'a> {
     pub script: &'a str,
     /// Whether sources are folded before they are compiled.
     pub fold: bool,
-    /// Whether the summary of the report is asked for in place of its text.
+    /// Whether the summary of the report is asked for instead of its text.
     pub brief: bool,
 }

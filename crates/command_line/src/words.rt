@@ -23,10 +23,10 @@ pub struct CommandLine<'a> {
     pub args: Vec<&'a str>,
 }
 
-/// Why words say nothing.
+/// Why words are not read.
 #[derive(Clone, Copy)]
 pub enum WordsFault {
-    /// They are no command and flags: an unknown flag, one that is given twice or with a value, or no command.
+    /// They aren't a command and flags: an unknown flag, one that is given twice or with a value, or no command.
     NotTaken,
     NoMemory,
 }
@@ -41,8 +41,8 @@ impl From<AllocError> for WordsFault {
     }
 }
 
-/// Reads the words, which don't hold the program's own name. A flag may stand anywhere before `--`; after it all words
-/// are taken as they are. Any other word that begins with `-` and isn't `-` alone is refused before `--`.
+/// Reads the words, without the program's own name. A flag may come anywhere before `--`; after `--` all words are
+/// taken as they are. Before it, any other word that begins with `-` and isn't `-` alone is refused.
 #[inline(never)]
 pub fn read<'a>(alloc: Global, words: &'a [String]) -> Result<CommandLine<'a>, WordsFault>
     ensures { ReadsLine (map string_bytes words.now) result }
@@ -63,7 +63,7 @@ pub fn read<'a>(alloc: Global, words: &'a [String]) -> Result<CommandLine<'a>, W
     })
 }
 
-/// The one command that the program has.
+/// The one command that `clap` knows: flags and words.
 fn command<'a>(alloc: Global) -> Result<Command<'a>, AllocError>
     ensures { IfOk result (λ c. app_of c ≡ mate_command) }
 {
@@ -100,7 +100,7 @@ fn other_words<'a>(alloc: Global) -> Arg<'a>
         .num_args(0..)
 }
 
-/// Whether the flag stands among the words.
+/// Whether the flag is among the words.
 fn is_given(matches: &ArgMatches<'_>, flag: &str) -> bool
     ensures { result ≡ is_given flag.now (rows_of (found_of matches.now)) }
 {
@@ -111,9 +111,10 @@ fn is_given(matches: &ArgMatches<'_>, flag: &str) -> bool
     }
 }
 
-/// The words that go to the command.
+/// The words after the command.
 fn args_in<'a>(alloc: Global, matches: &ArgMatches<'a>) -> Result<Vec<&'a str>, WordsFault>
-    ensures args { IfOk result (λ args. map (λ w. w.now) args.items ≡ unwrap_or (all_of (codes "args") (rows_of (found_of matches.now))) []) }
+    ensures args { IfOk result (λ args. map (λ w. w.now) args.items
+        ≡ unwrap_or (all_of (codes "args") (rows_of (found_of matches.now))) []) }
     ensures memory { IfErr result (λ e. e ≡ NoMemory) }
 {
     let mut args = Vec::new(alloc);

@@ -8,7 +8,7 @@ use mate_num::{CONTEXTS_MAX, ContextId, NoMemory};
 use std::alloc::Global;
 use std::marker::Model;
 
-/// The ready contexts, none twice. Contracts see the list of them, from the next turn on.
+/// The ready contexts, none twice. Contracts see the list of them, the one with the next turn first.
 pub struct Ring {
     ready: HeapCircularBuffer<ContextId>,
 }
@@ -33,7 +33,7 @@ impl Model for Ring {
 }
 
 impl Ring {
-    /// A ring of no context, with room for all that a node can have. No other call takes memory.
+    /// An empty ring, with room for all contexts that a node can have. No other call takes memory.
     pub fn new(alloc: Global) -> Result<Ring, NoMemory>
         ensures { IfOk result (λ ring. ring ≡ []) }
     {
@@ -56,7 +56,7 @@ impl Ring {
         self.ready.is_empty()
     }
 
-    /// The context that has the next turn; None exactly where none is ready.
+    /// The context that has the next turn; None exactly if none is ready.
     pub fn first(&self) -> Option<ContextId>
         ensures { result ≡ slice_get self.now 0 }
     {
@@ -70,7 +70,7 @@ impl Ring {
         self.ready.iter().any(|c| ctx.0 == c.0)
     }
 
-    /// Puts `ctx` last.
+    /// Puts `ctx` last. It must not be ready yet.
     pub fn ready(&mut self, ctx: ContextId)
         requires context { ctx.0 < CONTEXTS_MAX }
         requires absent { holds self.old ctx ≡ false }
@@ -80,7 +80,7 @@ impl Ring {
         let _ = self.ready.push_back(ctx);
     }
 
-    /// Takes the first context; None exactly where none is ready.
+    /// Takes the first context; None exactly if none is ready.
     pub fn next(&mut self) -> Option<ContextId>
         ensures first { MatchOption result ((self.old ≡ []) × (self.new ≡ [])) (λ ctx. self.old ≡ ctx ∷ self.new) }
         ensures context { IfSome result (λ ctx. ctx.0 < CONTEXTS_MAX) }
@@ -89,7 +89,7 @@ impl Ring {
         self.ready.pop_front()
     }
 
-    /// Takes `ctx` out, wherever it stands, and the others keep their order. Nothing changes where it isn't ready.
+    /// Takes `ctx` out, wherever it is; the others keep their order. Nothing changes if it isn't ready.
     pub fn remove(&mut self, ctx: ContextId)
         ensures rest { self.new ≡ without self.old ctx }
         ensures held { Changes self.old self.new ctx false }
@@ -103,7 +103,7 @@ impl Ring {
         }
     }
 
-    /// No context is ready.
+    /// No context is ready any more.
     pub fn clear(&mut self)
         ensures { self.new ≡ [] }
     {

@@ -1,4 +1,4 @@
--- A report that goes on behind an event: its text begins with the same lines.
+-- A report that goes on after an event: its text begins with the same lines.
 use Rattle.std.proofs.Common.{◌≡◌, ◌≢◌, ℕ, zero, suc, ◌+◌, ◌<◌, ◌≤◌, List, [], ◌∷◌, ◌++◌, length, drop, refl, sym, ◌∙◌, ap, subst, arith, append-nil, append_assoc}
 use Rattle.std.specs.Prelude.{flat_map, All, ◌==◌}
 use Rattle.std.specs.List.{AllZip}

@@ -1,4 +1,4 @@
-//! That a run that was stopped begins the whole run: of a node script, and of a world.
+//! Laws: what a run did that was stopped is a beginning of the whole run, for a node script and for a world.
 
 ghost use Rattle.std.specs.Prelude.{◌≡◌, ◌++◌, ℕ, List, Option};
 ghost use Rattle.vm_desc.specs.declared.description.Description.{Description};
@@ -17,21 +17,21 @@ ghost use Rattle.world_script.specs.declared.world.World.{World as Script};
 ghost use Rattle.world_script.specs.World.{IsRightWorld};
 ghost use Rattle.cut_laws.specs.Begins.{Begins};
 
-/// A run that was cut begins each run in which its steps, and maybe more, were done.
+/// A run that was cut is a beginning of each run in which its steps, and maybe more, were done.
 pub fn fewer_steps_begin_more()
     ensures { (m : Machine) (steps more : List Step) (how : RunEnd) (l l' : Log) → (run : IsNodeRun m Cut steps l)
         → (run' : IsNodeRun m how steps l')
         → run'.events.done ≡ run.events.done ++ more → Begins (journal_of l) (journal_of l') }
 {}
 
-/// What was written of a node script's run that was stopped begins the text of the whole run.
+/// What was written of a node script's run that was stopped is a beginning of the text of the whole run.
 pub fn stopped_scripts_begin_whole_ones()
     ensures { (d : Description) (meaning : Meaning) (steps : List Step) (out out' : Option (List ℕ)) (r r' : Report)
         → (left : IsWrittenPart d (IsNodeReport d meaning steps) out out' r)
         → IsNodeReport d meaning steps Whole r' → Begins left.part.front (text d r') }
 {}
 
-/// And so of a world's run.
+/// The same for a world's run.
 pub fn stopped_worlds_begin_whole_ones()
     ensures { (d : Description) (meaning : Meaning) (script : Script) (programs : ℕ
         → HeldProgram) (out out' : Option (List ℕ)) (r r' : Report) → IsRightWorld d script

@@ -1,4 +1,4 @@
-//! That what is left of a run that was stopped begins what the whole run would have written.
+//! The law that what was written of a run that was stopped is a beginning of what the whole run would have written.
 #![tactic(auto)]
 
 pub mod laws;

@@ -4,7 +4,7 @@ ghost use Rattle.std.specs.Prelude.{◌≡◌, ◌<◌, ◌≤◌, ◌+◌, ◌*
 ghost use Rattle.std.specs.Char.{is_ascii_digit, digit_value};
 ghost use Rattle.decimal_text.specs.Spelling.{spelled};
 
-/// The number that the bytes spell, and 0 for no bytes; None exactly where one of them is no digit or the number has more than 64 bits.
+/// The number that the bytes spell, 0 for no bytes; None exactly if one of them is no digit or the number is 2^64 or more.
 pub fn spelled(bytes: &[u8]) -> Option<u64>
     ensures { result ≡ spelled bytes.now }
 {
@@ -15,7 +15,7 @@ pub fn spelled(bytes: &[u8]) -> Option<u64>
     Some(number)
 }
 
-/// The number with one more digit behind it; None where the byte is no digit, or the number then has more than 64 bits.
+/// The number with one more digit after it; None if the byte is no digit, or the number is then 2^64 or more.
 fn with_digit(number: u64, byte: u8) -> Option<u64>
     ensures { MatchOption result (is_ascii_digit byte ≡ true → 2 ^ 64 ≤ number * 10 + digit_value byte)
         (λ n. (is_ascii_digit byte ≡ true) × (n ≡ number * 10 + digit_value byte) × (n < 2 ^ 64)) }

@@ -1,4 +1,4 @@
-//! The instructions that ask a function.
+//! The instructions that call a function.
 
 ghost use Rattle.std.specs.Prelude.{◌≡◌, ◌<◌, ◌≤◌, length, Some};
 ghost use Rattle.mate_code.specs.Effect.{args_of};
@@ -17,7 +17,7 @@ use code_verifier::{Verified, args};
 use mate_num::{BufId, FunId, Shape};
 use node_heap::Heap;
 
-/// Does the instruction at the registers' place, which asks the function with values of the stack.
+/// Does the instruction at the registers' place, a call of the function with values of the stack.
 pub fn ask(
     code: &Verified,
     registers: &mut Registers,
@@ -37,7 +37,7 @@ pub fn ask(
     take_arguments(code.shape(), registers.past(1), memory, fun)
 }
 
-/// Does the instruction at the registers' place, which asks the function with the values of the buffer.
+/// Does the instruction at the registers' place, a call of the function with the values of the buffer.
 pub fn send(
     code: &Verified,
     registers: &mut Registers,
@@ -56,7 +56,7 @@ pub fn send(
     take_values(registers.past(2), memory, heap, fun, buffer)
 }
 
-// Asks with the arguments on the stack.
+// Calls with the arguments on the stack.
 fn take_arguments(
     shape: &Shape,
     registers: &mut Registers,
@@ -73,7 +73,7 @@ fn take_arguments(
     StepEnd::Ask { fun, args }
 }
 
-// Asks with the values of a buffer.
+// Calls with the values of a buffer.
 fn take_values(
     registers: &mut Registers,
     memory: &mut Memory,

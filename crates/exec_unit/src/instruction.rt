@@ -21,9 +21,8 @@ use mate_code::Instr;
 use mate_num::{Num16, Shape};
 use node_heap::Heap;
 
-/// Does the instruction at the registers' place, unless it asks a function. Each arm goes past its own number of bytes, so that the
-/// next place waits
-/// for nothing that is read from the code.
+/// Does the instruction at the registers' place, unless it calls a function. Each arm adds its own number of bytes to
+/// the place, so that the next place doesn't wait for anything that is read from the code.
 #[inline(always)]
 pub fn act(
     shape: &Shape,

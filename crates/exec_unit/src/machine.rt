@@ -7,7 +7,7 @@ use crate::registers::{Memory, Registers};
 use mate_num::Payload;
 use std::marker::Model;
 
-/// What an invocation of a handler has of its own: the place of its next instruction, its stack of at most
+/// What an invocation of a handler has of its own: the place of its next instruction, in bytes, its stack of at most
 /// 16 values, its private variables, the turns that it has left, and its message.
 ///
 /// Contracts see it as mate_code's `Private`, whose stack has the top first.
@@ -84,7 +84,7 @@ impl Machine {
         &self.memory.privates
     }
 
-    /// Goes on at the place, with so many turns, and with these values on the stack, the top last, and in the private
+    /// Goes on at the place, with these turns left, these values on the stack, the top last, and these private
     /// variables. The message stays.
     #[tactic(auto, unfolding(crate::specs::Machine::private_in))]
     pub fn move_to(&mut self, place: u32, turns: u32, stack: &[i16], privates: &[i16])

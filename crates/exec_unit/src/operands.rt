@@ -73,7 +73,7 @@ pub fn on_two<F: FnOnce(Num16, Num16) -> Num16>(
     PlainEnd::Next
 }
 
-// The same for a function that has no value where the right one is 0.
+// The same for a function that has no value if the right one is 0.
 pub fn divide<F: FnOnce(Num16, Num16) -> Option<Num16>>(
     registers: &mut Registers,
     memory: &mut Memory,
@@ -89,7 +89,7 @@ pub fn divide<F: FnOnce(Num16, Num16) -> Option<Num16>>(
     give_quotient(registers, memory, quotient)
 }
 
-// Pushes a quotient or a remainder, or faults where there is none.
+// Pushes a quotient or a remainder, or faults if there is none.
 fn give_quotient(registers: &mut Registers, memory: &mut Memory, value: Option<Num16>) -> PlainEnd
     requires { registers.old.depth < 16 }
     ensures { FollowsAlone (gives (or_div_zero value) (private_in registers.old memory.old)) (step_end result)
@@ -101,6 +101,7 @@ fn give_quotient(registers: &mut Registers, memory: &mut Memory, value: Option<N
     }
 }
 
+/// Pushes a private variable, from 0 to 7.
 pub fn get_private(registers: &mut Registers, memory: &mut Memory, private: u8) -> PlainEnd
     requires known { private < 8 }
     requires room { registers.old.depth < 16 }
@@ -111,6 +112,7 @@ pub fn get_private(registers: &mut Registers, memory: &mut Memory, private: u8) 
     give(registers, memory, value)
 }
 
+/// Pops into a private variable, from 0 to 7.
 pub fn set_private(registers: &mut Registers, memory: &mut Memory, private: u8) -> PlainEnd
     requires known { private < 8 }
     requires operand { 1 ≤ registers.old.depth }
@@ -122,6 +124,7 @@ pub fn set_private(registers: &mut Registers, memory: &mut Memory, private: u8) 
     PlainEnd::Next
 }
 
+/// Pops, and drops the value.
 pub fn drop_top(registers: &mut Registers, memory: &mut Memory) -> PlainEnd
     requires { 1 ≤ registers.old.depth }
     ensures { DoesAlone instrs.Drop (private_in registers.old memory.old) (step_end result) (private_in registers.new memory.new) }
@@ -130,6 +133,7 @@ pub fn drop_top(registers: &mut Registers, memory: &mut Memory) -> PlainEnd
     PlainEnd::Next
 }
 
+/// Pops; if the value is 0, goes on at `place`.
 pub fn jump_at_zero(registers: &mut Registers, memory: &mut Memory, place: u16) -> PlainEnd
     requires { 1 ≤ registers.old.depth }
     ensures { DoesAlone (instrs.Jz place) (private_in registers.old memory.old) (step_end result) (private_in registers.new memory.new) }
@@ -141,6 +145,7 @@ pub fn jump_at_zero(registers: &mut Registers, memory: &mut Memory, place: u16) 
     PlainEnd::Next
 }
 
+/// Goes on at `place`.
 pub fn jump(registers: &mut Registers, memory: &mut Memory, place: u16) -> PlainEnd
     ensures { DoesAlone (instrs.Jmp place) (private_in registers.old memory.old) (step_end result) (private_in registers.new memory.new) }
 {
@@ -148,6 +153,7 @@ pub fn jump(registers: &mut Registers, memory: &mut Memory, place: u16) -> Plain
     PlainEnd::Next
 }
 
+/// Pays a turn, and goes on at `place`; faults with `Overrun` if no turn is left.
 pub fn go_back(registers: &mut Registers, memory: &mut Memory, place: u16) -> PlainEnd
     ensures { DoesAlone (instrs.Back place) (private_in registers.old memory.old) (step_end result) (private_in registers.new memory.new) }
 {
@@ -158,6 +164,7 @@ pub fn go_back(registers: &mut Registers, memory: &mut Memory, place: u16) -> Pl
     PlainEnd::Next
 }
 
+/// Pops an index, from 0, and pushes that value of the message; faults with `Index` outside its values.
 pub fn get_message_item(registers: &mut Registers, memory: &mut Memory) -> PlainEnd
     requires operand { 1 ≤ registers.old.depth }
     ensures { DoesAlone instrs.MsgGet (private_in registers.old memory.old) (step_end result) (private_in registers.new memory.new) }
@@ -167,6 +174,7 @@ pub fn get_message_item(registers: &mut Registers, memory: &mut Memory) -> Plain
     give_or_fault(registers, memory, value)
 }
 
+/// Pushes the number of values of the message.
 pub fn get_message_size(registers: &mut Registers, memory: &mut Memory) -> PlainEnd
     requires { registers.old.depth < 16 }
     ensures { DoesAlone instrs.MsgSize (private_in registers.old memory.old) (step_end result) (private_in registers.new memory.new) }

@@ -6,8 +6,8 @@ use mate_num::Payload;
 
 /// The place of the next instruction, how many values are on the stack, and the turns that are left.
 ///
-/// A loop over instructions holds these apart from the arrays, so that the compiler keeps them in registers: the depth as
-/// wide as an index, and the place not, since it would keep two of one width in one vector.
+/// A loop over instructions holds these apart from the arrays, so that the compiler keeps them in registers. The
+/// depth is as wide as an index and the place isn't, since two of one width would be kept in one vector.
 #[derive(Clone, Copy)]
 pub struct Registers {
     pub place: u32,
@@ -16,7 +16,7 @@ pub struct Registers {
     ghost fits: { depth ≤ 16 },
 }
 
-/// The stack, whose top is its last value of so many as the registers say, the private variables, and the message.
+/// The stack, whose values are its first `depth` ones, the top last, the private variables, and the message.
 #[derive(Drop)]
 pub struct Memory {
     pub stack: [i16; 16],

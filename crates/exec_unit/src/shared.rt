@@ -1,5 +1,5 @@
-//! The instructions that use shared variables and buffers. Each function does its instruction for registers that are already at the
-//! place after it.
+//! The instructions that use shared variables and buffers. Each function does its instruction for registers that are
+//! already at the place after it.
 
 ghost use Rattle.std.specs.Prelude.{◌≡◌, ◌<◌, ◌≤◌, length};
 ghost use Rattle.mate_code.specs.declared.instr.Instr.TheVariants as instrs;
@@ -12,6 +12,7 @@ use crate::step_end::PlainEnd;
 use mate_num::{BufId, FaultKind, VarId};
 use node_heap::Heap;
 
+/// Pushes a shared variable.
 pub fn get_variable(
     registers: &mut Registers,
     memory: &mut Memory,
@@ -26,6 +27,7 @@ pub fn get_variable(
     give(registers, memory, heap.get(variable))
 }
 
+/// Pops into a shared variable.
 pub fn set_variable(
     registers: &mut Registers,
     memory: &mut Memory,
@@ -42,6 +44,7 @@ pub fn set_variable(
     PlainEnd::Next
 }
 
+/// Pops an index, from 0, and pushes that value of the buffer; faults with `Index` outside its values.
 pub fn get_item(
     registers: &mut Registers,
     memory: &mut Memory,
@@ -57,6 +60,7 @@ pub fn get_item(
     give_or_fault(registers, memory, heap.item(buffer, index))
 }
 
+/// Pops a value, pops an index, and stores the value in the buffer; faults with `Index` outside its values.
 pub fn set_item(
     registers: &mut Registers,
     memory: &mut Memory,
@@ -73,6 +77,7 @@ pub fn set_item(
     end_of(heap.set_item(buffer, index, value))
 }
 
+/// Pops, and appends to the buffer; faults with `BufferFull` if it holds 10.
 pub fn append(
     registers: &mut Registers,
     memory: &mut Memory,
@@ -88,6 +93,7 @@ pub fn append(
     end_of(heap.append(buffer, value))
 }
 
+/// Takes the buffer's last value and pushes it; faults with `BufferEmpty` if there is none.
 pub fn take(
     registers: &mut Registers,
     memory: &mut Memory,
@@ -102,6 +108,7 @@ pub fn take(
     give_or_fault(registers, memory, heap.take(buffer))
 }
 
+/// Pushes the number of values in the buffer.
 pub fn get_size(
     registers: &mut Registers,
     memory: &mut Memory,
@@ -116,6 +123,7 @@ pub fn get_size(
     give(registers, memory, heap.size(buffer))
 }
 
+/// Empties the buffer.
 pub fn clear(
     registers: &mut Registers,
     memory: &mut Memory,
@@ -132,7 +140,7 @@ pub fn clear(
     PlainEnd::Next
 }
 
-// How an instruction ends that changed a buffer or was refused.
+// How an instruction ends that changes a buffer, or whose change was refused.
 fn end_of(outcome: Result<(), FaultKind>) -> PlainEnd
     ensures { result ≡ ended outcome }
 {

@@ -17,7 +17,7 @@ use mate_num::{FaultKind, Payload};
 const ROOM: usize = 10;
 
 impl Registers {
-    // Goes past an instruction of so many bytes.
+    // Goes past an instruction of `size` bytes.
     pub(crate) fn past(&mut self, size: u32) -> &mut Registers
         requires { self.old.place + size ≤ CODE_MAX }
         ensures same { result.ghost_name ≡ self.entry.ghost_name }
@@ -35,7 +35,7 @@ impl Registers {
         self.place = u32::from(place);
     }
 
-    // Pays a turn. Answers whether one was left.
+    // Pays a turn. Returns whether one was left.
     pub(crate) fn pay(&mut self) -> bool
         ensures { (m : AnyMemory) → Pays (private_in self.old m) result (private_in self.new m) }
     {
@@ -64,7 +64,7 @@ impl Registers {
         value
     }
 
-    // Pops so many values, the last argument first.
+    // Pops `count` values, the last argument first.
     pub(crate) fn pop_arguments(&mut self, memory: &Memory, count: u8) -> Payload
         requires { count ≤ self.old.depth }
         ensures value { result ≡ arguments count (private_in self.old memory.now).stack }
@@ -108,7 +108,7 @@ impl Memory {
         self.privates[usize::from(private)] = value;
     }
 
-    // The value of the message at an index; the fault Index exactly outside its values.
+    // The value of the message at an index; the fault `Index` exactly if it is outside its values.
     pub(crate) fn message_item(&self, index: i16) -> Result<i16, FaultKind>
         ensures { (r : AnyRegisters) → result ≡ item_of (private_in r self.now).msg index }
     {
@@ -126,7 +126,7 @@ impl Memory {
     }
 }
 
-// The values below the depth, with one more.
+// The first `depth` values, with one more after them.
 #[tactic(auto, using(crate::proofs::StackLemmas::put_reverse))]
 fn put(stack: &mut [i16; 16], depth: usize, value: i16)
     requires { depth < 16 }
@@ -135,7 +135,7 @@ fn put(stack: &mut [i16; 16], depth: usize, value: i16)
     stack[depth] = value;
 }
 
-// The last of so many values.
+// The last of the first `depth` values.
 #[tactic(auto, using(crate::proofs::StackLemmas::last_reverse))]
 fn last(stack: &[i16; 16], depth: usize) -> i16
     requires some { 1 ≤ depth }
@@ -145,7 +145,7 @@ fn last(stack: &[i16; 16], depth: usize) -> i16
     stack[depth - 1]
 }
 
-// The values behind the first ones, of so many.
+// The values from `first` on, up to `depth`.
 #[tactic(auto, using(crate::proofs::StackLemmas::between_is))]
 fn between(stack: &[i16; 16], first: usize, depth: usize) -> &[i16]
     requires first { first ≤ depth }

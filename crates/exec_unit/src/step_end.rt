@@ -10,7 +10,7 @@ use mate_num::{BufId, FaultKind, FunId, Payload};
 pub enum StepEnd {
     /// The machine goes on at its next instruction.
     Next,
-    /// It asks a function, and waits for the answer.
+    /// It calls `fun` with `args`, and waits for the answer.
     Ask { fun: FunId, args: Payload },
     /// It ran to its end.
     Halt,
@@ -18,7 +18,7 @@ pub enum StepEnd {
     Fault(FaultKind),
 }
 
-/// How an instruction ended that asks no function.
+/// How an instruction ended that calls no function.
 #[derive(Clone, Copy)]
 pub enum PlainEnd {
     Next,
@@ -26,8 +26,8 @@ pub enum PlainEnd {
     Fault(FaultKind),
 }
 
-/// What came of an instruction: it was done; or it asks a function, with values of the stack or of a buffer, and nothing
-/// was done yet. It holds no arguments, so that a loop over instructions writes nothing for it.
+/// What an instruction came to: it was done; or it calls a function, with values of the stack or of a buffer, and
+/// nothing was done yet. It holds no arguments, so that a loop over instructions writes nothing for it.
 #[derive(Clone, Copy)]
 pub enum Act {
     Done(PlainEnd),

@@ -14,8 +14,8 @@ use crate::step_end::{Act, StepEnd};
 use code_verifier::Verified;
 use node_heap::Heap;
 
-// Executes the instruction at the registers' place, unless it asks a function. A loop over instructions holds nothing that
-// has to be written in each round.
+// Executes the instruction at the registers' place, unless it calls a function. It returns nothing that a loop over
+// instructions would have to write in each round.
 #[inline(always)]
 pub(crate) fn advance(
     code: &Verified,
@@ -50,11 +50,11 @@ fn execute(
     }
 }
 
-/// Executes the instruction at the machine's place. It takes no memory, and copies neither code nor a
-/// payload, but for that of an `Ask`, which it builds once.
+/// Executes the instruction at the machine's place. It takes no memory, and copies neither code nor payloads, except
+/// that it builds the arguments of an `Ask` once.
 ///
-/// After `Next` the machine fits the code again; after an `Ask` it waits in the code, for `resume`. After
-/// `Halt` and `Fault` nothing more is to be done with it.
+/// After `Next` the machine fits the code again; after an `Ask` it waits in the code, for `resume`. After `Halt` and
+/// `Fault` the machine isn't stepped again.
 pub fn step(code: &Verified, machine: &mut Machine, heap: &mut Heap) -> StepEnd
     requires fits { IsAtVerified code.now machine.old }
     requires lengths { HasLengths code.now.shape heap.old }
@@ -63,7 +63,7 @@ pub fn step(code: &Verified, machine: &mut Machine, heap: &mut Heap) -> StepEnd
     execute(code, &mut machine.registers, &mut machine.memory, heap)
 }
 
-/// Gives a machine that waits in this code the answer to its call.
+/// Gives the answer of its call to a machine that waits in this code.
 pub fn resume(code: &Verified, machine: &mut Machine, value: i16)
     requires { Waits code.now machine.old }
     ensures pushed { machine.new ≡ push value machine.old }

@@ -1,4 +1,4 @@
--- The checks of a script don't depend on its places, but for those of a refusal.
+-- The checks of a script don't depend on its places, except for those of a refusal.
 use Rattle.std.proofs.Common.{◌≡◌, ℕ, suc, ◌==◌, nat_lt, nat_le, Bool, true, false, ◌&&◌, if◌then◌else◌, List, [], ◌∷◌, map, Option, Some, None, Result, Ok, Err, refl, sym, ◌∙◌, ap}
 use Rattle.std.specs.Prelude.{bytes_eq, ok_or}
 use Rattle.std.specs.Result.{result_ok}
@@ -10,8 +10,8 @@ use Rattle.vm_desc.specs.declared.function.FunKind.{FunKind}
 use Rattle.ts_syntax.specs.declared.script.Decl.{Decl}
 use Rattle.ts_syntax.specs.declared.stmt.Step.{Step}
 use Rattle.ts_syntax.specs.declared.word.Word.{Word}
-use Rattle.ts_syntax.specs.Expression.{Arguments}
-use Rattle.ts_syntax.specs.Statement.{Block}
+use Rattle.ts_checked.specs.Expression.{Arguments}
+use Rattle.ts_checked.specs.Statement.{Block}
 use Rattle.ts_syntax.specs.Tree as given
 use Rattle.ts_syntax.specs.Tree.{Tree, Trees, no_trees, tree_then, Act, Acts, no_acts, act_then, Source}
 use Rattle.ts_scope.specs.declared.fault.CheckFault.{CheckFault}

@@ -3,7 +3,7 @@ use Rattle.std.proofs.Common.{ℕ, Bool, List, Ok, ◌∙◌, ap, subst}
 use Rattle.vm_desc.specs.Shapes.{shape_of}
 use Rattle.vm_desc.specs.declared.description.Description.{Description}
 use Rattle.ts_syntax.specs.Seen.{source_seen}
-use Rattle.ts_syntax.specs.Statement.{Block}
+use Rattle.ts_checked.specs.Statement.{Block}
 use Rattle.ts_syntax.specs.declared.script.Script.{Script}
 use Rattle.ts_printer.specs.Line.{script_line}
 use Rattle.ts_checker.specs.Accepted.{IsAccepted}

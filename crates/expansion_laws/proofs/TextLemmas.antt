@@ -1,4 +1,4 @@
--- The text of an expansion is cut and parsed into it, but for its places.
+-- The text of an expansion is cut and parsed into it, except for its places.
 use Rattle.std.proofs.Common.{◌≡◌, ℕ, List, ◌++◌, None, Result, Ok, sym, ◌∙◌, ap, subst}
 use Rattle.std.specs.Prelude.{codes}
 use Rattle.vm_desc.specs.declared.description.Description.{Description}
@@ -8,7 +8,7 @@ use Rattle.ts_syntax.specs.Derived.{IsDerived}
 use Rattle.ts_syntax.specs.Faults.{Spells}
 use Rattle.ts_syntax.specs.Spelling.{source_spelled}
 use Rattle.ts_syntax.specs.Spelling as spelling
-use Rattle.ts_syntax.specs.Statement.{Block}
+use Rattle.ts_checked.specs.Statement.{Block}
 use Rattle.ts_syntax.specs.Text.{text_of}
 use Rattle.ts_syntax.specs.Tree.{Source}
 use Rattle.ts_syntax.specs.declared.token.Token.{Token}

@@ -1,4 +1,4 @@
-//! An expansion is a plain script, and its text means what the source with procedures does.
+//! Laws: an expansion is a plain script, and its text means what the source with procedures does.
 
 ghost use Rattle.std.specs.Prelude.{ℕ, List};
 ghost use Rattle.ts_syntax.specs.Derived.{IsDerived, IsDerivedWithProcedures};
@@ -19,10 +19,11 @@ pub fn derivation_law()
     ensures { (s : ProcedureSource) → IsDerivedWithProcedures s → IsDerived (expansion s) }
 {}
 
-/// The law of an expansion's text, for a script with procedures that some text spells and whose names pass. Where none of its
-/// tokens lies too deep, the text spells the expansion but for its places. A machine accepts it exactly where so it is and the
-/// checks of the expansion pass, and with their tree. Any such tree runs as the script does with frames. The text may be longer
-/// than the 1,048,576 bytes that a source's file has at most, and then no command reads it.
+/// The law of an expansion's text, for a script with procedures that some text spells and whose names pass. If none
+/// of its tokens is nested too deep, the text spells the expansion except for its places. A machine accepts the text
+/// exactly if that is so and the checks of the expansion pass, and then with their tree. Any such tree runs as the
+/// script does with frames. The text may be longer than 1,048,576 bytes, the most that a source's file has; then no
+/// command reads it.
 pub fn text_law()
     ensures spells { (bytes : List ℕ) (script : PScript) → IsProcedureText bytes (written_of script) → SpellsExpansion (written_of script) }
     ensures accepted { (bytes : List ℕ) (script : PScript) → IsProcedureText bytes (written_of script)
@@ -33,9 +34,9 @@ pub fn text_law()
     verdict_law();
 }
 
-/// The law of compiled expansions: where the step of `expand` gives a plain script for the bytes of a source, and the step of
-/// `compile` code for the text of that script, folded or not, the verifier finds code in its bytes that runs as the source does
-/// with frames, for every store, message, list of answers and number of turns.
+/// The law of compiled expansions: if the step of `expand` gives a plain script for the bytes of a source, and the
+/// step of `compile` gives code for the text of that script, folded or not, the verifier finds code in its bytes that
+/// runs as the source does with frames, for every store, message, list of answers and number of turns.
 pub fn compiled_law()
     ensures { CompilesAsSource }
 {

@@ -1,4 +1,4 @@
-//! The answers to the frames of a stream are those of a node's `install`, frame by frame.
+//! The law that the answers to the frames of a stream are those of a node's `install`, frame by frame.
 
 ghost use Rattle.std.specs.Prelude.{◌≡◌, ℕ, List};
 ghost use Rattle.vm_desc.specs.declared.description.Description.{Description};
@@ -9,7 +9,7 @@ ghost use Rattle.capsule_feed.specs.Answers.{answers_to};
 ghost use Rattle.capsule_feed.specs.declared.answer.Answer.{Answer};
 ghost use Rattle.feed_laws.specs.Installing.{AreAnswered};
 
-/// What the calls of a new node's `install` answer to the frames of a stream, one after another, are the stream's answers.
+/// The answers of a new node's `install` to the frames of a stream, called on one after another, are the stream's answers.
 pub fn answers_are_of_install()
     ensures { (d : Description) (bytes : List ℕ) (told : List Answer) → AreAnswered d (first_state (machine_in d)) (frames bytes) told
         → told ≡ answers_to d bytes }

@@ -2,7 +2,7 @@
 use Rattle.std.specs.Prelude.{ℕ, Bool, List, [], ◌∷◌, ◌++◌, codes, Some}
 use Rattle.ts_syntax.specs.Cut.{token}
 use Rattle.ts_syntax.specs.Tree.{number, two, set, for_next, Acts, no_acts, act_then, Source}
-use Rattle.ts_syntax.specs.declared.bin_op.BinOp.TheVariants.{Sub}
+use Rattle.ts_checked.specs.declared.bin_op.BinOp.TheVariants.{Sub}
 use Rattle.ts_syntax.specs.declared.token.Token.{Token}
 use Rattle.ts_syntax.specs.declared.token.TokenKind.TheVariants as kind
 use Rattle.ts_syntax.specs.declared.word.Word.{Word}

@@ -1,11 +1,11 @@
 //! Checked trees read as lists: callers that exclude wrong bodies of `len`, `get` and `as_slice`.
 
 ghost use Rattle.std.specs.Prelude.{◌≡◌, [], ◌∷◌, map, option_map, None, Some};
-ghost use Rattle.ts_syntax.specs.Expression.{Expression};
-ghost use Rattle.ts_syntax.specs.Statement.{Statement};
-ghost use Rattle.ts_syntax.specs.TreeOf.{args_trees, block_trees, expr_tree, stmt_tree};
+ghost use Rattle.ts_checked.specs.Expression.{Expression};
+ghost use Rattle.ts_checked.specs.Statement.{Statement};
+ghost use Rattle.ts_checked.specs.TreeOf.{args_trees, block_trees, expr_tree, stmt_tree};
 
-use ts_syntax::{CArgs, CBlock, CExpr, CStmt};
+use ts_checked::{CArgs, CBlock, CExpr, CStmt};
 
 pub fn the_argument_at_one_is_the_second(args: &CArgs) -> Option<&CExpr>
     ensures { (first second : Expression) → args_trees args.now ≡ first ∷ second ∷ []

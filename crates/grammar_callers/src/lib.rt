@@ -9,5 +9,6 @@ pub mod openings;
 pub mod parses;
 pub mod prints;
 pub mod procedures;
+pub mod readings;
 pub mod statements;
 pub mod trees;

@@ -2,15 +2,16 @@
 
 ghost use Rattle.std.specs.Prelude.{◌≡◌, [], ◌∷◌, IfOk, OnOk};
 ghost use Rattle.ts_expressions.specs.Boxed.{boxed_tree};
-ghost use Rattle.ts_syntax.specs.Statement.{Statement};
+ghost use Rattle.ts_checked.specs.Statement.{Statement};
 ghost use Rattle.ts_syntax.specs.Tree.{number, two};
-ghost use Rattle.ts_syntax.specs.TreeOf.{block_trees, stmt_tree};
-ghost use Rattle.ts_syntax.specs.declared.bin_op.BinOp.TheVariants.{Sub};
+ghost use Rattle.ts_checked.specs.TreeOf.{block_trees, stmt_tree};
+ghost use Rattle.ts_checked.specs.declared.bin_op.BinOp.TheVariants.{Sub};
 
 use mate_num::NoMemory;
 use std::alloc::{AllocError, Global};
+use ts_checked::{BinOp, CBlock, CStmt};
 use ts_expressions::node::two;
-use ts_syntax::{BinOp, CBlock, CStmt, Expr};
+use ts_syntax::Expr;
 
 pub fn a_difference_is_from_its_left(
     alloc: Global,

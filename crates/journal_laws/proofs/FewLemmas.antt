@@ -17,7 +17,8 @@ use Rattle.mate_journal.specs.Pace.{Pace, no_pace}
 use Rattle.mate_journal.specs.Turns.{entry_at, Turn, IsTurn, mark_of, after_turn, AreTurns, told_in}
 use Rattle.mate_journal.specs.NodeScript.{Step, Install, Post, StepIn, Run, Answer, Show, ResetNode, Occasion, Installs, IsNotNewer, AnswersCall, IsNotWaiting, Makes, HaveMade}
 use Rattle.mate_journal.specs.declared.report.TheConstants.{RECORDS_MAX}
-use Rattle.mate_journal.proofs.JournalLemmas.{told_by-append}
+use Rattle.mate_journal.proofs.JournalLemmas.{told_by-made}
+use Rattle.journal_laws.specs.Growth.{EndsWithPace}
 use Rattle.journal_laws.proofs.Moves.{Moves, Joins, started-Moves, asked-Moves, answered-Moves, ended-Moves, posted-Joins}
 use Rattle.journal_laws.proofs.Apart.{IsNumbered, live_posted, numbered-step, nothing_heard-orderly}
 
@@ -49,9 +50,9 @@ one-at_most Reset = omega arith
 one-at_most (Seen store) = omega arith
 one-at_most (Void cause) = omega arith
 
-outside-all : (es : List TimedEntry) → outside (untimed es) ≤ length es
+outside-all : (ts : List JournalEntry) → outside ts ≤ length ts
 outside-all [] = omega arith
-outside-all (e ∷ es) = let h = outside-all es in let one = one-at_most e.told in omega (arith, h, one)
+outside-all (t ∷ ts) = let h = outside-all ts in let one = one-at_most t in omega (arith, h, one)
 
 -- ---- what an invocation may still tell by itself
 
@@ -210,23 +211,23 @@ makes-few m r p ResetNode told q made = let e = ap outside made.0.made in omega 
 -- ---- the run
 
 -- the last event that was begun brings three at most
-made-few : (m : Machine) (records n : ℕ) (r : NodeState) (p : Pace) (steps : List Step) (es : List TimedEntry) (q : Pace) → HaveMade m records n r p steps es q
+made-few : (m : Machine) (records n : ℕ) (r : NodeState) (p : Pace) (steps : List Step) (es : List TimedEntry) (q : Pace) → HaveMade (EndsWithPace q) m records n r p steps es
     → (outside (untimed es) ≡ 0) ⊎ (records + outside (untimed es) < RECORDS_MAX + 3)
 made-few m records n r p [] es q made = inl (ap (λ (xs : List TimedEntry). outside (untimed xs)) made.0)
-made-few m records n r p (step ∷ steps) es q made =
-    by (made-few m (records + length made.1) (suc n) (state_after_all m r made.1) made.3 steps made.2 q made.7) where
-      sum : outside (untimed es) ≡ outside (untimed made.1) + outside (untimed made.2)
-      sum = ap (λ (xs : List TimedEntry). outside (untimed xs)) made.4 ∙ ap outside (told_by-append made.1 made.2) ∙ outside-append (untimed made.1) (untimed made.2)
+made-few m records n r p (step ∷ steps) es q (few, told, rest, pace, is, makes, later) =
+    by (made-few m (records + length told) (suc n) (state_after_entries m r told) pace steps rest q later) where
+      sum : outside (untimed es) ≡ outside told + outside (untimed rest)
+      sum = ap (λ (xs : List TimedEntry). outside (untimed xs)) is ∙ ap outside (told_by-made n told rest) ∙ outside-append told (untimed rest)
 
-      here : outside (untimed made.1) ≤ 3
-      here = makes-few m r p step (untimed made.1) made.3 made.6
+      here : outside told ≤ 3
+      here = makes-few m r p step told pace makes
 
-      by : (outside (untimed made.2) ≡ 0) ⊎ (records + length made.1 + outside (untimed made.2) < RECORDS_MAX + 3) → (outside (untimed es) ≡ 0) ⊎ (records + outside (untimed es) < RECORDS_MAX + 3)
-      by (inl none) = let room = made.0 in let few = here in let all = sum in inr (omega (arith, none, room, few, all))
-      by (inr few) = let long = outside-all made.1 in let all = sum in inr (omega (arith, few, long, all))
+      by : (outside (untimed rest) ≡ 0) ⊎ (records + length told + outside (untimed rest) < RECORDS_MAX + 3) → (outside (untimed es) ≡ 0) ⊎ (records + outside (untimed es) < RECORDS_MAX + 3)
+      by (inl none) = let room = few in let three = here in let all = sum in inr (omega (arith, none, room, three, all))
+      by (inr less) = let long = outside-all told in let all = sum in inr (omega (arith, less, long, all))
 
 -- a run's log is far from a position's end
-pub run-few : (m : Machine) (steps : List Step) (es : List TimedEntry) (q : Pace) → HaveMade m 0 1 (first_state m) no_pace steps es q → AtEachEntry (MayFollow m) m (first_state m) es
+pub run-few : (m : Machine) (steps : List Step) (es : List TimedEntry) (q : Pace) → HaveMade (EndsWithPace q) m 0 1 (first_state m) no_pace steps es → AtEachEntry (MayFollow m) m (first_state m) es
     → length es ≤ 3 * (RECORDS_MAX + 3)
 run-few m steps es q made follow =
     let all = owing-all m (first_state m) es follow (record { numbered = (nothing_heard-orderly m).numbered }) in

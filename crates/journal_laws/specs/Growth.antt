@@ -6,6 +6,7 @@ use Rattle.mate_num.specs.declared.store.Store.{Store}
 use Rattle.mate_journal.specs.Log.{Log}
 use Rattle.mate_journal.specs.Machine.{Machine}
 use Rattle.mate_journal.specs.Journal.{TimedEntry, journal_entry, NodeState, next_state, AtEachEntry}
+use Rattle.mate_journal.specs.Pace.{Pace}
 use Rattle.mate_journal.specs.WellFormed.{NotBefore}
 use Rattle.mate_journal.specs.Grants.{IsGranted, started_number}
 use Rattle.mate_journal.specs.Stores.{is_seen}
@@ -83,3 +84,9 @@ BeforeEachEntry Fact m r es = AtEachEntry (λ r told. Fact r) m r es
 abbrev pub GrantsBefore : Machine → NodeState → ℕ → List TimedEntry → Type 0
 GrantsBefore m r last [] = Unit {0}
 GrantsBefore m r last (e ∷ es) = IsGranted m r last e.told × GrantsBefore m (next_state m r e.told) (started_number e.told) es
+
+-- ---- the run of a script so far
+
+-- nothing follows, and the pace is this one
+abbrev pub EndsWithPace : Pace → ℕ → ℕ → NodeState → Pace → List TimedEntry → Type 0
+EndsWithPace q records n r p es = (es ≡ []) × (p ≡ q)

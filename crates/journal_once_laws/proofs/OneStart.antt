@@ -1,4 +1,4 @@
--- The starts at a place of a journal are one list: they rise, and leave nobody who may start.
+-- The starts at a place of a journal are one list: they rise, and leave no queued invocation that may start.
 use Rattle.std.proofs.Common.{◌≡◌, ◌≢◌, ℕ, ◌<◌, ◌≤◌, Bool, true, false, IsTrue, List, [], ◌∷◌, ◌++◌, All, refl, sym, ◌∙◌, ap, subst, inl, inr, ◌⊎◌, ◌==◌, arith}
 use Rattle.std.proofs.lemmas.Bool.Decides.{eqb_tells, leb_tells}
 use Rattle.std.proofs.lemmas.List.Elements.{All-head, All-tail}

@@ -1,4 +1,4 @@
--- The rules of a journal along what it tells, without its stamps.
+-- The rules of a journal along its entries, without their stamps.
 use Rattle.std.proofs.Common.{◌≡◌, ℕ, List, [], ◌∷◌, ◌++◌, refl, ap, sym, ◌∙◌, subst}
 use Rattle.std.specs.Prelude.{⊤}
 use Rattle.mate_journal.specs.Machine.{Machine}

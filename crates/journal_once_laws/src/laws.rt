@@ -1,4 +1,4 @@
-//! That two runs of a script are the same, and so are their reports' texts.
+//! Laws: two runs of a script are the same, and so are their reports' texts.
 
 ghost use Rattle.std.specs.Prelude.{◌≡◌, List, length};
 ghost use Rattle.vm_desc.specs.declared.description.Description.{Description};
@@ -13,13 +13,13 @@ ghost use Rattle.report_text.specs.Brief.{brief};
 ghost use Rattle.report_text.specs.Text.{text};
 ghost use Rattle.journal_once_laws.specs.Ending.{EndsByItself};
 
-/// What a machine and a script determine of a run that ends by itself: its journal, and whether it is whole.
+/// A machine and a script determine the journal of a run that ends by itself, and whether it is whole.
 pub fn script_has_one_journal()
     ensures { (m : Machine) (steps : List Step) (how how' : RunEnd) (l l' : Log) → EndsByItself how → EndsByItself how'
         → IsNodeRun m how steps l → IsNodeRun m how' steps l' → (journal_of l ≡ journal_of l') × (is_whole how ≡ is_whole how') }
 {}
 
-/// And so of its report: the text, and the summary.
+/// So they determine its report: the text, and the summary.
 pub fn script_has_one_text()
     ensures { (d : Description) (meaning : Meaning) (steps : List Step) (how how' : RunEnd) (r r' : Report) → EndsByItself how
         → EndsByItself how'

@@ -2,11 +2,11 @@
 use Rattle.std.specs.Prelude.{ℕ, ℤ, pos}
 use Rattle.mate_num.specs.declared.id.BufId.{BufId}
 use Rattle.mate_num.specs.declared.id.FunId.{FunId}
-use Rattle.ts_syntax.specs.Expression.{Expression, no_arguments, Num, Call, Two}
-use Rattle.ts_syntax.specs.Statement.{Statement, Block, no_statements, statement, Set, Append, Take, Clear, Do, IfElse, For, While}
-use Rattle.ts_syntax.specs.declared.bin_op.BinOp.TheVariants.{And, Gt, Div}
-use Rattle.ts_syntax.specs.declared.checked_stmt.CVar.{CVar}
-use Rattle.ts_syntax.specs.declared.checked_stmt.CVar.TheVariants as variable
+use Rattle.ts_checked.specs.Expression.{Expression, no_arguments, Num, Call, Two}
+use Rattle.ts_checked.specs.Statement.{Statement, Block, no_statements, statement, Set, Append, Take, Clear, Do, IfElse, For, While}
+use Rattle.ts_checked.specs.declared.bin_op.BinOp.TheVariants.{And, Gt, Div}
+use Rattle.ts_checked.specs.declared.checked_stmt.CVar.{CVar}
+use Rattle.ts_checked.specs.declared.checked_stmt.CVar.TheVariants as variable
 
 -- one statement
 abbrev pub only : Statement → Block

@@ -3,7 +3,7 @@ use Rattle.std.specs.Prelude.{ℕ, List, [], ◌∷◌, Option, None, true, code
 use Rattle.vm_desc.specs.declared.function.Function.{Function}
 use Rattle.vm_desc.specs.declared.function.FunKind.TheVariants.{Act}
 use Rattle.ts_syntax.specs.Tree.{Tree, number, call, no_trees, call_alone, for_next, Source, no_acts, act_then}
-use Rattle.ts_syntax.specs.declared.checked_stmt.CVar.TheVariants as variable
+use Rattle.ts_checked.specs.declared.checked_stmt.CVar.TheVariants as variable
 use Rattle.ts_syntax.specs.declared.script.Decl.{Decl}
 use Rattle.ts_syntax.specs.declared.script.DeclKind.TheVariants as kind
 use Rattle.ts_syntax.specs.declared.stmt.Step.{Step}

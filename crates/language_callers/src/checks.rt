@@ -1,7 +1,7 @@
 //! Sources and names that exclude wrong bodies of `check` and of a `Scope`.
 
 ghost use Rattle.std.specs.Prelude.{◌≡◌, [], ◌∷◌, negsuc, codes, IfOk, IsOkAnd, IsErrAnd, Ok, Err, None, Some, true};
-ghost use Rattle.ts_syntax.specs.Checked.{tree_of};
+ghost use Rattle.ts_checked.specs.Checked.{checked_tree};
 ghost use Rattle.ts_syntax.specs.Seen.{source_seen};
 ghost use Rattle.ts_syntax.specs.Tree.{no_acts, act_then, clear, number};
 ghost use Rattle.ts_checker.specs.Answer.{GivesChecked};
@@ -11,9 +11,10 @@ ghost use Rattle.language_callers.specs.Scripts.{with_step};
 ghost use Rattle.language_callers.specs.Sources.{word, actuator, private_entry, nine_privates, calling_f, for_x, f_in_the_limit};
 
 use std::alloc::Global;
+use ts_checked::{CVar, Checked};
 use ts_checker::{CheckFault, check};
 use ts_scope::Scope;
-use ts_syntax::{CVar, Checked, Decl, Script, Word};
+use ts_syntax::{Decl, Script, Word};
 use vm_desc::Description;
 
 pub fn an_undeclared_name_is_refused(
@@ -35,7 +36,7 @@ pub fn a_missing_argument_is_refused(
 ) -> Result<Checked, CheckFault>
     requires functions { desc.now.functions.items ≡ actuator (codes "f") 1 ∷ [] }
     requires script { source_seen script.now ≡ calling_f }
-    ensures { GivesChecked tree_of result (Err (CheckFault.Arity 0)) }
+    ensures { GivesChecked checked_tree result (Err (CheckFault.Arity 0)) }
 {
     check(alloc, desc, script)
 }
@@ -47,7 +48,7 @@ pub fn a_call_in_a_limit_is_refused(
 ) -> Result<Checked, CheckFault>
     requires functions { desc.now.functions.items ≡ actuator (codes "f") 0 ∷ [] }
     requires script { source_seen script.now ≡ for_x f_in_the_limit None }
-    ensures { GivesChecked tree_of result (Err (CheckFault.Kind 24)) }
+    ensures { GivesChecked checked_tree result (Err (CheckFault.Kind 24)) }
 {
     check(alloc, desc, script)
 }
@@ -58,7 +59,7 @@ pub fn a_step_keeps_its_sign(
     script: &Script,
 ) -> Result<Checked, CheckFault>
     requires { source_seen script.now ≡ for_x (number 0) (Some record { minus = true; size = 1; place = 32 }) }
-    ensures { GivesChecked tree_of result (Ok (with_step (CVar.Private 0) (negsuc 0))) }
+    ensures { GivesChecked checked_tree result (Ok (with_step (CVar.Private 0) (negsuc 0))) }
 {
     check(alloc, desc, script)
 }

@@ -2,19 +2,19 @@
 
 ghost use Rattle.std.specs.Prelude.{◌≡◌, ◌<◌, ◌≤◌, [], ◌∷◌, Err, IfOk, IsOk};
 ghost use Rattle.mate_code.specs.Table.{table_of};
-ghost use Rattle.ts_syntax.specs.Checked.{checked_shape, tree_of};
-ghost use Rattle.ts_syntax.specs.Statement.{no_statements};
+ghost use Rattle.ts_checked.specs.Checked.{checked_shape, checked_tree};
+ghost use Rattle.ts_checked.specs.Statement.{no_statements};
 ghost use Rattle.ts_meaning.specs.Translation.{script_need, script_size};
 ghost use Rattle.language_callers.specs.Scripts.{first_set};
 
 use mate_code::Table;
 use mate_num::Code;
+use ts_checked::Checked;
 use ts_compiler::{CompileFault, compile};
-use ts_syntax::Checked;
 
 pub fn no_statement_is_one_byte(table: &Table, script: &Checked) -> Result<Code, CompileFault>
     requires table { table.now ≡ table_of (checked_shape script.now) }
-    requires tree { tree_of script.now ≡ no_statements }
+    requires tree { checked_tree script.now ≡ no_statements }
     ensures { IfOk result (λ code. code.items ≡ 0 ∷ []) }
 {
     compile(table, script)
@@ -25,7 +25,7 @@ pub fn a_number_of_256_takes_two_bytes(
     script: &Checked,
 ) -> Result<Code, CompileFault>
     requires table { table.now ≡ table_of (checked_shape script.now) }
-    requires tree { tree_of script.now ≡ first_set 256 }
+    requires tree { checked_tree script.now ≡ first_set 256 }
     ensures { IfOk result (λ code. code.items ≡ 1 ∷ 1 ∷ 0 ∷ 6 ∷ 0 ∷ 0 ∷ []) }
 {
     compile(table, script)
@@ -33,8 +33,8 @@ pub fn a_number_of_256_takes_two_bytes(
 
 pub fn the_longest_code_is_written(table: &Table, script: &Checked) -> Result<Code, CompileFault>
     requires table { table.now ≡ table_of (checked_shape script.now) }
-    requires need { script_need (tree_of script.now) ≤ 16 }
-    requires size { script_size (tree_of script.now) ≡ 1040 }
+    requires need { script_need (checked_tree script.now) ≤ 16 }
+    requires size { script_size (checked_tree script.now) ≡ 1040 }
     ensures { IsOk result }
 {
     compile(table, script)
@@ -45,7 +45,7 @@ pub fn a_seventeenth_value_has_no_room(
     script: &Checked,
 ) -> Result<Code, CompileFault>
     requires table { table.now ≡ table_of (checked_shape script.now) }
-    requires need { script_need (tree_of script.now) ≡ 17 }
+    requires need { script_need (checked_tree script.now) ≡ 17 }
     ensures { result ≡ Err (CompileFault.StackDepth 17) }
 {
     compile(table, script)
@@ -56,8 +56,8 @@ pub fn a_size_is_counted_up_to_its_cap(
     script: &Checked,
 ) -> Result<Code, CompileFault>
     requires table { table.now ≡ table_of (checked_shape script.now) }
-    requires need { script_need (tree_of script.now) ≤ 16 }
-    requires size { 1000000000 < script_size (tree_of script.now) }
+    requires need { script_need (checked_tree script.now) ≤ 16 }
+    requires size { 1000000000 < script_size (checked_tree script.now) }
     ensures { result ≡ Err (CompileFault.TooLong 1000000000) }
 {
     compile(table, script)

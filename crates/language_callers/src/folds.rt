@@ -1,19 +1,19 @@
 //! Scripts that exclude wrong bodies of `fold`.
 
 ghost use Rattle.std.specs.Prelude.{◌≡◌, negsuc, IfOk};
-ghost use Rattle.ts_syntax.specs.Checked.{tree_of};
-ghost use Rattle.ts_syntax.specs.Expression.{MsgSize, Num, Neg, Not};
-ghost use Rattle.ts_syntax.specs.Statement.{no_statements, Append, Clear};
+ghost use Rattle.ts_checked.specs.Checked.{checked_tree};
+ghost use Rattle.ts_checked.specs.Expression.{MsgSize, Num, Neg, Not};
+ghost use Rattle.ts_checked.specs.Statement.{no_statements, Append, Clear};
 ghost use Rattle.language_callers.specs.Scripts.{two_calls, cleared_by, clearing, compared, by_zero, only, whole};
 
 use mate_num::{BufId, FunId, NoMemory};
 use std::alloc::Global;
+use ts_checked::Checked;
 use ts_fold::fold;
-use ts_syntax::Checked;
 
 pub fn calls_stay(alloc: Global, script: &Checked, fun: FunId) -> Result<Checked, NoMemory>
-    requires { tree_of script.now ≡ two_calls fun }
-    ensures { IfOk result (λ new. tree_of new ≡ two_calls fun) }
+    requires { checked_tree script.now ≡ two_calls fun }
+    ensures { IfOk result (λ new. checked_tree new ≡ two_calls fun) }
 {
     fold(alloc, script)
 }
@@ -24,8 +24,8 @@ pub fn false_takes_the_other_block(
     buffer: BufId,
     other: BufId,
 ) -> Result<Checked, NoMemory>
-    requires { tree_of script.now ≡ cleared_by (whole 0) buffer other }
-    ensures { IfOk result (λ new. tree_of new ≡ only (Clear other)) }
+    requires { checked_tree script.now ≡ cleared_by (whole 0) buffer other }
+    ensures { IfOk result (λ new. checked_tree new ≡ only (Clear other)) }
 {
     fold(alloc, script)
 }
@@ -36,8 +36,8 @@ pub fn true_takes_the_first_block(
     buffer: BufId,
     other: BufId,
 ) -> Result<Checked, NoMemory>
-    requires { tree_of script.now ≡ cleared_by (whole 2) buffer other }
-    ensures { IfOk result (λ new. tree_of new ≡ only (Clear buffer)) }
+    requires { checked_tree script.now ≡ cleared_by (whole 2) buffer other }
+    ensures { IfOk result (λ new. checked_tree new ≡ only (Clear buffer)) }
 {
     fold(alloc, script)
 }
@@ -48,8 +48,8 @@ pub fn a_test_below_0_takes_the_first_block(
     buffer: BufId,
     other: BufId,
 ) -> Result<Checked, NoMemory>
-    requires { tree_of script.now ≡ cleared_by (Num (negsuc 0)) buffer other }
-    ensures { IfOk result (λ new. tree_of new ≡ only (Clear buffer)) }
+    requires { checked_tree script.now ≡ cleared_by (Num (negsuc 0)) buffer other }
+    ensures { IfOk result (λ new. checked_tree new ≡ only (Clear buffer)) }
 {
     fold(alloc, script)
 }
@@ -60,8 +60,8 @@ pub fn an_open_test_stays(
     buffer: BufId,
     other: BufId,
 ) -> Result<Checked, NoMemory>
-    requires { tree_of script.now ≡ cleared_by MsgSize buffer other }
-    ensures { IfOk result (λ new. tree_of new ≡ cleared_by MsgSize buffer other) }
+    requires { checked_tree script.now ≡ cleared_by MsgSize buffer other }
+    ensures { IfOk result (λ new. checked_tree new ≡ cleared_by MsgSize buffer other) }
 {
     fold(alloc, script)
 }
@@ -71,8 +71,8 @@ pub fn a_loop_at_false_goes(
     script: &Checked,
     buffer: BufId,
 ) -> Result<Checked, NoMemory>
-    requires { tree_of script.now ≡ clearing (whole 0) buffer }
-    ensures { IfOk result (λ new. tree_of new ≡ no_statements) }
+    requires { checked_tree script.now ≡ clearing (whole 0) buffer }
+    ensures { IfOk result (λ new. checked_tree new ≡ no_statements) }
 {
     fold(alloc, script)
 }
@@ -82,8 +82,8 @@ pub fn a_loop_at_true_stays(
     script: &Checked,
     buffer: BufId,
 ) -> Result<Checked, NoMemory>
-    requires { tree_of script.now ≡ clearing (whole 1) buffer }
-    ensures { IfOk result (λ new. tree_of new ≡ clearing (whole 1) buffer) }
+    requires { checked_tree script.now ≡ clearing (whole 1) buffer }
+    ensures { IfOk result (λ new. checked_tree new ≡ clearing (whole 1) buffer) }
 {
     fold(alloc, script)
 }
@@ -93,8 +93,8 @@ pub fn a_comparison_is_from_the_left(
     script: &Checked,
     buffer: BufId,
 ) -> Result<Checked, NoMemory>
-    requires { tree_of script.now ≡ compared buffer 2 1 }
-    ensures { IfOk result (λ new. tree_of new ≡ only (Append buffer (whole 1))) }
+    requires { checked_tree script.now ≡ compared buffer 2 1 }
+    ensures { IfOk result (λ new. checked_tree new ≡ only (Append buffer (whole 1))) }
 {
     fold(alloc, script)
 }
@@ -104,8 +104,8 @@ pub fn a_division_by_0_stays(
     script: &Checked,
     buffer: BufId,
 ) -> Result<Checked, NoMemory>
-    requires { tree_of script.now ≡ only (Append buffer by_zero) }
-    ensures { IfOk result (λ new. tree_of new ≡ only (Append buffer by_zero)) }
+    requires { checked_tree script.now ≡ only (Append buffer by_zero) }
+    ensures { IfOk result (λ new. checked_tree new ≡ only (Append buffer by_zero)) }
 {
     fold(alloc, script)
 }
@@ -115,8 +115,8 @@ pub fn the_lowest_number_is_its_own_negative(
     script: &Checked,
     buffer: BufId,
 ) -> Result<Checked, NoMemory>
-    requires { tree_of script.now ≡ only (Append buffer (Neg (Num (negsuc 32767)))) }
-    ensures { IfOk result (λ new. tree_of new ≡ only (Append buffer (Num (negsuc 32767)))) }
+    requires { checked_tree script.now ≡ only (Append buffer (Neg (Num (negsuc 32767)))) }
+    ensures { IfOk result (λ new. checked_tree new ≡ only (Append buffer (Num (negsuc 32767)))) }
 {
     fold(alloc, script)
 }
@@ -126,8 +126,8 @@ pub fn not_goes_by_truth(
     script: &Checked,
     buffer: BufId,
 ) -> Result<Checked, NoMemory>
-    requires { tree_of script.now ≡ only (Append buffer (Not (whole 1))) }
-    ensures { IfOk result (λ new. tree_of new ≡ only (Append buffer (whole 0))) }
+    requires { checked_tree script.now ≡ only (Append buffer (Not (whole 1))) }
+    ensures { IfOk result (λ new. checked_tree new ≡ only (Append buffer (whole 0))) }
 {
     fold(alloc, script)
 }

@@ -50,7 +50,7 @@ pub fn an_actuator_pops_its_values(desc: &Description) -> Shape
     shape(desc)
 }
 
-/// Its first context is not the last one of the handler before it.
+/// Its first context isn't the last one of the handler before it.
 pub fn the_second_handler_has_its_first_context(desc: &Description) -> HandlerId
     requires { 2 ≤ length desc.now.handlers.items }
     ensures { result.0 ≡ 1 }

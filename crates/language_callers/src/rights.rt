@@ -1,12 +1,12 @@
 //! Bodies that exclude wrong bodies of `is_right` and `push`.
 
 ghost use Rattle.std.specs.Prelude.{◌≡◌, ◌∷◌, [], false, pos, negsuc, OnOk};
-ghost use Rattle.ts_syntax.specs.TreeOf.{block_tree, block_trees, stmt_tree};
+ghost use Rattle.ts_checked.specs.TreeOf.{block_tree, block_trees, stmt_tree};
 ghost use Rattle.language_callers.specs.Scripts.{ninth_private, call_in_limit, with_step};
 
 use mate_num::{FunId, NoMemory, Shape};
+use ts_checked::{CBlock, CStmt, CVar};
 use ts_right::is_right;
-use ts_syntax::{CBlock, CStmt, CVar};
 
 pub fn a_ninth_private_is_wrong(shape: &Shape, body: &CBlock) -> bool
     requires { block_tree body.now ≡ ninth_private }

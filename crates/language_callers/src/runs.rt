@@ -4,22 +4,22 @@ ghost use Rattle.std.specs.Prelude.{◌≡◌, [], ◌∷◌, pos, negsuc, Ok, I
 ghost use Rattle.mate_num.specs.Store.{zero_store, set_value, set_buffer};
 ghost use Rattle.mate_num.specs.declared.call.End.TheVariants.{Halt, Fault, Wants};
 ghost use Rattle.mate_num.specs.declared.call.FaultKind.TheVariants.{Overrun};
-ghost use Rattle.ts_syntax.specs.Checked.{tree_of};
-ghost use Rattle.ts_syntax.specs.Statement.{no_statements};
+ghost use Rattle.ts_checked.specs.Checked.{checked_tree};
+ghost use Rattle.ts_checked.specs.Statement.{no_statements};
 ghost use Rattle.language_callers.specs.Scripts.{two_calls, without_end, false_and_call, first_taken};
 
 use mate_num::{BufId, FaultKind, FunId, NoMemory, Outcome, Payload, Store};
 use std::alloc::Global;
+use ts_checked::{BinOp, CVar, Checked};
 use ts_meaning::apply;
 use ts_play::{Played, play};
-use ts_syntax::{BinOp, CVar, Checked};
 
 pub fn no_statement_changes_the_store(
     alloc: Global,
     script: &Checked,
     store: &Store,
 ) -> Result<Played, NoMemory>
-    requires { tree_of script.now ≡ no_statements }
+    requires { checked_tree script.now ≡ no_statements }
     ensures end { IfOk result (λ played. played.end ≡ Halt) }
     ensures store { IfOk result (λ played. played.store ≡ store.now) }
 {
@@ -32,7 +32,7 @@ pub fn each_call_takes_its_own_answer(
     store: &Store,
     fun: FunId,
 ) -> Result<Outcome, NoMemory>
-    requires { tree_of script.now ≡ two_calls fun }
+    requires { checked_tree script.now ≡ two_calls fun }
     ensures end { IfOk result (λ played. played.end ≡ Halt) }
     ensures calls { IfOk result (λ played. played.calls ≡
         record { fun = fun; args = record { items = [] }; result = pos 7 }
@@ -47,7 +47,7 @@ pub fn a_call_wants_an_answer(
     store: &Store,
     fun: FunId,
 ) -> Result<Outcome, NoMemory>
-    requires { tree_of script.now ≡ two_calls fun }
+    requires { checked_tree script.now ≡ two_calls fun }
     ensures { IfOk result (λ played. played.end ≡ Wants fun (record { items = [] })) }
 {
     play(alloc, script, store, &Payload::new(), &[7], 0)
@@ -60,7 +60,7 @@ pub fn and_goes_on_at_false(
     variable: CVar,
     fun: FunId,
 ) -> Result<Outcome, NoMemory>
-    requires { tree_of script.now ≡ false_and_call variable fun }
+    requires { checked_tree script.now ≡ false_and_call variable fun }
     ensures { IfOk result (λ played. played.end ≡ Wants fun (record { items = [] })) }
 {
     play(alloc, script, store, &Payload::new(), &[], 0)
@@ -72,7 +72,7 @@ pub fn going_back_takes_a_turn(
     store: &Store,
     buffer: BufId,
 ) -> Result<Outcome, NoMemory>
-    requires { tree_of script.now ≡ without_end buffer }
+    requires { checked_tree script.now ≡ without_end buffer }
     ensures { IfOk result (λ played. played.end ≡ Fault Overrun) }
 {
     play(alloc, script, store, &Payload::new(), &[], 1)
@@ -83,7 +83,7 @@ pub fn the_last_value_is_taken(
     script: &Checked,
     store: &Store,
 ) -> Result<Outcome, NoMemory>
-    requires script { tree_of script.now ≡ first_taken }
+    requires script { checked_tree script.now ≡ first_taken }
     requires store { store.now ≡ set_buffer (zero_store 1 1) 0 (pos 7 ∷ pos 9 ∷ []) }
     ensures { IfOk result (λ played. played.store ≡ set_value (set_buffer (zero_store 1 1) 0 (pos 7 ∷ [])) 0 (pos 9)) }
 {

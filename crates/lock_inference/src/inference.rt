@@ -27,7 +27,7 @@ pub fn locks(desc: &Description, code: &Verified) -> LockSet
     set
 }
 
-// The set with what is read and written in this way.
+// The set with what this use reads and writes.
 fn with_use(set: LockSet, desc: &Description, made: Use) -> LockSet
     requires { IsTrue (names_resource made) }
     ensures { Gains (shape_of desc.now) set result made }
@@ -51,7 +51,7 @@ fn with_device(set: LockSet, desc: &Description, fun: FunId) -> LockSet
     }
 }
 
-// The device that the function speaks to, if there is such a function and it has one.
+// The device that the function uses, if there is such a function and it has one.
 fn device_of(desc: &Description, fun: FunId) -> Option<DeviceId>
     ensures value { result ≡ device_in (function_shape (shape_of desc.now) fun) }
     ensures below { IfSome result (λ device. device.0 < 8) }

@@ -9,7 +9,7 @@ pub struct Claim {
     pub set: LockSet,
 }
 
-/// The first context, with nothing to lock: what stands in an unused place.
+/// The first context, with nothing to lock: it fills an unused place.
 impl Default for Claim {
     fn default() -> Claim {
         Claim {

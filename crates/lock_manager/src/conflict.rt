@@ -1,4 +1,4 @@
-//! The number of claims that a set conflicts with, which is kept with each waiter and lowered at a release.
+//! The number of claims that a set conflicts with, kept for each waiter and lowered at a release.
 
 ghost use Rattle.std.specs.Prelude.{◌≡◌, ◌<◌, ℕ, ◌+◌, map, length, All, IsTrue};
 ghost use Rattle.lock_manager.specs.Conflict.{conflict};
@@ -32,7 +32,7 @@ pub(crate) fn count_waiting(set: &LockSet, waiters: &[Waiter]) -> usize
         .count()
 }
 
-/// The waiter when a claim on `released` has gone from those ahead of it: one less if the two conflict.
+/// The waiter after a claim on `released` has gone from those ahead of it: one less if the two conflict.
 fn without(waiter: Waiter, released: &LockSet) -> Waiter
     requires { IsTrue (conflict waiter.claim.set released.now) → 0 < waiter.blocked }
     ensures { result ≡ lowered released.now waiter }

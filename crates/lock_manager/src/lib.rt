@@ -1,4 +1,4 @@
-//! Which contexts may run: each needs its lock set for itself, and waits in line until it has it.
+//! Which contexts may run: each waits in line until it has all its locks.
 #![tactic(auto)]
 
 pub mod claim;

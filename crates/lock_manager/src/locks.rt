@@ -31,7 +31,7 @@ impl Model for Locks {
 }
 
 impl Locks {
-    /// Nobody waits, and nobody is started.
+    /// No context waits, and none is started.
     pub fn new() -> Locks
         ensures { result ≡ no_claims }
     {
@@ -55,8 +55,7 @@ impl Locks {
         place_of(self.started.as_slice(), ctx).is_some()
     }
 
-    /// The number of started contexts and earlier waiters that `ctx` conflicts with; None exactly where it doesn't
-    /// wait.
+    /// The number of started contexts and earlier waiters that `ctx` conflicts with; None exactly if it doesn't wait.
     pub fn blocked(&self, ctx: ContextId) -> Option<u8>
         ensures number { result ≡ blocked_of self.now.started self.now.waiting ctx }
         ensures contexts { AreOnce (self.now.started ++ self.now.waiting) }
@@ -64,7 +63,7 @@ impl Locks {
         number_of(self.waiting.as_slice(), ctx)
     }
 
-    /// `ctx` waits for `set`, behind all that wait.
+    /// `ctx` waits for `set`, after all that wait.
     pub fn enqueue(&mut self, ctx: ContextId, set: LockSet)
         requires context { ctx.0 < CONTEXTS_MAX }
         requires not_waiting { IsNone (set_of self.old.waiting ctx) }
@@ -80,7 +79,7 @@ impl Locks {
     }
 
     /// Starts the first waiter that conflicts neither with a started context nor with an earlier waiter. None comes
-    /// exactly where there is no such waiter.
+    /// exactly if there is no such waiter.
     pub fn grant(&mut self) -> Option<ContextId>
         ensures granted { MatchOption result (GrantsNone self.old self.new) (Grants self.old self.new) }
         ensures contexts { AreOnce (self.old.started ++ self.old.waiting) }
@@ -103,7 +102,7 @@ impl Locks {
         lower(self.waiting.as_mut_slice(), &released);
     }
 
-    /// Nobody waits, and nobody is started.
+    /// No context waits any more, and none is started.
     pub fn clear(&mut self)
         ensures { self.new ≡ no_claims }
     {

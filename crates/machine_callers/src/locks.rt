@@ -28,7 +28,7 @@ fn first_variable() -> LockSet
     LockSet::empty().with_write(Resource::Shared(VarId(0)))
 }
 
-/// Equal sets conflict where they write, and a waiter stands behind those that wait.
+/// Equal sets conflict if they write, and a waiter comes after those that wait already.
 pub fn a_writer_waits_for_another() -> Option<u8>
     ensures { result ≡ Some 1 }
 {
@@ -39,7 +39,7 @@ pub fn a_writer_waits_for_another() -> Option<u8>
     locks.blocked(ContextId(5))
 }
 
-/// A waiter that one started context holds back is not started.
+/// A waiter isn't started if one started context conflicts with it.
 pub fn what_is_started_conflicts_with_nothing_started(locks: &mut Locks) -> Option<ContextId>
     ensures { IfSome result (λ ctx. (set : Claimed) (other : Claim) → set_of locks.new.started ctx ≡ Some set
         → Contains locks.old.started other → IsCompatible (lock_uses set) (lock_uses other.set)) }
@@ -47,7 +47,7 @@ pub fn what_is_started_conflicts_with_nothing_started(locks: &mut Locks) -> Opti
     locks.grant()
 }
 
-/// A release frees no waiter of the conflict with another started context.
+/// A release doesn't free a waiter from its conflict with another started context.
 pub fn a_conflict_outlasts_anothers_release(
     locks: &mut Locks,
     gone: ContextId,

@@ -11,7 +11,7 @@ use std::process::ExitCode;
 use std::rt::Env;
 use std::{env, io};
 
-/// How many bytes are written to the output at once.
+/// How many bytes are written to standard output at once.
 const OUT_BLOCK: usize = 65_536;
 
 /// How many bytes the line of a refusal has room for before it takes more memory.
@@ -44,15 +44,15 @@ fn main(rt: HostRuntime) -> ExitCode {
     ExitCode::from(status.code())
 }
 
-/// The buffer of standard output, and that of the line that is told.
+/// The buffer of standard output, and that of the line on standard error.
 fn buffers<W: Write + Drop>(alloc: Global, writer: W) -> Result<(BufWriter<W>, Vec<u8>), Refusal> {
     let writer = BufWriter::with_capacity(alloc, OUT_BLOCK, writer).map_err(|_| Refusal::NoMemory)?;
     let line = Vec::with_capacity(alloc, LINE).map_err(|_| Refusal::NoMemory)?;
     Ok((writer, line))
 }
 
-/// Writes what is left in the buffer of standard output, and then the line that is told of the status. Where the former fails, what was
-/// done isn't all written, and that is told instead, of a run that a full log ended too.
+/// Writes what is left in the buffer of standard output, and then the line of the status. If the former fails, not
+/// all that was done is written: the status is then a fault of standard output, also for a run that a full log ended.
 fn finished<W: Write + Drop, E: Sink>(
     status: Status,
     mut writer: W,
@@ -69,8 +69,8 @@ fn finished<W: Write + Drop, E: Sink>(
     }
 }
 
-/// The words of the command line, without the program's own name. Words that aren't UTF-8 are no command's. A call of its own, so that
-/// the stack that it takes is given back before the command runs.
+/// The words of the command line, without the program's own name. Words that aren't UTF-8 are refused as `Usage`. It
+/// isn't inlined, so that the stack that it takes is given back before the command runs.
 #[inline(never)]
 fn words(rt: &(impl Env + AllocGlobal)) -> Result<Vec<String>, Refusal> {
     let args = match env::args(rt) {
@@ -85,8 +85,8 @@ fn words(rt: &(impl Env + AllocGlobal)) -> Result<Vec<String>, Refusal> {
     Ok(words)
 }
 
-/// Whether the words may be those of a command that reads sources: all others begin with `table`, `check` or `feed`, or there are none.
-/// The first word is copied to the stack, so that no heap is taken before the stack is.
+/// Whether the words may be those of a command that reads sources: those of all others begin with `table`, `check` or
+/// `feed`, or there are none. The first word is copied to the stack, so that no heap is taken before the stack is.
 fn may_read_sources(rt: &impl Env) -> bool {
     let mut name = [0; NAME];
     match rt.arg(1, &mut name) {
@@ -96,9 +96,9 @@ fn may_read_sources(rt: &impl Env) -> bool {
     }
 }
 
-/// Takes the stack that the deepest source needs, before the heap or a file takes what a limit of the address space leaves: where
-/// it can't be had, the system ends the program here, and never later. Each place is written with its number, and the one in the
-/// middle is read back, so that no compiler leaves it out.
+/// Takes the stack that the deepest source needs, before the heap or a file takes what a limit of the address space
+/// leaves: if it can't be had, the system ends the program here, and never later. Each place is written with its
+/// number, and the one in the middle is read back, so that no compiler leaves it out.
 #[inline(never)]
 fn stack_middle() -> usize {
     let mut room = [0; STACK / 8];

@@ -1,4 +1,4 @@
--- What `audit` refuses of a report tells of no file that could not be read.
+-- What `audit` refuses of a report is about no file that could not be read.
 use Rattle.std.proofs.Common.{◌≡◌, ℕ, List, Result, Ok, Err, subst, inl, inr}
 use Rattle.std.specs.Prelude.{IsErrAnd}
 use Rattle.mate_cli.specs.Audit.{report_in, serial}

@@ -1,4 +1,4 @@
--- A run or a text that was written, and what is told of it.
+-- A run or a text that was written, and the line and status for it.
 use Rattle.std.proofs.Common.{◌≡◌, ℕ, Bool, true, false, List, Result, Ok, Err, refl, subst}
 use Rattle.mate_files.specs.Sink.{Puts}
 use Rattle.mate_files.specs.declared.sink.SinkFault.{SinkFault}

@@ -20,7 +20,7 @@ use std::alloc::Global;
 use vm_desc::Description;
 use world_programs::programs_named;
 
-/// That the report shows serial behaviour of what the script runs; or why it doesn't.
+/// The document that says that the report shows serial behaviour of what the script runs; or why it doesn't.
 #[inline(never)]
 pub fn output<F: Files>(alloc: Global, files: &mut F, words: Audit<'_>) -> Result<Output, Refusal>
     ensures does { audit (record { told = F.contents files.old; steady = F.steady files.old }) words.entry.fold words.entry.machine.now
@@ -33,7 +33,7 @@ pub fn output<F: Files>(alloc: Global, files: &mut F, words: Audit<'_>) -> Resul
     audit_by(alloc, files, machine.description(), words)
 }
 
-/// That of a report of this machine.
+/// The same for this machine.
 #[inline(never)]
 fn audit_by<F: Files>(
     alloc: Global,
@@ -51,7 +51,7 @@ fn audit_by<F: Files>(
     audit_of(alloc, files, desc, &programs, words.report)
 }
 
-/// That of the report in a file, for these programs.
+/// The same for these programs, and the report in a file.
 #[inline(never)]
 fn audit_of<F: Files>(
     alloc: Global,
@@ -102,7 +102,7 @@ fn report_in(alloc: Global, desc: &Description, bytes: &[u8]) -> Result<Report, 
     }
 }
 
-/// Whether the report is serial for the programs.
+/// The refutation of the report for the programs, if it isn't serial.
 #[inline(never)]
 fn serial(
     alloc: Global,

@@ -27,7 +27,7 @@ pub fn output<F: Files>(alloc: Global, files: &mut F, words: MadeRun<'_>) -> Res
     run_of_number(alloc, machine, words)
 }
 
-/// That of the world of a number on this machine.
+/// The same on this machine.
 #[inline(never)]
 fn run_of_number(
     alloc: Global,

@@ -17,8 +17,7 @@ use script_programs::{programs_of, script_of};
 use script_reader::Steps;
 use std::alloc::Global;
 
-/// The run of a node script, whose report is written while it is made; or the summary of its report, which is counted while the run is
-/// made.
+/// The run of a node script, whose report is written while it runs; or the summary of its report, counted while it runs.
 #[inline(never)]
 pub fn output<F: Files>(
     alloc: Global,
@@ -76,7 +75,7 @@ fn run_output(
     }
 }
 
-/// The summary of the report of a script's run, whole or until its log is full. The run is made, and no report is kept.
+/// The summary of the report of a script's run, whole or until its log is full. No report is kept.
 #[inline(never)]
 fn summary(
     alloc: Global,

@@ -30,7 +30,7 @@ pub fn output<F: Files>(
     run_of_world(alloc, files, machine, words)
 }
 
-/// That of the world of the script in a file on this machine.
+/// The same for the world of the script in a file on this machine.
 #[inline(never)]
 fn run_of_world<F: Files>(
     alloc: Global,

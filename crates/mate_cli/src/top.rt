@@ -17,9 +17,9 @@ use std::alloc::Global;
 /// Runs the command that `words` give, without the program's own name.
 ///
 /// - `node VM SCRIPT` runs the node script in the file `SCRIPT`, with the programs of the files that it names, on a node of
-///   the machine that the file `VM` describes, or of the built-in one where the word is `builtin`. It writes the report's
+///   the machine that the file `VM` describes, or of the built-in one if the word is `builtin`. It writes the report's
 ///   text, the lines of each event when it ends, or with `--brief` its summary when the run has ended; with `--fold` sources
-///   are folded before they are compiled. `LogFull` comes where the run met the limit of records before its end; what was
+///   are folded before they are compiled. `LogFull` comes if the run met the limit of records before its end; what was
 ///   written then is of the run so far. After a fault of `out` no further event is run.
 /// - `sim VM WORLD` runs the world of the script in the file `WORLD` on nodes of such a machine, and writes its report likewise.
 /// - `gen NUMBER VM` does the same with the world of a number. No file is read but `VM`.
@@ -28,16 +28,16 @@ use std::alloc::Global;
 ///   the source is folded before it is compiled.
 /// - `check VM HEX` decodes and verifies the capsule whose image the file `HEX` has in hexadecimal digits, and writes its
 ///   head line, its listing and its locks.
-/// - `expand SOURCE` writes the plain script that the source with procedures stands for, its tokens in one line.
+/// - `expand SOURCE` writes the plain script that the source with procedures expands to, its tokens in one line.
 /// - `feed VM STREAM` cuts the bytes of the file `STREAM` into frames (RFC 1055), and writes what a new node of such a machine
 ///   answers to each, which should be a capsule that it installs.
-/// - `audit VM SCRIPT REPORT` says whether the report in the file `REPORT` shows serial behaviour of the programs that the script in
-/// the file `SCRIPT`, of a node or
-///   of a world, names for such a machine: it writes `serial`, or refuses with the first line that fits no report, or with the
-///   lowest node whose journal fails a law, and the first law that it fails.
+/// - `audit VM SCRIPT REPORT` says whether the report in the file `REPORT` shows serial behaviour of the programs that
+///   the script in the file `SCRIPT`, of a node or of a world, names for such a machine: it writes `serial`, or refuses
+///   with the first line that fits no report, or with the lowest node whose journal fails a law, and the first law that
+///   it fails.
 ///
-/// For any other status than `Ok` one line goes to `err`, and, but for `LogFull`, a fault of `out` and want of memory,
-/// nothing to `out`. A failing `err` changes nothing.
+/// For any status but `Ok` one line goes to `err`. Nothing goes to `out` then, except for `LogFull`, for a fault of
+/// `out` and if memory runs out. A failing `err` changes nothing.
 pub fn mate<F: Files, S: Sink, E: Sink>(
     alloc: Global,
     words: &Vec<String>,

@@ -34,7 +34,7 @@ pub(crate) fn world_output(
     }
 }
 
-/// The summary of the report of a world's run, whole or until its log is full. The run is made, and no report is kept.
+/// The summary of the report of a world's run, whole or until its log is full. No report is kept.
 #[inline(never)]
 fn summary(
     alloc: Global,

@@ -117,7 +117,7 @@ fn run_world<S: Sink, E: Sink>(
     told(written, err)
 }
 
-/// Tells how the writing ended.
+/// Writes the line for how the writing ended, and returns the status.
 fn told<E: Sink>(written: Result<(), WriteFault>, err: &mut E) -> Status
     ensures { TellsEnd written (E.written err.old) (E.faults err.old) (E.written err.new) (E.faults err.new) result }
 {

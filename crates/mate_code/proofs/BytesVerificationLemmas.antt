@@ -1,4 +1,4 @@
--- What the verification of bytes tells of the code.
+-- What the verification of bytes says of the code.
 use Rattle.std.proofs.Common.{◌≡◌, ℕ, ◌+◌, ◌≤◌, List, [], ◌∷◌, Bool, true, false, Result, Ok, Err, length, refl, ap, sym, ◌∙◌, subst, length-append}
 use Rattle.std.specs.Prelude.{nat_lt, if◌then◌else◌}
 use Rattle.std.proofs.lemmas.Bool.{ltb-false}

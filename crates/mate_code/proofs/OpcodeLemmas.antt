@@ -1,4 +1,4 @@
--- Each kind of a table stands at its opcode, and an opcode has no other kind.
+-- Each kind of a table is at its opcode, and an opcode has no other kind.
 use Rattle.std.proofs.Common.{◌≡◌, ℕ, zero, suc, ◌+◌, ◌-◌, ◌<◌, ◌≤◌, Bool, true, false, List, [], ◌∷◌, ◌++◌, Option, None, Some, refl, ap, sym, ◌∙◌, arith, subst, IsTrue, inl, inr, rules}
 use Rattle.std.specs.List.{slice_get}
 use Rattle.std.specs.Option.{option_map}

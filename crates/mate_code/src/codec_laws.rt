@@ -6,8 +6,7 @@ ghost use Rattle.mate_code.specs.declared.instr.Instr.{Instr};
 ghost use Rattle.mate_code.specs.Table.{Layout, IsInTable, AreInTable, opcode_of, kind_at};
 ghost use Rattle.mate_code.specs.Code.{code_bytes, placed, decoded, AreBytes, IsWritable, IsDecoded};
 
-/// Each kind of a table stands at its opcode, and the kind at an opcode has this opcode. So no
-/// opcode is twice in a table.
+/// Each kind of a table is at its opcode, and the kind at an opcode has this opcode. So no opcode is in a table twice.
 pub fn each_opcode_once()
     ensures stands { (t : Layout) (k : Kind) → IsInTable t k → kind_at t (opcode_of t k) ≡ Some k }
     ensures in_table { (t : Layout) (n : ℕ) (k : Kind) → kind_at t n ≡ Some k → IsInTable t k }

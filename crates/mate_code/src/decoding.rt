@@ -11,7 +11,7 @@ use crate::kind::OperandForm;
 use crate::table::Table;
 use mate_num::CODE_MAX;
 
-/// The first instruction of some bytes that can't be read, by its place: the offset of its opcode.
+/// The first instruction of some bytes that can't be read, with its place: the offset of its opcode.
 #[derive(Clone, Copy)]
 pub enum DecodeFault {
     /// The table has no such opcode.
@@ -49,8 +49,8 @@ fn read_all(table: &Table, bytes: &[u8]) -> Result<Instrs, DecodeFault>
     Ok(instrs)
 }
 
-// The instruction at `place`, by its opcode and the bytes after it, and what is left of these.
-fn read_instr<'a>(
+/// The instruction at `place`, by its opcode and the bytes after it, and what is left of these; or why it can't be read.
+pub fn read_instr<'a>(
     table: &Table,
     place: u16,
     opcode: u8,
@@ -73,7 +73,7 @@ fn read_instr<'a>(
     Ok((Instr::of(kind, operand), bytes.split_at(form.width()).1))
 }
 
-// The operand that the first bytes tell.
+// The operand that the first bytes spell.
 fn read_operand(form: OperandForm, bytes: &[u8]) -> u16
     requires { width_of form ≤ length bytes.now }
     ensures value { result ≡ operand_at form bytes.now }

@@ -12,15 +12,15 @@ use mate_num::{FunId, PRIVATES, Shape};
 /// Where a run goes on after an instruction.
 #[derive(Clone, Copy)]
 pub enum Flow {
-    /// At the next place.
+    /// To the next place.
     Next,
     /// Nowhere.
     Ends,
-    /// At the next place or the target.
+    /// To the next place or the target.
     Branches(u16),
-    /// At the target.
+    /// To the target.
     Jumps(u16),
-    /// At the target, for a turn.
+    /// To the target, if a turn is left to pay.
     Returns(u16),
 }
 
@@ -60,14 +60,14 @@ impl Instr {
         }
     }
 
-    /// How many values the instruction puts on the stack; a function's answer is one.
+    /// How many values the instruction puts on the stack, 0 or 1; a function's answer is one.
     pub fn pushes(self) -> u8
         ensures { result ≡ pushes_of self }
     {
         self.kind().row().pushes
     }
 
-    /// Whether the variable, private variable or buffer that the instruction names is there.
+    /// Whether the variable, private variable or buffer that the instruction names exists.
     pub fn is_in_range(self, shape: &Shape) -> bool
         ensures { result ≡ is_in_range shape.now self }
     {

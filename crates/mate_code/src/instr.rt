@@ -56,11 +56,11 @@ pub enum Instr {
     Le,
     /// Pops right, pops left, pushes whether left is at least right.
     Ge,
-    /// Pops; at 0 goes on at the place.
+    /// Pops; if it is 0, goes on at the place.
     Jz(u16),
     /// Goes on at the place.
     Jmp(u16),
-    /// Pays a turn, or faults where none is left, and goes on at the place.
+    /// Pays a turn, or faults if none is left, and goes on at the place.
     Back(u16),
     /// Pops.
     Drop,
@@ -72,17 +72,17 @@ pub enum Instr {
     BGet(BufId),
     /// Pops a value, pops an index, stores the value in the buffer, or faults.
     BSet(BufId),
-    /// Pops, appends to the buffer, or faults where it is full.
+    /// Pops, appends to the buffer, or faults if it is full.
     BAdd(BufId),
-    /// Takes the buffer's last value and pushes it, or faults where it is empty.
+    /// Takes the buffer's last value and pushes it, or faults if it is empty.
     BTake(BufId),
     /// Pushes the number of values in the buffer.
     BSize(BufId),
     /// Empties the buffer.
     BClear(BufId),
-    /// Pops the function's arguments, the last one first, asks, and pushes the answer.
+    /// Pops the function's arguments, the last one first, calls it, and pushes the answer.
     Fun(FunId),
-    /// Asks a function that sends the buffer's values, and pushes the answer.
+    /// Calls a function that sends the buffer's values, and pushes the answer.
     FunBuf(FunId, BufId),
 }
 
@@ -131,7 +131,7 @@ impl Instr {
         }
     }
 
-    /// The operand as its bytes tell it: a value with a sign is taken modulo 65536. It is 0 where there is none.
+    /// The operand as its bytes spell it: a value with a sign is taken modulo 65536. It is 0 if there is none.
     pub fn operand(self) -> u16
         ensures value { result ≡ operand_of self }
         ensures fits { FitsForm (form_of (kind_of self)) result }

@@ -50,7 +50,7 @@ impl Instrs {
         self.pairs.is_empty()
     }
 
-    /// The pair at `index`, from 0; None exactly from the length on.
+    /// The pair at `index`, from 0; None exactly if `index` is the length or more.
     pub fn get(&self, index: usize) -> Option<&(u16, Instr)>
         ensures { option_copied result ≡ slice_get self.now index }
     {
@@ -64,7 +64,7 @@ impl Instrs {
         self.pairs.as_slice()
     }
 
-    /// Appends a place and its instruction.
+    /// Appends a place and its instruction. There must be room.
     pub fn push(&mut self, pair: (u16, Instr))
         requires { length self.old < CODE_MAX }
         ensures { self.new ≡ self.old ++ pair ∷ [] }

@@ -1,4 +1,4 @@
-//! The kinds of instructions, in the order of their opcodes, and what stands after each opcode.
+//! The kinds of instructions, in the order of their opcodes, and what comes after each opcode.
 
 ghost use Rattle.std.specs.Prelude.{◌≡◌, ◌<◌, length, IsSome, slice_get};
 ghost use Rattle.mate_code.specs.Kind.{form_of, width_of, kind_name, IsKindNamed};
@@ -6,7 +6,7 @@ ghost use Rattle.mate_code.specs.Kind.{form_of, width_of, kind_name, IsKindNamed
 use crate::row::Opcode;
 use mate_num::{FunId, Name};
 
-/// What stands after an opcode.
+/// What comes after an opcode.
 #[derive(Clone, Copy)]
 pub enum OperandForm {
     /// Nothing.
@@ -76,7 +76,7 @@ impl OperandForm {
 }
 
 impl Kind {
-    /// What stands after the kind's opcode.
+    /// What comes after the kind's opcode.
     pub fn form(self) -> OperandForm
         ensures { result ≡ form_of self }
     {

@@ -1,4 +1,4 @@
-//! The laws of what code means. Each is what a function promises that does nothing.
+//! The laws of what code means. Each is the contract of a function that does nothing.
 
 ghost use Rattle.std.specs.Prelude.{◌≡◌, ℕ, ℤ, List, Ok, Some};
 ghost use Rattle.arrayvec.specs.ArrayVec.{ArrayVec};
@@ -45,8 +45,8 @@ pub fn ends_in_time()
         IsVerified shape code marks → EndsInTime shape code store msg answers turns }
 {}
 
-/// Verified code is sound: the names of each instruction are in range, its operands are there, and it
-/// goes on at an instruction. So what fits it goes on fitting it, whatever the store holds.
+/// Verified code is sound: what each instruction names exists, its operands are on the stack, and it goes on at an
+/// instruction. So a machine that fits the code fits it after each step, whatever the store holds.
 pub fn is_sound_where_verified()
     ensures of_bytes { (shape : Shape) (bytes : List ℕ) (code : Code) (marks : Marks) →
         AreBytes bytes → bytes_verification shape bytes ≡ Ok (code, marks) → AreVerified shape bytes code marks }

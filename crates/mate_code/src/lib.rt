@@ -1,4 +1,5 @@
-//! The byte code of a Maté machine: instructions, their opcodes, and what they mean.
+//! The byte code of a machine in the manner of Maté (Levis, Gay and Culler, "Active Sensor Networks", NSDI 2005):
+//! instructions, their opcodes, and what they mean.
 #![tactic(auto)]
 
 pub mod codec_laws;
@@ -15,7 +16,7 @@ pub mod table;
 pub mod uses;
 
 pub use codec_laws::{each_opcode_once, one_encoding};
-pub use decoding::{DecodeFault, decode};
+pub use decoding::{DecodeFault, decode, read_instr};
 pub use encoding::{TooLong, encode};
 pub use flow::{Flow, args};
 pub use instr::Instr;

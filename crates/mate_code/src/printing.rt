@@ -16,8 +16,8 @@ use crate::table::Table;
 use mate_files::{Pen, Sink, SinkFault};
 use mate_num::Name;
 
-/// Writes a line for each instruction: its place, its name, and its operand in decimal. A function
-/// shows by its own name, which `desc_names` has at its number.
+/// Writes a line for each instruction: its place, its name, and its operand in decimal. A function is listed by its
+/// own name, which `desc_names` has at its number.
 pub fn listing<S: Sink>(
     table: &Table,
     desc_names: &[Name],
@@ -50,7 +50,7 @@ fn print_line<S: Sink>(pen: &mut Pen, out: &mut S, desc_names: &[Name], place: u
     pen.text(out, "\n");
 }
 
-// Prints an operand behind a space.
+// Prints an operand after a space.
 fn print_operand<S: Sink>(pen: &mut Pen, out: &mut S, form: OperandForm, operand: u16)
     requires { FitsForm form operand }
     ensures { Prints (S.written out.old) (S.faults out.old) pen.old.result

@@ -1,4 +1,4 @@
-//! The table of instructions: all that is told of a kind in one row. (What an instruction does is in the specs' `Effect`.)
+//! The table of instructions: all that is said of a kind in one row. (What an instruction does is in the specs' `Effect`.)
 
 ghost use Rattle.std.specs.Prelude.{◌≡◌};
 ghost use Rattle.mate_code.specs.Row.{columns, row_of};
@@ -26,7 +26,7 @@ pub enum Opcode {
 /// How many values a kind takes from the stack.
 #[derive(Clone, Copy)]
 pub enum Pops {
-    /// So many.
+    /// This many.
     Values(u8),
     /// As many as the function has arguments.
     Args(FunId),
@@ -35,15 +35,15 @@ pub enum Pops {
 /// Where a run goes on after a kind; the operand is the target.
 #[derive(Clone, Copy)]
 pub enum Way {
-    /// At the next place.
+    /// To the next place.
     Next,
     /// Nowhere.
     Ends,
-    /// At the next place or the target.
+    /// To the next place or the target.
     Branches,
-    /// At the target.
+    /// To the target.
     Jumps,
-    /// At the target, for a turn.
+    /// To the target, if a turn is left to pay.
     Returns,
 }
 
@@ -75,11 +75,11 @@ pub struct Row {
     pub opcode: Opcode,
     /// How it is listed; a function has its name from its machine, and none here.
     pub name: &'static str,
-    /// What stands after the opcode.
+    /// What comes after the opcode.
     pub form: OperandForm,
     /// How many values it takes from the stack.
     pub pops: Pops,
-    /// How many values it puts on the stack; a function's answer is one.
+    /// How many values it puts on the stack, 0 or 1; a function's answer is one.
     pub pushes: u8,
     /// Where a run goes on.
     pub way: Way,
@@ -88,7 +88,7 @@ pub struct Row {
 }
 
 impl Kind {
-    /// The kind's row. The columns are those of `Row`, in their order: the opcode, the name, what stands after the opcode,
+    /// The kind's row. The columns are those of `Row`, in their order: the opcode, the name, what comes after the opcode,
     /// how many values it pops and pushes, where a run goes on, and what it names. A row by `plain` or `of_byte` leaves out
     /// the columns that all of its sort share.
     pub fn row(self) -> Row

@@ -42,7 +42,7 @@ static BASE: [Kind; 28] = [
     Kind::MsgSize,
 ];
 
-// The kinds that follow where the machine has a buffer.
+// The kinds that follow if the machine has a buffer.
 static BUFFER_GROUP: [Kind; 6] = [
     Kind::BGet,
     Kind::BSet,
@@ -52,13 +52,13 @@ static BUFFER_GROUP: [Kind; 6] = [
     Kind::BClear,
 ];
 
-/// Which kinds of instructions a machine has, and the opcode of each: 28 that each machine has, 6 for
-/// buffers where it has one, and one for each function, in their order.
+/// Which kinds of instructions a machine has, and the opcode of each: 28 that each machine has, 6 for buffers if it
+/// has one, and one for each function, in their order.
 #[derive(Drop)]
 pub struct Table {
     // Whether the machine has a buffer.
     buffer: bool,
-    // Of each function whether it sends a buffer.
+    // For each function, whether it sends a buffer.
     sends: ArrayVec<bool, 32>,
 }
 
@@ -95,7 +95,7 @@ impl Table {
         self.first_function() as usize + self.sends.len()
     }
 
-    /// The kind of an opcode; None exactly where the machine has none.
+    /// The kind of an opcode; None exactly if the machine has no such opcode.
     pub fn kind(&self, opcode: u8) -> Option<Kind>
         ensures { result ≡ kind_at self.now opcode }
     {
@@ -109,7 +109,7 @@ impl Table {
         self.function_kind(opcode - first)
     }
 
-    /// The opcode of a kind.
+    /// The opcode of a kind that the table has.
     pub fn opcode(&self, kind: Kind) -> u8
         requires { IsInTable self.now kind }
         ensures { result ≡ opcode_of self.now kind }
@@ -120,7 +120,7 @@ impl Table {
         }
     }
 
-    // The kind of a function, where the machine has it.
+    // The kind of a function, if the machine has it.
     fn function_kind(&self, fun: u8) -> Option<Kind>
         ensures { result ≡ option_map (function_kind fun) (slice_get self.now.sends fun) }
     {

@@ -1,4 +1,4 @@
--- What the answers of calls that read files tell.
+-- What the answers of calls that read files say.
 use Rattle.std.proofs.Common.{◌≡◌, Result, Ok, Err, subst}
 use Rattle.std.specs.Prelude.{IfErr}
 use Rattle.mate_refusals.specs.declared.refusal.Refusal.{Refusal}

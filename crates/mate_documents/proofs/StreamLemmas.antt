@@ -1,4 +1,4 @@
--- What `feed` refuses of a stream tells of no file that could not be read.
+-- What `feed` refuses of a stream is about no file that could not be read.
 use Rattle.std.proofs.Common.{inl, inr, ℕ, List, Result, Ok, Err, subst}
 use Rattle.mate_documents.specs.Feed.{answers, whole_stream}
 use Rattle.mate_documents.specs.Outputs.{writes}

@@ -10,7 +10,7 @@ use std::alloc::Global;
 use std::marker::Model;
 use vm_desc::Description;
 
-/// A machine's description on the heap: it is too large to be moved about on the stack. Contracts see the description.
+/// A machine's description on the heap: it is too large to be moved on the stack. Contracts see the description.
 #[derive(Drop)]
 pub struct BoxedMachine {
     held: Box<Description>,
@@ -25,7 +25,7 @@ impl Model for BoxedMachine {
 }
 
 impl BoxedMachine {
-    /// The machine of a word.
+    /// The machine that a word names.
     pub fn named<F: Files>(
         alloc: Global,
         files: &mut F,
@@ -52,7 +52,7 @@ impl BoxedMachine {
     }
 }
 
-/// It stays a call of its own, as what it moves is large. None comes for want of memory.
+/// It isn't inlined, as what it moves is large. None if memory runs out.
 #[inline(never)]
 fn boxed(alloc: Global, description: Description) -> Option<BoxedMachine>
     ensures { IfSome result (λ m. m ≡ description) }

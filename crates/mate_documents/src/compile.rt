@@ -47,7 +47,7 @@ pub fn output<F: Files>(
     image_output(alloc, encode(&capsule))
 }
 
-/// An image as it is written.
+/// An image as a document.
 #[inline(never)]
 fn image_output(alloc: Global, image: Image) -> Result<Output, Refusal>
     ensures does { writes (encode_lower image.items ++ codes "\n") result }
@@ -60,7 +60,7 @@ fn image_output(alloc: Global, image: Image) -> Result<Output, Refusal>
     }
 }
 
-/// The machine's handler of this name.
+/// The machine's handler of this name, if there is one.
 fn handler_of(desc: &Description, name: &str) -> Option<HandlerId>
     ensures { option_map (λ h. h.0) result ≡ handler_named desc.now name.now }
 {

@@ -1,4 +1,4 @@
-//! A text that a command writes when all its parts are at hand.
+//! A text that a command writes once all its parts are known.
 
 ghost use Rattle.std.specs.Prelude.{◌++◌, codes};
 ghost use Rattle.hex.specs.Hex.{encode_lower};
@@ -15,7 +15,7 @@ use mate_steps::VerifiedCapsule;
 use ts_printer::print;
 use ts_syntax::Script;
 
-/// What the text of a document is made from. What is large is boxed.
+/// What the text of a document is made of. Large parts are boxed.
 #[derive(Drop)]
 pub enum Document {
     /// The opcode table of this machine.
@@ -26,7 +26,7 @@ pub enum Document {
     Listing(BoxedMachine, Box<VerifiedCapsule>),
     /// The tokens of a plain script, in one line.
     Expansion(Script),
-    /// What a new node of this machine answers to the frames of this stream, a line each.
+    /// What a new node of this machine answers to the frames of this stream, a line for each.
     Answers(BoxedMachine, Vec<u8>),
     /// That a report shows serial behaviour: one word.
     Serial,
@@ -36,7 +36,7 @@ impl Document {
     ghost use Rattle.std.specs.Prelude.{◌≡◌};
     ghost use Rattle.mate_documents.specs.Documents.{document_text, HasText};
 
-    /// Writes its text; where `out` fails, a prefix was written.
+    /// Writes its text. If `out` fails, a prefix was written.
     pub fn write<S: Sink>(&self, out: &mut S) -> Result<(), SinkFault>
         requires { HasText self.now }
         ensures { Puts (S.written out.old) (S.faults out.old) (S.written out.new) (S.faults out.new) result (document_text self.now) }

@@ -12,7 +12,7 @@ use mate_refusals::Refusal;
 use mate_steps::expansion_of;
 use std::alloc::Global;
 
-/// The plain script that the source with procedures in a file stands for.
+/// The plain script that the source with procedures in a file expands to.
 #[inline(never)]
 pub fn output<F: Files>(alloc: Global, files: &mut F, name: &str) -> Result<Output, Refusal>
     ensures does { expand (record { told = F.contents files.old; steady = F.steady files.old }) name.now result }

@@ -33,7 +33,7 @@ pub fn output<F: Files>(
     answers(machine, stream)
 }
 
-/// The answers to the frames of a stream that ends where a frame ends.
+/// The answers to the frames of a stream, which has to end at the end of a frame.
 #[inline(never)]
 fn answers(machine: BoxedMachine, stream: Vec<u8>) -> Result<Output, Refusal>
     requires { length stream.items ≤ FILE_MAX }
@@ -44,7 +44,7 @@ fn answers(machine: BoxedMachine, stream: Vec<u8>) -> Result<Output, Refusal>
     Ok(Output::Document(Document::Answers(machine, stream)))
 }
 
-/// Whether a stream ends where a frame ends. Where it doesn't, the refusal has the place behind its last END.
+/// `BadStream` if a stream doesn't end at the end of a frame; it has the place after its last END.
 fn whole_stream(stream: &[u8]) -> Result<(), Refusal>
     requires { length stream.now ≤ FILE_MAX }
     ensures { whole_stream stream.now result }

@@ -7,20 +7,19 @@ use report_summary::Summary;
 use script_reader::Steps;
 use world_script::World;
 
-/// What a command is to write to standard output, when all that it needs was read and found right.
+/// What a command is to write to standard output, after all that it needs was read and found right.
 pub enum Output {
-    /// A text all of whose parts are at hand.
+    /// A text all of whose parts are known.
     Document(Document),
     /// The summary of a run on this machine, which was counted as its events ended.
     Summary(BoxedMachine, Summary),
-    /// The report of the run of a script on this machine, with the programs of its files: it is run and written, event by
-    /// event.
+    /// The report of the run of a script on this machine, with the programs of its files: it is run and written event by event.
     Run(BoxedMachine, Steps, Programs),
-    /// The report of the run of a world on nodes of this machine, with the programs of its files: likewise.
+    /// The report of the run of a world on nodes of this machine, with the programs of its files; it, too, is written event by event.
     World(BoxedMachine, World, Programs),
 }
 
-/// What is to be dropped of it is dropped in one function, and so by one call wherever an output ends.
+/// All that has to be dropped is dropped in one function, so each place at which an output ends has one call.
 impl Drop for Output {
     fn drop(self) {
         match self {

@@ -1,4 +1,4 @@
--- A read behind the bytes that a list holds.
+-- A read after the bytes that a list holds.
 use Rattle.std.proofs.Common.{◌≡◌, ℕ, zero, suc, ◌+◌, ◌≤◌, Bool, true, false, cond, List, [], ◌∷◌, ◌++◌, length, take, ap, ◌∙◌, arith, length-append, length-take, take_all, take-take}
 use Rattle.std.proofs.lemmas.List.{take-append-le}
 

@@ -20,22 +20,22 @@ pub enum FilesFault {
 
 /// Files with names, and a count of the reads that failed.
 ///
-/// A count that reached `u64::MAX` stays there; a read that fails then is counted by that.
+/// The count stops at `u64::MAX`; a read that fails later is taken as counted.
 pub trait Files {
-    // The bytes of each name, where the type tells them.
+    // The bytes of each name, if the type can say them.
     ghost contents: { Self → Option Names };
 
     // How many reads failed, or met a file that is too large. It never falls.
     ghost faults: { Self → ℕ };
 
-    // Whether a read fails only by the name and the bytes that are told.
+    // Whether a read fails only for a reason that `contents` shows.
     ghost steady: { Self → Bool };
 
     /// Reads the bytes of `name`, of which there are at most `FILE_MAX`.
     ///
-    /// `Failed` and `TooLarge` come only where the count of faults rose in this call. Where the
-    /// files are steady, `Failed` comes exactly at a name that has no bytes, and `TooLarge` exactly
-    /// at one that has too many, but for want of memory. What the names hold stays as it is.
+    /// `Failed` and `TooLarge` come only if the count of faults rose in this call. If the files are steady, `Failed`
+    /// comes exactly at a name that has no bytes, and `TooLarge` exactly at one that has too many, unless memory runs
+    /// out. What the names hold stays as it is.
     fn read(&mut self, name: &str) -> Result<Vec<u8>, FilesFault>
         ensures gives { ReadGives (contents self.old) (steady self.old) name.now
             (faults self.old) (faults self.new) result }
@@ -43,6 +43,6 @@ pub trait Files {
         ensures steady { steady self.new ≡ steady self.old }
         ensures later { faults self.old ≤ faults self.new };
 
-    // Steady files tell what they hold.
+    // Steady files have contents that contracts can say.
     ghost steady_told: { (files : Self) → IsTrue (steady files) → IsSome (contents files) };
 }

@@ -52,15 +52,14 @@ impl<R: rt::Files> Files for OsFiles<'_, R> {
 
     /// Reads the bytes of the file at `name`, a path from the current folder.
     ///
-    /// `Failed` comes where the file can't be opened or a read of it fails. A file that has more than
-    /// `FILE_MAX` bytes is read no further than the byte behind those: `TooLarge` then names that
-    /// many. Both are counted.
+    /// `Failed` comes if the file can't be opened or a read of it fails. A file that has more than `FILE_MAX` bytes
+    /// is read no further than one byte past them: `TooLarge` then gives that number. Both are counted.
     fn read(&mut self, name: &str) -> Result<Vec<u8>, FilesFault>
         // What every `Files` promises.
         ensures gives { ReadGives None false name.now (faults_of self.old) (faults_of self.new) result }
         ensures later { faults_of self.old ≤ faults_of self.new }
 
-        // What these do besides.
+        // What these do beyond that.
         ensures faults { faults_of self.new ≡ faults_after (faults_of self.old) result }
         ensures too_large { (len : ℕ) → IsErrOf result (FilesFault.TooLarge len) → len ≡ FILE_MAX + 1 }
     {
@@ -90,7 +89,7 @@ fn read_file<R: rt::Files>(alloc: Global, runtime: &R, name: &str) -> Result<Vec
     Ok(bytes)
 }
 
-// The bytes that `file` has left, up to the one behind the first `FILE_MAX`.
+// The bytes that `file` has left, up to one past the first `FILE_MAX`.
 fn read_front<F: Read>(alloc: Global, file: &mut F) -> Result<Vec<u8>, FilesFault>
     ensures short { IfOk result (λ bytes. length bytes.items ≤ FILE_MAX + 1) }
     ensures bytes { IfOk result (λ bytes. Consumes (F.remaining file.old) (F.remaining file.new) bytes.items) }
@@ -107,8 +106,8 @@ fn read_front<F: Read>(alloc: Global, file: &mut F) -> Result<Vec<u8>, FilesFaul
     Ok(bytes)
 }
 
-// How many bytes the next read takes at most, where `held` were read: about as many as those, so that a long file takes few
-// reads and a short one little room.
+// How many bytes the next read takes at most, after `held` were read: about as many again, so that a long file takes
+// few reads and a short one little memory.
 fn next_read(held: usize) -> usize
     requires { held ≤ FILE_MAX }
     ensures some { 0 < result }
@@ -118,8 +117,8 @@ fn next_read(held: usize) -> usize
         .min(FILE_MAX + 1 - held)
 }
 
-// Reads up to `most` bytes, in one read, behind those in `bytes`; 0 come only at the end of `file`. After a fault `bytes`
-// may hold what no file gave.
+// Reads up to `most` bytes, in one read, and appends them to `bytes`; it returns 0 only at the end of `file`. After a
+// fault `bytes` may hold bytes that aren't the file's.
 fn read_more<F: Read>(file: &mut F, bytes: &mut Vec<u8>, most: usize) -> Result<usize, FilesFault>
     requires some { 0 < most }
     requires few { length bytes.old.items + most ≤ FILE_MAX + 1 }

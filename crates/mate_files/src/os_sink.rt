@@ -16,7 +16,7 @@ impl<W: Write> OsSink<W> {
     ghost use Rattle.std.specs.Prelude.{◌≡◌};
     ghost use Rattle.mate_files.specs.OsSink.{writer_of, faults_of};
 
-    /// A sink with no fault, which writes behind what `writer` holds.
+    /// A sink with no fault, which writes after what `writer` holds.
     pub fn new(writer: W) -> OsSink<W>
         ensures writer { writer_of result ≡ writer }
         ensures faults { faults_of result ≡ 0 }
@@ -44,8 +44,7 @@ impl<W: Write> Sink for OsSink<W> {
 
     /// Writes `bytes`, in as many calls of the writer's `write` as it takes.
     ///
-    /// `Failed` is the only refusal. It comes where a `write` fails, or takes none of the bytes that
-    /// are left, and is counted.
+    /// `Failed` is the only refusal. It comes if a `write` fails, or takes none of the bytes that are left, and is counted.
     fn put(&mut self, bytes: &[u8]) -> Result<(), SinkFault>
         // What every `Sink` promises.
         ensures writes { Writes (W.contents (writer_of self.old)) (W.contents (writer_of self.new)) result bytes.now }
@@ -53,7 +52,7 @@ impl<W: Write> Sink for OsSink<W> {
         ensures cause { HasCause (faults_of self.old) (faults_of self.new) result }
         ensures later { faults_of self.old ≤ faults_of self.new }
 
-        // What this does besides.
+        // What this does beyond that.
         ensures refusal { IsOkUnless result SinkFault.Failed }
         ensures faults { faults_of self.new ≡ faults_after (faults_of self.old) result }
     {

@@ -12,8 +12,8 @@ const HEX_PIECE: usize = 64;
 
 /// A pen that prints pieces of text into a sink, one after another, and stops at the first fault.
 ///
-/// It keeps the first fault, and does nothing from then on. So a text is printed by a call a piece,
-/// and its fault is asked for once, by `finish`. No call takes memory of its own.
+/// It keeps the first fault, and does nothing from then on. So each piece of a text is one call, and the fault is
+/// asked for once, by `finish`. No call takes memory of its own.
 #[derive(Drop)]
 pub struct Pen {
     /// The first fault, if there was one.
@@ -62,7 +62,7 @@ impl Pen {
         self.text(out, buffer.format(number));
     }
 
-    /// Prints a number in decimal digits, with a `-` before them where it is negative.
+    /// Prints a number in decimal digits, with a `-` before them if it is negative.
     pub fn signed<S: Sink>(&mut self, out: &mut S, value: i16)
         ensures { Prints (S.written out.old) (S.faults out.old) self.old.result
             (S.written out.new) (S.faults out.new) self.new.result (signed_decimal value) }

@@ -4,7 +4,7 @@ ghost use Rattle.mate_files.specs.Sink.{Writes, StopsShort, HasCause};
 
 use thiserror::Error;
 
-/// Why a sink didn't take all of a piece. A prefix of the piece was appended, which is shorter than it.
+/// Why a sink didn't take all of a piece. A prefix of the piece, shorter than it, was appended.
 #[derive(Clone, Copy, Debug, Error)]
 pub enum SinkFault {
     /// The sink could not be written.
@@ -17,18 +17,18 @@ pub enum SinkFault {
 
 /// Bytes that are written one piece after another, and a count of the writes that failed.
 ///
-/// A count that reached `u64::MAX` stays there; a write that fails then is counted by that.
+/// The count stops at `u64::MAX`; a write that fails later is taken as counted.
 pub trait Sink {
-    // The bytes that were written, where the type tells them.
+    // The bytes that were written, if the type can say them.
     ghost written: { Self → Option (List ℕ) };
 
     // How many writes failed. It never falls.
     ghost faults: { Self → ℕ };
 
-    /// Appends exactly `bytes`, or a prefix of them that lacks at least the last one where it is refused.
-    /// No bytes are never refused.
+    /// Appends exactly `bytes`, or a prefix of them that lacks at least the last one if it is refused.
+    /// Empty `bytes` are never refused.
     ///
-    /// `Failed` comes only where the count of faults rose in this call. Memory comes from the sink's
+    /// `Failed` comes only if the count of faults rose in this call. Memory comes from the sink's
     /// own allocator.
     fn put(&mut self, bytes: &[u8]) -> Result<(), SinkFault>
         ensures writes { Writes (written self.old) (written self.new) result bytes.now }

@@ -1,8 +1,9 @@
 -- What journals that are put together tell, and what is heard of them.
-use Rattle.std.proofs.Common.{◌≡◌, List, [], ◌∷◌, ◌++◌, map, refl, ap}
+use Rattle.std.proofs.Common.{◌≡◌, ℕ, List, [], ◌∷◌, ◌++◌, map, refl, ap}
 use Rattle.mate_num.specs.declared.call.Stamp.{Stamp}
 use Rattle.mate_journal.specs.Machine.{Machine}
-use Rattle.mate_journal.specs.Journal.{JournalEntry, TimedEntry, NodeState, next_state, state_after_all, untimed}
+use Rattle.mate_journal.specs.Journal.{JournalEntry, TimedEntry, NodeState, next_state, state_after_all, state_after_entries, untimed}
+use Rattle.mate_journal.specs.NodeScript.{made_at}
 
 pub heard_all-append : (m : Machine) (r : NodeState) (es fs : List TimedEntry) → state_after_all m r (es ++ fs) ≡ state_after_all m (state_after_all m r es) fs
 heard_all-append m r [] fs = refl
@@ -16,3 +17,17 @@ told_by-append (e ∷ es) fs = ap (λ ts. e.told ∷ ts) (told_by-append es fs)
 pub told_by-at : (at : Stamp) (told : List JournalEntry) → untimed (map (λ t. record { stamp = at; told = t }) told) ≡ told
 told_by-at at [] = refl
 told_by-at at (t ∷ ts) = ap (λ (rest : List JournalEntry). t ∷ rest) (told_by-at at ts)
+
+pub told_by-made : (n : ℕ) (told : List JournalEntry) (rest : List TimedEntry) → untimed (map (made_at n) told ++ rest) ≡ told ++ untimed rest
+told_by-made n [] rest = refl
+told_by-made n (t ∷ ts) rest = ap (λ (ts : List JournalEntry). t ∷ ts) (told_by-made n ts rest)
+
+-- what events tell is heard by them
+pub heard_all-told : (m : Machine) (r : NodeState) (es : List TimedEntry) → state_after_all m r es ≡ state_after_entries m r (untimed es)
+heard_all-told m r [] = refl
+heard_all-told m r (e ∷ es) = heard_all-told m (next_state m r e.told) es
+
+pub heard_all-made : (m : Machine) (r : NodeState) (n : ℕ) (told : List JournalEntry) (rest : List TimedEntry)
+    → state_after_all m r (map (made_at n) told ++ rest) ≡ state_after_all m (state_after_entries m r told) rest
+heard_all-made m r n [] rest = refl
+heard_all-made m r n (t ∷ ts) rest = heard_all-made m (next_state m r t) n ts rest

@@ -12,7 +12,7 @@ use Rattle.mate_num.specs.declared.id.ContextId.{ContextId}
 use Rattle.mate_num.specs.declared.store.Store.{Store}
 use Rattle.mate_journal.specs.Machine.{Machine, HeldProgram, IsContextOf}
 use Rattle.mate_num.specs.declared.outcome.Outcome.{Outcome}
-use Rattle.mate_journal.specs.Journal.{Phase, Ready, Waiting, Over, untimed, JournalEntry, Posted, Started, Asked, Ended, Installed, Seen, TimedEntry, NodeState, first_state, next_state, is_started, Queued, changed, Invocation}
+use Rattle.mate_journal.specs.Journal.{Phase, Ready, Waiting, Over, JournalEntry, Posted, Started, Asked, Ended, Installed, Seen, TimedEntry, NodeState, first_state, next_state, is_started, Queued, changed, Invocation}
 use Rattle.mate_journal.specs.WellFormed.{IsWellFormed, Closes, NotBefore}
 use Rattle.mate_journal.specs.Serial.{IsSerial, RunsSoFar}
 use Rattle.mate_journal.specs.Stores.{ShowsStores, IsShown}
@@ -21,7 +21,7 @@ use Rattle.mate_journal.specs.Positions.{TellsAt}
 use Rattle.mate_journal.specs.Devices.{DeviceOf, AsksAt, AsksDevicesInOrder}
 use Rattle.mate_journal.specs.Pace.{Pace, no_pace, paced, gives_way}
 use Rattle.mate_journal.specs.Turns.{ShowsReady, entry_at, Turn, IsTurn, after_step, Settles}
-use Rattle.mate_journal.specs.NodeScript.{Step, Install, Post, Run, Whole, IsRunOf, HaveMade, AreOfEvent, Installs, Posts}
+use Rattle.mate_journal.specs.NodeScript.{Step, Install, Post, Run, Whole, EndsRun, IsRunOf, HaveMade, made_at as at, Installs, Posts}
 
 abbrev empty : ArrayVec ℤ
 empty = record { items = [] }
@@ -35,9 +35,6 @@ first = record { 0 = 0 }
 -- a program for the first handler
 abbrev pub for_main : ℕ → ArrayVec ℕ → HeldProgram
 for_main version image = record { handler = main; version = version; image = image }
-
-abbrev pub at : ℕ → JournalEntry → TimedEntry
-at k told = record { stamp = record { event = k; time = 0 }; told = told }
 
 -- the run of the program at the beginning of an era
 abbrev pub first_run : Machine → HeldProgram → Outcome
@@ -238,28 +235,15 @@ module _ (m : Machine) (version : ℕ) (image : ArrayVec ℕ) where
         (subst (λ (es : List TimedEntry). TellsAt es (length front + q) (Asked n asks.fun asks.args)) (sym is) (TellsAt-behind front (era ++ back) q (Asked n asks.fun asks.args) (TellsAt-before era back q (Asked n asks.fun asks.args) asks.tells)))
 
   pub one_run-events : RunsToEnd m p → IsRunOf m Whole (one_script p) (one_run m p)
-  one_run-events h = record {
-    done = one_script p;
-    left = [];
-    front = at 1 (Seen m.zero_store) ∷ at 1 (Installed p) ∷ posting;
-    last = at 4 (Seen (first_run m p).store) ∷ [];
-    pace = after_step m started (gives_way pace_started 1) m.quantum turn;
-    steps_are = refl;
-    events_are = refl;
-    made = from_install;
-    ends = (refl, record { seen = (first_run m p).store; shown = none_ready ended (each_ended IsQuiet refl (λ k _. refl)); made = refl }, alone 4 (Seen (first_run m p).store));
-  } where
+  one_run-events h = record { done = one_script p; left = []; steps_are = refl; made = from_install } where
+    last : List TimedEntry
+    last = at 4 (Seen (first_run m p).store) ∷ []
+
     running : List TimedEntry
-    running = at 3 (Ended 1 (first_run m p).end) ∷ []
+    running = at 3 (Ended 1 (first_run m p).end) ∷ last
 
     posting : List TimedEntry
     posting = at 2 (Posted 1 main first empty) ∷ at 2 (Started 1) ∷ running
-
-    of_event : (n : ℕ) (a b : JournalEntry) → AreOfEvent n (at n a ∷ at n b ∷ [])
-    of_event n a b = All-from_recursion (λ (e : TimedEntry). e.stamp ≡ record { event = n; time = 0 }) (at n a ∷ at n b ∷ []) (refl, (refl, tt))
-
-    alone : (n : ℕ) (a : JournalEntry) → AreOfEvent n (at n a ∷ [])
-    alone n a = All-from_recursion (λ (e : TimedEntry). e.stamp ≡ record { event = n; time = 0 }) (at n a ∷ []) (refl, tt)
 
     none_ready : (r : NodeState) → ((n : ℕ) → is_started (r.invocations n).phase ≡ false) → {pace : Pace} {seen : Store} → ShowsReady m r pace seen
     none_ready r quiet = record { ready = λ at n w ready. absurd (untrue (is_started (r.invocations n).phase) w.started (quiet n)) }
@@ -270,7 +254,7 @@ module _ (m : Machine) (version : ℕ) (image : ArrayVec ℕ) where
     turn : Turn
     turn = record { invocation = 1; told = Ended 1 (first_run m p).end ∷ [] }
 
-    installs : Installs m (first_state m) no_pace p (untimed (at 1 (Seen m.zero_store) ∷ at 1 (Installed p) ∷ []))
+    installs : Installs m (first_state m) no_pace p (Seen m.zero_store ∷ Installed p ∷ [])
     installs = record {
       seen = m.zero_store;
       rest = [];
@@ -281,7 +265,7 @@ module _ (m : Machine) (version : ℕ) (image : ArrayVec ℕ) where
       else = λ _. refl;
     }
 
-    posts : Posts m installed main empty (untimed (at 2 (Posted 1 main first empty) ∷ at 2 (Started 1) ∷ []))
+    posts : Posts m installed main empty (Posted 1 main first empty ∷ Started 1 ∷ [])
     posts = record {
       context = first;
       starts = Started 1 ∷ [];
@@ -303,7 +287,7 @@ module _ (m : Machine) (version : ℕ) (image : ArrayVec ℕ) where
       reached = λ _. record { starts = []; are_starts = All-from_recursion IsStart [] tt; told_is = ap (λ (t : JournalEntry). t ∷ []) (closing (first_run m p).end h.closes) };
     }
 
-    settles : Settles m started pace_started (untimed running) (after_step m started (gives_way pace_started 1) m.quantum turn)
+    settles : Settles m started pace_started (Ended 1 (first_run m p).end ∷ []) (after_step m started (gives_way pace_started 1) m.quantum turn)
     settles = record {
       turns = turn ∷ [];
       are_turns = (([], refl), is_turn, tt);
@@ -313,29 +297,22 @@ module _ (m : Machine) (version : ℕ) (image : ArrayVec ℕ) where
       settled = each_ended (λ k i. i.phase ≡ Ready → ⊥) (λ e. cc) (λ k _ e. cc);
     }
 
-    from_run : HaveMade m 4 3 started pace_started (Run ∷ []) running (after_step m started (gives_way pace_started 1) m.quantum turn)
-    from_run = (lit< tt, running, [], after_step m started (gives_way pace_started 1) m.quantum turn, refl, alone 3 (Ended 1 (first_run m p).end), settles, (refl, refl))
+    pace_ended : Pace
+    pace_ended = after_step m started (gives_way pace_started 1) m.quantum turn
 
-    from_post : HaveMade m 2 2 installed no_pace (Post main empty ∷ Run ∷ []) posting (after_step m started (gives_way pace_started 1) m.quantum turn)
-    from_post = (
-      lit< tt,
-      at 2 (Posted 1 main first empty) ∷ at 2 (Started 1) ∷ [],
-      running,
-      pace_started,
+    at_end : EndsRun m Whole [] 5 4 ended pace_ended last
+    at_end = (
       refl,
-      of_event 2 (Posted 1 main first empty) (Started 1),
-      (inr (inr posts), refl),
-      from_run,
+      Seen (first_run m p).store ∷ [],
+      record { seen = (first_run m p).store; shown = none_ready ended (each_ended IsQuiet refl (λ k _. refl)); made = refl },
+      refl,
     )
 
-    from_install : HaveMade m 0 1 (first_state m) no_pace (one_script p) (at 1 (Seen m.zero_store) ∷ at 1 (Installed p) ∷ posting) (after_step m started (gives_way pace_started 1) m.quantum turn)
-    from_install = (
-      lit< tt,
-      at 1 (Seen m.zero_store) ∷ at 1 (Installed p) ∷ [],
-      posting,
-      no_pace,
-      refl,
-      of_event 1 (Seen m.zero_store) (Installed p),
-      (inl installs, refl),
-      from_post,
-    )
+    from_run : HaveMade (EndsRun m Whole []) m 4 3 started pace_started (Run ∷ []) running
+    from_run = (lit< tt, Ended 1 (first_run m p).end ∷ [], last, pace_ended, refl, settles, at_end)
+
+    from_post : HaveMade (EndsRun m Whole []) m 2 2 installed no_pace (Post main empty ∷ Run ∷ []) posting
+    from_post = (lit< tt, Posted 1 main first empty ∷ Started 1 ∷ [], running, pace_started, refl, (inr (inr posts), refl), from_run)
+
+    from_install : HaveMade (EndsRun m Whole []) m 0 1 (first_state m) no_pace (one_script p) (one_run m p)
+    from_install = (lit< tt, Seen m.zero_store ∷ Installed p ∷ [], posting, no_pace, refl, (inl installs, refl), from_post)

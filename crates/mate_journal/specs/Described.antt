@@ -1,5 +1,6 @@
 -- The machine of a description.
-use Rattle.std.specs.Prelude.{ℕ, Bool, true, false, length, Option, Some, None, slice_get}
+use Rattle.std.specs.Prelude.{ℕ, Bool, true, false, length, Option, slice_get}
+use Rattle.std.specs.Option.{option_map_or, option_and_then}
 use Rattle.mate_num.specs.Store.{zero_store}
 use Rattle.mate_num.specs.declared.id.DeviceId.{DeviceId}
 use Rattle.vm_desc.specs.Contexts.{first_context}
@@ -12,24 +13,19 @@ use Rattle.mate_journal.specs.Machine.{Machine, Meaning}
 
 -- how many contexts a handler has
 abbrev pub contexts_of : Option Handler → ℕ
-contexts_of None = 0
-contexts_of (Some h) = h.contexts
+contexts_of handler = option_map_or (λ h. h.contexts) handler 0
 
 -- a handler of this kind runs once at each of its installs
 abbrev pub is_once : HandlerKind → Bool
-is_once kind.Plain = false
-is_once (kind.Timer period) = false
-is_once kind.Receive = false
 is_once kind.Once = true
+is_once _ = false
 
 abbrev pub runs_once : Option Handler → Bool
-runs_once None = false
-runs_once (Some h) = is_once h.kind
+runs_once handler = option_map_or (λ h. is_once h.kind) handler false
 
 -- the device that a function speaks to, if any
 abbrev pub device_for : Option Function → Option DeviceId
-device_for None = None
-device_for (Some f) = f.device
+device_for fun = option_and_then (λ f. f.device) fun
 
 -- a description's machine, with what its programs mean
 abbrev pub machine_of : Description → Meaning → Machine

@@ -1,5 +1,6 @@
 -- A node's journal, and the state that it leads to at each place in it.
 use Rattle.std.specs.Prelude.{ℕ, ◌==◌, Bool, true, false, List, [], ◌∷◌, ◌++◌, map, ℤ, Option, Some, None, unwrap_or, slice_index_or, if◌then◌else◌}
+use Rattle.std.specs.Option.{option_map_or}
 use Rattle.arrayvec.specs.ArrayVec.{ArrayVec}
 use Rattle.mate_num.specs.declared.call.Call.{Call}
 use Rattle.mate_num.specs.declared.call.End.{End}
@@ -95,18 +96,14 @@ pub data Phase : Type 0 where
 -- posted, and not over
 abbrev pub is_live : Phase → Bool
 is_live Unposted = false
-is_live Queued = true
-is_live Ready = true
-is_live (Waiting f args) = true
 is_live Over = false
+is_live _ = true
 
 -- live, and its locks were granted
 abbrev pub is_started : Phase → Bool
-is_started Unposted = false
-is_started Queued = false
 is_started Ready = true
 is_started (Waiting f args) = true
-is_started Over = false
+is_started _ = false
 
 pub record Invocation : Type 0 where
   pub handler : HandlerId
@@ -127,17 +124,13 @@ pub record NodeState : Type 0 where
 abbrev pub no_program : HeldProgram
 no_program = record { handler = record { 0 = 0 }; version = 0; image = no_image }
 
+-- an invocation as it is posted
+abbrev pub new_invocation : HandlerId → ContextId → HeldProgram → ArrayVec ℤ → Invocation
+new_invocation h c program payload = record { handler = h; context = c; program = program; payload = payload; calls = []; phase = Queued }
+
 -- an invocation that was not posted yet
 abbrev unposted : Invocation
-unposted =
-    record {
-      handler = record { 0 = 0 };
-      context = record { 0 = 0 };
-      program = no_program;
-      payload = record { items = [] };
-      calls = [];
-      phase = Unposted;
-    }
+unposted = record (new_invocation (record { 0 = 0 }) (record { 0 = 0 }) no_program (record { items = [] })) { phase = Unposted }
 
 -- the state before any entry
 abbrev pub first_state : Machine → NodeState
@@ -145,10 +138,7 @@ first_state m = record { serial = m.zero_store; posts = 0; installed = λ _. Non
 
 -- the version that the node holds of a handler, 0 for none
 abbrev pub held : NodeState → HandlerId → ℕ
-held r h = version_of (r.installed h) where
-  version_of : Option HeldProgram → ℕ
-  version_of None = 0
-  version_of (Some p) = p.version
+held r h = option_map_or (λ p. p.version) (r.installed h) 0
 
 -- f, with one value changed
 abbrev pub changed : {A : Type 0} → (ℕ → A) → ℕ → A → ℕ → A
@@ -172,31 +162,22 @@ whole_run m = on_serial m.meaning.run m
 
 -- the calls of an invocation, with the one that it waits in and its answer
 abbrev answered : Phase → ℤ → List Call → List Call
-answered Unposted value calls = calls
-answered Queued value calls = calls
-answered Ready value calls = calls
 answered (Waiting f args) value calls = calls ++ record { fun = f; args = args; result = value } ∷ []
-answered Over value calls = calls
+answered _ value calls = calls
 
 -- an invocation after an era's end: a live one is cut
 abbrev pub cut_at_era : Invocation → Invocation
 cut_at_era i = in_phase (if is_live i.phase then Over else i.phase) i
 
+-- the state at an era's beginning: the store is zero, and what was live is cut
+abbrev pub new_era : Machine → NodeState → NodeState
+new_era m r = record r { serial = m.zero_store; invocations = λ n. cut_at_era (r.invocations n) }
+
 -- the state after one more entry
 abbrev pub next_state : Machine → NodeState → JournalEntry → NodeState
 next_state m r (Posted n h c payload) =
-    record r {
-      posts = n;
-      invocations = changed r.invocations n
-          (record {
-            handler = h;
-            context = c;
-            program = unwrap_or (r.installed h) no_program;
-            payload = payload;
-            calls = [];
-            phase = Queued;
-          });
-    }
+    let i = new_invocation h c (unwrap_or (r.installed h) no_program) payload in
+    record r { posts = n; invocations = changed r.invocations n i }
 next_state m r (Dropped h cause) = r
 next_state m r (Started n) = record r { invocations = changed r.invocations n (in_phase Ready (r.invocations n)) }
 next_state m r (Asked n f args) = record r { invocations = changed r.invocations n (in_phase (Waiting f args) (r.invocations n)) }
@@ -205,14 +186,8 @@ next_state m r (Answered n value) =
     record r { invocations = changed r.invocations n (record i { calls = answered i.phase value i.calls; phase = Ready }) }
 next_state m r (Ended n how) =
     record r { serial = (whole_run m r n).store; invocations = changed r.invocations n (in_phase Over (r.invocations n)) }
-next_state m r (Installed p) =
-    record {
-      serial = m.zero_store;
-      posts = r.posts;
-      installed = λ h. if h.0 == p.handler.0 then Some p else r.installed h;
-      invocations = λ n. cut_at_era (r.invocations n);
-    }
-next_state m r Reset = record r { serial = m.zero_store; invocations = λ n. cut_at_era (r.invocations n) }
+next_state m r (Installed p) = record (new_era m r) { installed = λ h. if h.0 == p.handler.0 then Some p else r.installed h }
+next_state m r Reset = new_era m r
 next_state m r (Seen store) = r
 next_state m r (Void cause) = r
 

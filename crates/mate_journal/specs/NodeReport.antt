@@ -11,8 +11,7 @@ use Rattle.mate_journal.specs.declared.report.Report.{Report}
 
 abbrev pub is_whole : RunEnd → Bool
 is_whole Whole = true
-is_whole Full = false
-is_whole Cut = false
+is_whole _ = false
 
 -- The report is of one node, whose log is tidy and is that of a run of these steps, with nothing on the air. It says whether
 -- the run is whole, and how many steps were begun.

@@ -1,5 +1,5 @@
 -- Events and posts of a node script: which entries each step of the script makes, and the pace after it.
-use Rattle.std.specs.Prelude.{◌≡◌, ◌≢◌, ◌≤◌, ◌<◌, ℕ, suc, ◌+◌, false, IsTrue, List, [], ◌∷◌, ◌++◌, ℤ, length, All, IsSome, IsNone, ◌⊎◌}
+use Rattle.std.specs.Prelude.{◌≡◌, ◌≢◌, ◌≤◌, ◌<◌, ℕ, suc, ◌+◌, false, IsTrue, List, [], ◌∷◌, ◌++◌, ℤ, length, map, All, IsSome, IsNone, ◌⊎◌}
 use Rattle.arrayvec.specs.ArrayVec.{ArrayVec}
 use Rattle.mate_num.specs.declared.id.HandlerId.{HandlerId}
 use Rattle.mate_num.specs.declared.id.ContextId.{ContextId}
@@ -8,7 +8,7 @@ use Rattle.mate_journal.specs.declared.report.TheConstants.{RECORDS_MAX}
 use Rattle.mate_journal.specs.declared.entry.DropCause.TheVariants as drop
 use Rattle.mate_journal.specs.declared.entry.VoidCause.TheVariants as void
 use Rattle.mate_journal.specs.Machine.{Machine, HeldProgram, IsContextOf}
-use Rattle.mate_journal.specs.Journal.{JournalEntry, Posted, Dropped, Answered, Installed, Reset, Seen, Void, TimedEntry, Ready, NodeState, first_state, held, next_state, state_after_all, untimed}
+use Rattle.mate_journal.specs.Journal.{JournalEntry, Posted, Dropped, Answered, Installed, Reset, Seen, Void, TimedEntry, Ready, NodeState, first_state, held, next_state, state_after_entries}
 use Rattle.mate_journal.specs.WellFormed.{IsIdle, IsBusy, IsWaiting}
 use Rattle.mate_journal.specs.Grants.{IsStart}
 use Rattle.mate_journal.specs.Pace.{Pace, no_pace, paced_all}
@@ -127,23 +127,22 @@ Makes m r p (Answer c value) told q = (AnswersCall r c value told ⊎ IsNotWaiti
 Makes m r p Show told q = ShowsOnce m r p told × IsPacedBy p told q
 Makes m r p ResetNode told q = Resets m r p told × IsPacedBy p told q
 
--- all of one event, at time 0
-abbrev pub AreOfEvent : ℕ → List TimedEntry → Type 0
-AreOfEvent n es = All (λ (e : TimedEntry). e.stamp ≡ record { event = n; time = 0 }) es
+-- an entry of this event, at time 0
+abbrev pub made_at : ℕ → JournalEntry → TimedEntry
+made_at n told = record { stamp = record { event = n; time = 0 }; told = told }
 
--- These steps made these events, one event each, and the pace after them is q. `records` were before the first of them,
--- which is event n. An event begins only if fewer than 1,000,000 records are before it.
-abbrev pub HaveMade : Machine → ℕ → ℕ → NodeState → Pace → List Step → List TimedEntry → Pace → Type 0
-HaveMade m records n r p [] es q = (es ≡ []) × (q ≡ p)
-HaveMade m records n r p (step ∷ steps) es q =
+-- These steps made the first of these entries, one event each, and `Ends` holds of what follows: of how many entries are before
+-- it, of the number of its event, of the state and the pace, and of its entries. `records` entries were before the first step,
+-- which is event n. An event begins only if fewer than 1,000,000 entries are before it.
+abbrev pub HaveMade : (ℕ → ℕ → NodeState → Pace → List TimedEntry → Type 0)
+    → Machine → ℕ → ℕ → NodeState → Pace → List Step → List TimedEntry → Type 0
+HaveMade Ends m records n r p [] es = Ends records n r p es
+HaveMade Ends m records n r p (step ∷ steps) es =
     (records < records_max)
-    × (front : List TimedEntry)
-    × (rest : List TimedEntry)
-    × (then : Pace)
-    × (es ≡ front ++ rest)
-    × AreOfEvent n front
-    × Makes m r p step (untimed front) then
-    × HaveMade m (records + length front) (suc n) (state_after_all m r front) then steps rest q
+    × (told : List JournalEntry) × (rest : List TimedEntry) × (then : Pace)
+    × (es ≡ map (made_at n) told ++ rest)
+    × Makes m r p step told then
+    × HaveMade Ends m (records + length told) (suc n) (state_after_entries m r told) then steps rest
 
 -- how a run ends: it is whole, its log is full, or it was cut from outside after a step
 pub data RunEnd : Type 0 where
@@ -151,21 +150,16 @@ pub data RunEnd : Type 0 where
   Full : RunEnd
   Cut : RunEnd
 
--- the last events, if these steps are left before event n: a whole run has none left, and ends with the store seen
--- under the next number; a full one stops before a step, if 1,000,000 records or more are before it
-abbrev pub EndsRun : Machine → RunEnd → ℕ → ℕ → NodeState → Pace → List Step → List TimedEntry → Type 0
-EndsRun m Whole records n r p left es = (left ≡ []) × ShowsOnce m r p (untimed es) × AreOfEvent n es
-EndsRun m Full records n r p left es = (left ≢ []) × (records_max ≤ records) × (es ≡ [])
-EndsRun m Cut records n r p left es = es ≡ []
+-- the last entries, if these steps are left before event n: a whole run has none left, and ends with the store seen
+-- under the next number; a full one stops before a step, if 1,000,000 entries or more are before it
+abbrev pub EndsRun : Machine → RunEnd → List Step → ℕ → ℕ → NodeState → Pace → List TimedEntry → Type 0
+EndsRun m Whole left records n r p es = (left ≡ []) × (told : List JournalEntry) × ShowsOnce m r p told × (es ≡ map (made_at n) told)
+EndsRun m Full left records n r p es = (left ≢ []) × (records_max ≤ records) × (es ≡ [])
+EndsRun m Cut left records n r p es = es ≡ []
 
--- the k-th step is event k, at time 0: the steps that were done made the events in front, and the run ends so
+-- the k-th step is event k, at time 0: the steps that were done made their entries, and then the run ends
 pub record IsRunOf (m : Machine) (how : RunEnd) (steps : List Step) (es : List TimedEntry) : Type 0 where
   pub done : List Step
   pub left : List Step
-  pub front : List TimedEntry
-  pub last : List TimedEntry
-  pub pace : Pace
   pub steps_are : steps ≡ done ++ left
-  pub events_are : es ≡ front ++ last
-  pub made : HaveMade m 0 1 (first_state m) no_pace done front pace
-  pub ends : EndsRun m how (length front) (suc (length done)) (state_after_all m (first_state m) front) pace left last
+  pub made : HaveMade (EndsRun m how left) m 0 1 (first_state m) no_pace done es

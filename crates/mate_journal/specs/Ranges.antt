@@ -28,23 +28,20 @@ pub record HasStampRange (at : Stamp) : Type 0 where
   pub time : at.time < 2 ^ 32
 
 abbrev pub HasVoidRanges : VoidCause → Type 0
-HasVoidRanges void.NotReady = ⊤
-HasVoidRanges void.NotWaiting = ⊤
 HasVoidRanges (void.NotNewer held) = held < 2 ^ 32
+HasVoidRanges _ = ⊤
 
 -- of an entry (an image and a store are named by their places)
 abbrev pub HasEntryRanges : Entry → Type 0
 HasEntryRanges (entry.Post n h c payload) = (n < 2 ^ 32) × AreValues payload.items
-HasEntryRanges (entry.Dropped h cause) = ⊤
 HasEntryRanges (entry.Start n) = n < 2 ^ 32
 HasEntryRanges (entry.Ask n f args) = (n < 2 ^ 32) × AreValues args.items
 HasEntryRanges (entry.Answer n v) = (n < 2 ^ 32) × FitsSigned w16 v
 HasEntryRanges (entry.Halt n) = n < 2 ^ 32
 HasEntryRanges (entry.Fault n kind) = n < 2 ^ 32
 HasEntryRanges (entry.Install h version image) = version < 2 ^ 32
-HasEntryRanges entry.Reset = ⊤
-HasEntryRanges (entry.Seen store) = ⊤
 HasEntryRanges (entry.Void cause) = HasVoidRanges cause
+HasEntryRanges _ = ⊤
 
 abbrev pub HasAirRanges : Air → Type 0
 HasAirRanges (air.Interval length) = length < 2 ^ 32

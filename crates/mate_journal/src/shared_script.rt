@@ -6,7 +6,7 @@ use mate_num::NoMemory;
 use std::alloc::Global;
 use std::marker::Model;
 use std::rc::Rc;
-use ts_syntax::Checked;
+use ts_checked::Checked;
 
 /// A checked source, which is in one place for all programs that it gives. Contracts see the source.
 #[derive(Drop)]
@@ -16,8 +16,8 @@ pub struct SharedScript {
 
 impl Model for SharedScript {
     ghost use Rattle.std.specs.Coded.{codes};
-    ghost use Rattle.ts_syntax.specs.contracts.checked_stmt.CStmt as stmt;
-    ghost use Rattle.ts_syntax.specs.declared.checked.Checked.{Checked as Source};
+    ghost use Rattle.ts_checked.specs.contracts.checked_stmt.CStmt as stmt;
+    ghost use Rattle.ts_checked.specs.declared.checked.Checked.{Checked as Source};
 
     ghost Value = { Source };
 

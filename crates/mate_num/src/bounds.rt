@@ -1,4 +1,4 @@
-//! The limits of a machine, and the vectors of fixed room that its values, code, images and packets stand in.
+//! The limits of a machine, and the vectors of fixed room that hold its values, code, images and packets.
 
 use arrayvec::ArrayVec;
 

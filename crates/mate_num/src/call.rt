@@ -26,14 +26,14 @@ pub struct Call {
     pub result: i16,
 }
 
-/// How far a run of a handler came.
+/// How far a run of a handler came. `Wants` ends a run that called a function for which there is no answer yet.
 #[derive(Drop)]
 pub enum End {
     /// It ran to its end.
     Halt,
     /// It was stopped.
     Fault(FaultKind),
-    /// It called a function for which there is no answer yet.
+    /// It called `fun` with `args`, and there is no answer yet.
     Wants { fun: FunId, args: Payload },
 }
 

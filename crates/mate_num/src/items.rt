@@ -7,7 +7,7 @@ use crate::no_memory::NoMemory;
 use std::alloc::Global;
 use std::marker::Model;
 
-/// Items in the order in which they were pushed. Contracts see the list.
+/// Items in the order in which they were pushed. Contracts see the list of them.
 #[derive(Drop)]
 pub struct Items<T> {
     items: Vec<T>,
@@ -41,7 +41,7 @@ impl<T> Items<T> {
         self.items.is_empty()
     }
 
-    /// The item at `index`, from 0; None exactly from the length on.
+    /// The item at `index`, from 0; None exactly if `index` is the length or more.
     pub fn get(&self, index: usize) -> Option<&T>
         ensures { option_copied result ≡ slice_get self.now index }
     {
@@ -55,7 +55,7 @@ impl<T> Items<T> {
     }
 
     /// Appends `item`. `NoMemory` leaves the list as it was. The first item takes room for itself alone, since many
-    /// lists have but one, as the blocks and the arguments of a script.
+    /// lists of a script have one item.
     pub fn push(&mut self, item: T) -> Result<(), NoMemory>
     where
         T: Drop,
@@ -68,7 +68,7 @@ impl<T> Items<T> {
         Ok(())
     }
 
-    /// Keeps the first `count` items, or all where there are fewer.
+    /// Keeps the first `count` items, or all if there are fewer.
     pub fn truncate(&mut self, count: usize)
     where
         T: Drop,

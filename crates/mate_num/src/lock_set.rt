@@ -6,15 +6,15 @@ ghost use Rattle.mate_num.specs.Locks.{bit_of, is_resource, has, lock_uses, Shar
 
 use crate::resource::Resource;
 
-/// A set of resources to read and a set of resources to write. Bit v stands for shared variable v,
-/// bit 16 + b for buffer b and bit 24 + d for device d.
+/// A set of resources to read and a set of resources to write. Bit v is shared variable v,
+/// bit 16 + b is buffer b and bit 24 + d is device d.
 #[derive(Clone, Copy)]
 pub struct LockSet {
     read: u32,
     written: u32,
 }
 
-/// The word that has this resource alone.
+/// The word that has this resource's bit alone.
 fn bit(resource: Resource) -> u32
     requires { IsTrue (is_resource resource) }
     ensures { result ≡ 2 ^ bit_of resource }
@@ -26,12 +26,12 @@ fn bit(resource: Resource) -> u32
     }
 }
 
-/// A law on lock sets: two that stand for the same reads and the same writes are equal.
+/// A law: two lock sets with the same reads and the same writes are equal.
 pub fn lock_sets_are_their_words(a: LockSet, b: LockSet)
     ensures { IsSameUses (lock_uses a) (lock_uses b) → a ≡ b }
 {}
 
-/// Whether the two words share a resource.
+/// Whether the two words have a resource in common.
 fn overlap(a: u32, b: u32) -> bool
     ensures { MatchBool result (Share a b) (IsApart a b) }
 {
@@ -89,9 +89,10 @@ impl LockSet {
         self.written & bit(resource) != 0
     }
 
-    /// Whether no resource that one of the two writes is read or written by the other.
+    /// Whether neither set writes a resource that the other reads or writes.
     pub fn compatible(&self, other: &LockSet) -> bool
-        ensures { MatchBool result (IsCompatible (lock_uses self.now) (lock_uses other.now)) (Conflicts (lock_uses self.now) (lock_uses other.now)) }
+        ensures { MatchBool result (IsCompatible (lock_uses self.now) (lock_uses other.now))
+            (Conflicts (lock_uses self.now) (lock_uses other.now)) }
     {
         !overlap(self.written, other.read | other.written)
             && !overlap(other.written, self.read | self.written)

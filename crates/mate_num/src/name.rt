@@ -11,7 +11,7 @@ use std::marker::Model;
 /// A text of at most 16 bytes. Contracts see its bytes.
 #[derive(Drop)]
 pub struct Name {
-    // The text's bytes, and any others behind them. A name is small, since a source's tokens and trees hold many.
+    // The text's bytes, and any others after them. A name is small, since a source's tokens and trees hold many.
     bytes: [u8; 16],
     // How many of them are the text's.
     len: u8,
@@ -31,7 +31,7 @@ impl Name {
     /// The greatest length of a name, in bytes.
     pub const MAX: usize = 16;
 
-    /// The name that reads `text`; None exactly where `text` has more than 16 bytes.
+    /// The name that reads `text`; None exactly if `text` has more than 16 bytes.
     pub fn new(text: &str) -> Option<Name>
         ensures { MatchOption result (16 < length text.now) (λ name. name ≡ text.now) }
     {
@@ -47,7 +47,7 @@ impl Name {
         })
     }
 
-    /// The name that these bytes spell; None exactly where they are more than 16 or not UTF-8.
+    /// The name that these bytes spell; None exactly if they are more than 16 or not UTF-8.
     pub fn of_bytes(bytes: &[u8]) -> Option<Name>
         ensures { MatchOption result (¬ (IsName bytes.now)) (λ name. IsName bytes.now × (name ≡ bytes.now)) }
     {
@@ -85,7 +85,7 @@ impl Name {
     }
 }
 
-/// Two names are equal exactly where their bytes are.
+/// Two names are equal exactly if their bytes are.
 impl PartialEq for Name {
     ghost eq = { pointwise ◌==◌ };
 

@@ -1,4 +1,4 @@
-//! The refusal for want of memory.
+//! The refusal that says that memory ran out.
 
 ghost use Rattle.std.specs.Prelude.{codes, Some};
 

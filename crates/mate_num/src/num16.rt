@@ -55,7 +55,7 @@ impl Num16 {
         Num16(self.0.wrapping_neg())
     }
 
-    /// The quotient towards zero; `-32768 / -1` wraps to -32768. None exactly where `by` is 0.
+    /// The quotient towards zero; `-32768 / -1` wraps to -32768. None exactly if `by` is 0.
     pub fn div(self, by: Num16) -> Option<Num16>
         ensures { result ≡ quotient self.0 by.0 }
     {
@@ -65,7 +65,7 @@ impl Num16 {
         Some(Num16(self.0.wrapping_div(by.0)))
     }
 
-    /// The remainder of `div`, with the sign of `self`. None exactly where `by` is 0.
+    /// The remainder of `div`, with the sign of `self`. None exactly if `by` is 0.
     pub fn rem(self, by: Num16) -> Option<Num16>
         ensures { result ≡ remainder self.0 by.0 }
     {
@@ -111,18 +111,21 @@ impl Num16 {
         Num16::of_truth(self.0 >= by.0)
     }
 
+    /// 1 if both count as true, else 0.
     pub fn and(self, by: Num16) -> Num16
         ensures { result ≡ truth (is_truth self.0 && is_truth by.0) }
     {
         Num16::of_truth(self.is_truth() && by.is_truth())
     }
 
+    /// 1 if at least one counts as true, else 0.
     pub fn or(self, by: Num16) -> Num16
         ensures { result ≡ truth (is_truth self.0 || is_truth by.0) }
     {
         Num16::of_truth(self.is_truth() || by.is_truth())
     }
 
+    /// 1 for 0, and 0 for every other value.
     pub fn not(self) -> Num16
         ensures { result ≡ truth (not (is_truth self.0)) }
     {

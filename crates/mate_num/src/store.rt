@@ -12,7 +12,7 @@ pub struct Store {
     pub buffers: ArrayVec<Payload, BUFFERS_MAX>,
 }
 
-/// The same values again. It takes no memory.
+/// A copy of the values. It takes no memory.
 pub fn copy_of(payload: &Payload) -> Payload
     ensures { result ≡ payload.now }
 {
@@ -23,7 +23,7 @@ pub fn copy_of(payload: &Payload) -> Payload
 }
 
 impl Store {
-    /// The same store again. It takes no memory.
+    /// A copy of the store. It takes no memory.
     pub fn copy(&self) -> Store
         ensures { result ≡ self.now }
     {

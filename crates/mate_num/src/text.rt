@@ -20,7 +20,7 @@ impl Model for Text {
 }
 
 impl Text {
-    /// A text of its own that reads `text`.
+    /// A text that owns a copy of `text`. `NoMemory` is the only refusal.
     pub fn of(alloc: Global, text: &str) -> Result<Text, NoMemory>
         ensures { IfOk result (λ t. t ≡ text.now) }
     {

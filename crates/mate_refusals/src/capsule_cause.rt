@@ -1,4 +1,4 @@
-//! Why a text is no capsule of a machine, as the program tells it.
+//! Why a text is no capsule of a machine, as the program says it.
 
 ghost use Rattle.std.specs.Prelude.{◌≡◌, codes};
 ghost use Rattle.mate_files.specs.Pen.{Prints};
@@ -21,7 +21,7 @@ pub enum CapsuleCause {
 }
 
 impl CapsuleCause {
-    /// What is wrong, for its code with the place, and a line feed.
+    /// Prints what is wrong, with the place if it is in the code, and a line feed.
     pub fn print<E: Sink>(self, pen: &mut Pen, err: &mut E)
         ensures { Prints (E.written err.old) (E.faults err.old) pen.old.result (E.written err.new) (E.faults err.new) pen.new.result
             (capsule_words self) }

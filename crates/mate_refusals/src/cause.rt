@@ -15,7 +15,7 @@ use crate::status::Status;
 use mate_files::{Pen, Sink};
 use ts_compiler::CompileFault;
 
-/// Why a file's bytes are not to be had.
+/// Why the bytes of a file can't be had.
 #[derive(Clone, Copy)]
 pub enum Unread {
     /// It could not be read.
@@ -32,7 +32,7 @@ pub enum Cause {
     Source(SourceCause),
     /// It is a source that has no code.
     Code(CompileFault),
-    /// It has no capsule of the machine.
+    /// It is no capsule of the machine.
     Capsule(CapsuleCause),
     /// It is a source with procedures that has no expansion.
     Expansion(ExpansionCause),
@@ -53,7 +53,7 @@ impl Cause {
         }
     }
 
-    /// The line that tells of it in the file of this name.
+    /// Prints the line that says so of the file of this name.
     pub(crate) fn print<E: Sink>(&self, pen: &mut Pen, err: &mut E, name: &str)
         ensures { Prints (E.written err.old) (E.faults err.old) pen.old.result (E.written err.new) (E.faults err.new) pen.new.result
             (file_line name.now self.now) }
@@ -69,7 +69,7 @@ impl Cause {
     }
 }
 
-/// The line of a refused source.
+/// Prints the line of a refused source.
 fn bad_source<E: Sink>(pen: &mut Pen, err: &mut E, name: &str, cause: &SourceCause)
     ensures { Prints (E.written err.old) (E.faults err.old) pen.old.result (E.written err.new) (E.faults err.new) pen.new.result
         (codes "bad source " ++ name.now ++ codes " " ++ source_words cause.now) }
@@ -80,7 +80,7 @@ fn bad_source<E: Sink>(pen: &mut Pen, err: &mut E, name: &str, cause: &SourceCau
     cause.print(pen, err);
 }
 
-/// The line of a source that has no code.
+/// Prints the line of a source that has no code.
 fn bad_code<E: Sink>(pen: &mut Pen, err: &mut E, name: &str, fault: CompileFault)
     ensures { Prints (E.written err.old) (E.faults err.old) pen.old.result (E.written err.new) (E.faults err.new) pen.new.result
         (codes "bad source " ++ name.now ++ codes " " ++ code_words fault) }
@@ -101,7 +101,7 @@ fn print_fault<E: Sink>(pen: &mut Pen, err: &mut E, fault: CompileFault)
     }
 }
 
-/// The line of a refused capsule.
+/// Prints the line of a refused capsule.
 fn bad_capsule<E: Sink>(pen: &mut Pen, err: &mut E, name: &str, cause: CapsuleCause)
     ensures { Prints (E.written err.old) (E.faults err.old) pen.old.result (E.written err.new) (E.faults err.new) pen.new.result
         (codes "bad capsule " ++ name.now ++ codes " " ++ capsule_words cause) }
@@ -112,7 +112,7 @@ fn bad_capsule<E: Sink>(pen: &mut Pen, err: &mut E, name: &str, cause: CapsuleCa
     cause.print(pen, err);
 }
 
-/// The line of a source that has no expansion.
+/// Prints the line of a source that has no expansion.
 fn bad_expansion<E: Sink>(pen: &mut Pen, err: &mut E, name: &str, cause: &ExpansionCause)
     ensures { Prints (E.written err.old) (E.faults err.old) pen.old.result (E.written err.new) (E.faults err.new) pen.new.result
         (codes "bad source " ++ name.now ++ codes " " ++ expansion_words cause.now) }

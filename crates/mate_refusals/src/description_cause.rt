@@ -1,4 +1,4 @@
-//! Why a description is refused, as the program tells it.
+//! Why a description is refused, as the program says it.
 
 ghost use Rattle.std.specs.Prelude.{◌≡◌, ◌++◌, ⊤, MatchOption, codes, decimal};
 ghost use Rattle.mate_files.specs.Pen.{Prints};
@@ -9,7 +9,7 @@ use mate_files::{Pen, Sink};
 use mate_num::Name;
 use vm_desc::{DescFault, Key};
 
-/// The first thing that is wrong with a description's text: what `DescFault` tells, but for want of memory.
+/// The first thing that is wrong with a description's text: any `DescFault` but `NoMemory`.
 #[derive(Drop)]
 pub enum DescriptionCause {
     NotToml,
@@ -17,12 +17,12 @@ pub enum DescriptionCause {
     /// The list of `key` is too long.
     OverLimit { key: Key },
     Duplicate { name: Name },
-    /// A round of all handlers' packets needs `need` ms, and the longest interval has `have` ms.
+    /// A round of all handlers' packets needs `need` ms, but the longest interval has `have` ms.
     SlowImax { need: u64, have: u64 },
 }
 
 impl DescriptionCause {
-    /// What is wrong with a description that is refused so; None where memory was wanting.
+    /// What is wrong with a description that is refused with this fault; None for `NoMemory`.
     pub fn of(fault: DescFault) -> Option<DescriptionCause>
         ensures { MatchOption result ⊤ (λ why. fault ≡ fault_told why) }
     {
@@ -36,7 +36,7 @@ impl DescriptionCause {
         }
     }
 
-    /// What is wrong, and a line feed.
+    /// Prints what is wrong, and a line feed.
     pub fn print<E: Sink>(&self, pen: &mut Pen, err: &mut E)
         ensures { Prints (E.written err.old) (E.faults err.old) pen.old.result (E.written err.new) (E.faults err.new) pen.new.result
             (description_words self.now) }

@@ -1,4 +1,4 @@
-//! Why a source with procedures has no expansion, as the program tells it.
+//! Why a source with procedures has no expansion, as the program says it.
 
 ghost use Rattle.std.specs.Prelude.{◌≡◌, MatchOption};
 ghost use Rattle.mate_files.specs.Pen.{Prints};
@@ -11,8 +11,7 @@ use mate_files::{Pen, Sink};
 use mate_num::Name;
 use proc_names::ProcFault;
 
-/// The first thing that is wrong with a source with procedures: what `ProcFault` tells, but for want of memory. A place is
-/// an offset in bytes.
+/// The first thing that is wrong with a source with procedures: any `ProcFault` but `NoMemory`. A place is an offset in bytes.
 #[derive(Drop)]
 pub enum ExpansionCause {
     /// The text spells no script with procedures.
@@ -25,14 +24,14 @@ pub enum ExpansionCause {
     Again { name: Name, place: u32 },
     /// The name there begins with `_`.
     Reserved { place: u32 },
-    /// The expansion has more than 10,000 statements: so many, counted up to 1,000,000.
+    /// The expansion has more than 10,000 statements: `count`, which stops at 1,000,000.
     TooLarge { count: u32 },
-    /// The expansion's blocks nest more than 32 deep: so deep.
+    /// The expansion's blocks nest more than 32 deep: `depth`.
     TooNested { depth: u32 },
 }
 
 impl ExpansionCause {
-    /// What is wrong with a source that is refused so; None where memory was wanting.
+    /// What is wrong with a source that is refused with this fault; None for `NoMemory`.
     pub fn of(fault: ProcFault) -> Option<ExpansionCause>
         ensures { MatchOption result (fault ≡ NoMemory) (λ why. fault ≡ expansion_fault why) }
     {
@@ -59,7 +58,7 @@ impl ExpansionCause {
         }
     }
 
-    /// What is wrong, with its name and place or its number, and a line feed.
+    /// Prints what is wrong, with its name and place or its number, and a line feed.
     pub fn print<E: Sink>(&self, pen: &mut Pen, err: &mut E)
         ensures { Prints (E.written err.old) (E.faults err.old) pen.old.result (E.written err.new) (E.faults err.new) pen.new.result
             (expansion_words self.now) }

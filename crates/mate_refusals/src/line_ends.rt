@@ -7,7 +7,7 @@ ghost use Rattle.mate_refusals.specs.LineEnds.{number_line, name_line, numbered_
 use mate_files::{Pen, Sink};
 use mate_num::Name;
 
-/// A word, a number and a line feed.
+/// Prints a word, a number and a line feed.
 pub fn print_numbered<E: Sink>(pen: &mut Pen, err: &mut E, word: &str, number: u32)
     ensures { Prints (E.written err.old) (E.faults err.old) pen.old.result (E.written err.new) (E.faults err.new) pen.new.result
         (number_line word.now number) }
@@ -17,7 +17,7 @@ pub fn print_numbered<E: Sink>(pen: &mut Pen, err: &mut E, word: &str, number: u
     pen.text(err, "\n");
 }
 
-/// A word, a name and a line feed.
+/// Prints a word, a name and a line feed.
 pub fn print_about<E: Sink>(pen: &mut Pen, err: &mut E, word: &str, name: &str)
     ensures { Prints (E.written err.old) (E.faults err.old) pen.old.result (E.written err.new) (E.faults err.new) pen.new.result
         (name_line word.now name.now) }
@@ -27,7 +27,7 @@ pub fn print_about<E: Sink>(pen: &mut Pen, err: &mut E, word: &str, name: &str)
     pen.text(err, "\n");
 }
 
-/// A word, a name, a number and a line feed.
+/// Prints a word, a name, a number and a line feed.
 pub fn print_numbered_name<E: Sink>(
     pen: &mut Pen,
     err: &mut E,

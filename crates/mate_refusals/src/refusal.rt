@@ -1,4 +1,4 @@
-//! What the program refuses, and the line that tells of it.
+//! What the program refuses, and the line that says so.
 
 ghost use Rattle.std.specs.Prelude.{◌≡◌, ◌++◌, ◌⊎◌, codes};
 ghost use Rattle.mate_files.specs.Pen.{Prints};
@@ -23,14 +23,14 @@ pub enum Refusal {
     Usage,
     /// The machine's description is refused, for this cause.
     BadDescription(DescriptionCause),
-    /// The script is refused: its first line that is refused, from 1, and the first cause in it from left to right.
+    /// The script is refused: its first line that is refused, counted from 1, and the first cause in it from left to right.
     BadScript {
         line: u32,
         cause: script_reader::Cause,
     },
     /// The file of this name is refused, for this cause.
     InFile(Text, Cause),
-    /// The stream doesn't end where a frame ends: the place, in bytes, of what stands behind its last END.
+    /// The stream doesn't end at the end of a frame: `place` is what comes after its last END, in bytes.
     BadStream {
         place: u32,
     },
@@ -86,8 +86,8 @@ impl Refusal {
         pen.finish()
     }
 
-    /// Writes the refusal's line to `err` and answers its status. A failing `err` changes nothing; where it wants
-    /// memory, the status is that of no memory.
+    /// Writes the refusal's line to `err` and returns its status. If `err` fails, nothing else changes; if `err` runs
+    /// out of memory, the status is `NoMemory`.
     pub fn refuse<E: Sink>(&self, err: &mut E) -> Status
         ensures { TellsRefusal (E.written err.old) (E.faults err.old) (E.written err.new) (E.faults err.new) self.now result }
     {
@@ -115,7 +115,7 @@ fn bad_script<E: Sink>(pen: &mut Pen, err: &mut E, line: u32, cause: script_read
     print_line(pen, err, line, cause);
 }
 
-/// The refusal of the file `name` for this cause, unless memory is wanting for its name.
+/// The refusal of the file `name` for this cause, unless memory for its name runs out.
 pub fn in_file(alloc: Global, name: &str, cause: Cause) -> Refusal
     ensures { (result ≡ InFile name.now cause) ⊎ (result ≡ NoMemory) }
 {

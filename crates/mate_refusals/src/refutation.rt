@@ -11,7 +11,7 @@ use mate_files::{Pen, Sink};
 /// Why a report is refuted.
 #[derive(Clone, Copy)]
 pub enum Refutation {
-    /// The bytes are no report's text: the first line, from 1, that doesn't fit.
+    /// The bytes are no report's text: the first line, counted from 1, that doesn't fit.
     Line { line: u32 },
     /// The lowest node, from 0, whose journal fails a law, and the first law that it fails.
     Node { node: u8, law: Law },
@@ -31,7 +31,7 @@ impl Refutation {
     }
 }
 
-// The node's number and the law's word, and a line feed.
+// Prints the node's number and the law's word, and a line feed.
 fn print_node<E: Sink>(pen: &mut Pen, err: &mut E, node: u8, law: Law)
     ensures { Prints (E.written err.old) (E.faults err.old) pen.old.result (E.written err.new) (E.faults err.new) pen.new.result
         (node_words node law) }

@@ -1,4 +1,4 @@
-//! Why a line of a script is refused, as the program tells it.
+//! Why a line of a script is refused, as the program says it.
 
 ghost use Rattle.std.specs.Prelude.{◌≡◌, ◌++◌, codes, decimal};
 ghost use Rattle.mate_files.specs.Pen.{Prints};
@@ -7,7 +7,7 @@ ghost use Rattle.mate_refusals.specs.ScriptCauses.{bad_line_words, cause_words};
 use mate_files::{Pen, Sink};
 use script_reader::Cause;
 
-/// The line's number, why it is refused, and a line feed.
+/// Prints the line's number, why it is refused, and a line feed.
 pub fn print_line<E: Sink>(pen: &mut Pen, err: &mut E, line: u32, cause: Cause)
     ensures { Prints (E.written err.old) (E.faults err.old) pen.old.result (E.written err.new) (E.faults err.new) pen.new.result
         (bad_line_words line cause) }

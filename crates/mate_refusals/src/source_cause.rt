@@ -1,4 +1,4 @@
-//! Why a source's text is refused, as the program tells it.
+//! Why a source's text is refused, as the program says it.
 
 ghost use Rattle.mate_files.specs.Pen.{Prints};
 ghost use Rattle.mate_refusals.specs.SourceCauses.{source_words};
@@ -8,7 +8,7 @@ use crate::spelling_cause::SpellingCause;
 use mate_files::{Pen, Sink};
 use mate_num::Name;
 
-/// The first thing that is wrong with a source's text, but for want of memory. A place is an offset in bytes.
+/// The first thing that is wrong with a source's text; lack of memory is none of them. A place is an offset in bytes.
 #[derive(Drop)]
 pub enum SourceCause {
     /// The text spells no script.
@@ -25,7 +25,7 @@ pub enum SourceCause {
 }
 
 impl SourceCause {
-    /// What is wrong, its place, and a line feed.
+    /// Prints what is wrong, its place, and a line feed.
     pub fn print<E: Sink>(&self, pen: &mut Pen, err: &mut E)
         ensures { Prints (E.written err.old) (E.faults err.old) pen.old.result (E.written err.new) (E.faults err.new) pen.new.result
             (source_words self.now) }

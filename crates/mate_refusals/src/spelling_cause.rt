@@ -1,4 +1,4 @@
-//! Why a text spells no script, as the program tells it.
+//! Why a text spells no script, as the program says it.
 
 ghost use Rattle.mate_files.specs.Pen.{Prints};
 ghost use Rattle.mate_refusals.specs.SpellingCauses.{spelling_words};
@@ -15,12 +15,12 @@ pub enum SpellingCause {
     BigLiteral { place: u32 },
     /// A token that the grammar doesn't allow there.
     Unexpected { place: u32 },
-    /// A token that lies too deep.
+    /// A token that is nested too deep.
     TooDeep { place: u32 },
 }
 
 impl SpellingCause {
-    /// What is wrong, its place, and a line feed.
+    /// Prints what is wrong, its place, and a line feed.
     pub fn print<E: Sink>(&self, pen: &mut Pen, err: &mut E)
         ensures { Prints (E.written err.old) (E.faults err.old) pen.old.result (E.written err.new) (E.faults err.new) pen.new.result
             (spelling_words self.now) }

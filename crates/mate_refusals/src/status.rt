@@ -8,7 +8,7 @@ ghost use Rattle.mate_refusals.specs.Statuses.{status_code};
 pub enum Status {
     /// All was done and written.
     Ok,
-    /// The words are no command's.
+    /// The words are no command.
     Usage,
     /// A file could not be read, or is too large.
     FileFault,

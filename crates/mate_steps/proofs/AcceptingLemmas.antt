@@ -1,13 +1,13 @@
--- Each answer to a source is what the cut of its bytes, the reading of its tokens and the checks of its script tell.
+-- Each answer to a source is what the cut of its bytes, the reading of its tokens and the checks of its script give.
 use Rattle.std.proofs.Common.{◌≡◌, ℕ, List, length, Result, Ok, Err, sym, subst}
 use Rattle.std.specs.Result.{IsErrAnd}
 use Rattle.vm_desc.specs.declared.description.Description.{Description}
 use Rattle.ts_syntax.specs.Cut.{cut}
 use Rattle.ts_syntax.specs.Faults.{Spells}
 use Rattle.ts_syntax.specs.Seen.{source_seen}
-use Rattle.ts_syntax.specs.Statement.{Block}
+use Rattle.ts_checked.specs.Statement.{Block}
 use Rattle.ts_syntax.specs.Tree.{Source}
-use Rattle.ts_syntax.specs.declared.checked.Checked.{Checked}
+use Rattle.ts_checked.specs.declared.checked.Checked.{Checked}
 use Rattle.ts_syntax.specs.declared.script.Script.{Script}
 use Rattle.ts_syntax.specs.declared.token.Token.{Token}
 use Rattle.ts_parser.specs.Cutting.{CutsScript}

@@ -9,9 +9,9 @@ use Rattle.mate_num.specs.declared.shape.Shape.{Shape}
 use Rattle.mate_code.specs.Code.{instr_bytes, code_bytes}
 use Rattle.mate_code.specs.Table.{Layout, table_of}
 use Rattle.mate_code.specs.declared.instr.Instr.TheVariants.{Halt}
-use Rattle.ts_syntax.specs.Checked.{tree_of}
-use Rattle.ts_syntax.specs.Right.{is_right}
-use Rattle.ts_syntax.specs.Statement.{Block}
+use Rattle.ts_checked.specs.Checked.{checked_tree}
+use Rattle.ts_checked.specs.Right.{is_right}
+use Rattle.ts_checked.specs.Statement.{Block}
 use Rattle.ts_meaning.specs.Laws.{RunsAsItsScript}
 use Rattle.ts_meaning.specs.Translation.{block_code}
 use Rattle.ts_meaning.proofs.RunScripts.{accepted-RunsAsItsScript}
@@ -56,7 +56,7 @@ filled shape tree code is =
 
 right-compiled : (shape : Shape) (fold : Bool) (tree : Block) (c : CompiledScript) → IsCompiledOf shape fold tree c → IsTrue (is_right shape (compiled_tree fold tree))
 right-compiled shape fold tree c is =
-    subst (λ (t : Block). IsTrue (is_right shape t)) is.tree_is (subst (λ (s : Shape). IsTrue (is_right s (tree_of c.script))) is.shape_is c.script.right)
+    subst (λ (t : Block). IsTrue (is_right shape t)) is.tree_is (subst (λ (s : Shape). IsTrue (is_right s (checked_tree c.script))) is.shape_is c.script.right)
 
 runs-compiled : (fold : Bool) (tree : Block) → RunsAs tree (compiled_tree fold tree)
 runs-compiled true tree = RunsAs-folded tree

@@ -1,4 +1,4 @@
--- What is said of a fault is said of the cause that tells it.
+-- What holds for a fault holds for its cause.
 use Rattle.std.proofs.Common.{◌≡◌, ◌⊎◌, inl, inr, ℕ, List, subst}
 use Rattle.proc_names.specs.declared.fault.ProcFault.{ProcFault}
 use Rattle.mate_refusals.specs.ExpansionCauses.{expansion_fault}

@@ -1,11 +1,11 @@
--- Where compiler, verifier and lock inference meet.
+-- Compiler, verifier and lock inference together.
 use Rattle.std.proofs.Common.{◌≡◌, ℕ, List, Result, Ok, Err, sym, ◌∙◌, ap, subst}
 use Rattle.arrayvec.specs.ArrayVec.{ArrayVec}
 use Rattle.mate_num.specs.Uses.{Uses, IsSameUses}
 use Rattle.mate_num.specs.declared.lock_set.LockSet.{LockSet}
 use Rattle.mate_num.specs.declared.shape.Shape.{Shape}
 use Rattle.mate_code.specs.BytesVerification.{bytes_verification}
-use Rattle.ts_syntax.specs.Statement.{Block}
+use Rattle.ts_checked.specs.Statement.{Block}
 use Rattle.ts_meaning.specs.Uses.{script_uses}
 use Rattle.ts_meaning.specs.Translation.{code_of}
 use Rattle.ts_meaning.proofs.UsesLemmas.{UsesAsItsScript-script_code}

@@ -3,7 +3,7 @@ use Rattle.std.proofs.Common.{◌≡◌, ℕ, Bool, List, Err, sym, ◌∙◌, a
 use Rattle.std.specs.Global.{Vec}
 use Rattle.arrayvec.specs.ArrayVec.{ArrayVec}
 use Rattle.mate_num.specs.declared.shape.Shape.{Shape}
-use Rattle.ts_syntax.specs.Statement.{Block}
+use Rattle.ts_checked.specs.Statement.{Block}
 use Rattle.ts_compiler.specs.Compiled.{IsCompiled, Compiles}
 use Rattle.ts_compiler.specs.declared.fault.CompileFault.{CompileFault}
 use Rattle.ts_compiler.specs.declared.fault.CompileFault.TheVariants.{StackDepth, TooLong}
@@ -11,7 +11,7 @@ use Rattle.ts_checker.specs.Accepted.{IsAccepted}
 use Rattle.mate_steps.proofs.AcceptanceLemmas.{one_tree, one_refusal, apart}
 use Rattle.mate_steps.specs.SourceCode.{IsCompiledOf, HasNoCode, compiled_tree}
 use Rattle.mate_steps.specs.declared.code.CompiledScript.{CompiledScript}
-use Rattle.ts_syntax.specs.Checked.{tree_of}
+use Rattle.ts_checked.specs.Checked.{checked_tree}
 use Rattle.vm_desc.specs.Shapes.{shape_of}
 use Rattle.vm_desc.specs.declared.description.Description.{Description}
 use Rattle.mate_files.specs.Files.{Names}
@@ -44,7 +44,7 @@ compiles_once shape tree (TooLong m) (TooLong n) p q = ap TooLong (p.size_is ∙
 
 -- the same tree, with the same code
 pub record SameCompiled (a b : CompiledScript) : Type 0 where
-  pub tree : tree_of a.script ≡ tree_of b.script
+  pub tree : checked_tree a.script ≡ checked_tree b.script
   pub code : a.code ≡ b.code
 
 compiled_agrees : (d : Description) (fold : Bool) (name : List ℕ) (tree : Block) → AnswersAgree SameCompiled (compiled d fold name tree) (compiled d fold name tree)

@@ -1,8 +1,8 @@
 -- The compiled script of a source in a file, with its code.
 use Rattle.std.specs.Prelude.{ℕ, Bool, List, Result, Ok, Err}
-use Rattle.ts_syntax.specs.Statement.{Block}
-use Rattle.ts_syntax.specs.Checked.{tree_of}
-use Rattle.ts_syntax.specs.declared.checked.Checked.{Checked}
+use Rattle.ts_checked.specs.Statement.{Block}
+use Rattle.ts_checked.specs.Checked.{checked_tree}
+use Rattle.ts_checked.specs.declared.checked.Checked.{Checked}
 use Rattle.ts_checker.specs.Accepted.{IsAccepted}
 use Rattle.mate_steps.specs.SourceCode.{IsCompiledOf, HasNoCode}
 use Rattle.mate_steps.specs.declared.code.CompiledScript.{CompiledScript}
@@ -21,7 +21,7 @@ accepted d name bytes = judged (IsAccepted d bytes) (IsBadSource d bytes) (λ wh
 
 -- what the program holds of a tree
 abbrev pub tree_in : Result Checked Refusal → Result Block Refusal
-tree_in (Ok script) = Ok (tree_of script)
+tree_in (Ok script) = Ok (checked_tree script)
 tree_in (Err r) = Err r
 
 -- the compiled script of its accepted tree, folded before or not

@@ -1,13 +1,13 @@
-//! Of a source one thing is to be said, and one only.
+//! The law that of a source exactly one thing is so.
 
 ghost use Rattle.std.specs.Prelude.{◌≡◌, ◌≢◌, ◌⊎◌, ℕ, List};
 ghost use Rattle.vm_desc.specs.declared.description.Description.{Description};
-ghost use Rattle.ts_syntax.specs.Statement.{Block};
+ghost use Rattle.ts_checked.specs.Statement.{Block};
 ghost use Rattle.ts_scope.specs.declared.fault.CheckFault.TheVariants.{NoMemory};
 ghost use Rattle.ts_checker.specs.Accepted.{IsAccepted, IsRefusedBy, TextRefusal, by_check};
 
-/// The law of acceptance: for a machine, any bytes either mean one tree or have one first refusal, and not both. No refusal is one
-/// for want of memory.
+/// The law of acceptance: for a machine, any bytes either mean one tree or have one first refusal, and not both. Lack
+/// of memory is no such refusal.
 pub fn acceptance_law()
     ensures one_tree { (machine : Description) (bytes : List ℕ) (a b : Block) → IsAccepted machine bytes a → IsAccepted machine bytes b
         → a ≡ b }

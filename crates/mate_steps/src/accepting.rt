@@ -3,19 +3,19 @@
 ghost use Rattle.std.specs.Prelude.{◌≡◌, ◌≤◌, length, IfOk};
 ghost use Rattle.mate_num.specs.declared.bounds.TheConstants.{FILE_MAX};
 ghost use Rattle.vm_desc.specs.Shapes.{shape_of as shape_of_machine};
-ghost use Rattle.ts_syntax.specs.Checked.{checked_shape};
+ghost use Rattle.ts_checked.specs.Checked.{checked_shape};
 ghost use Rattle.mate_steps.specs.Answers.{TellsAcceptance};
 
 use crate::refusal::SourceRefusal;
 use std::alloc::Global;
+use ts_checked::Checked;
 use ts_checker::check;
 use ts_parser::read;
-use ts_syntax::Checked;
 use vm_desc::Description;
 
-/// The checked script of a source of at most 1,048,576 bytes for the machine of `desc`, or the first refusal of it: of
-/// its tokens over the whole text, then of its grammar and depth, then of its checks. Want of memory may come in place of
-/// any answer.
+/// The checked script of a source of at most 1,048,576 bytes for the machine of `desc`, or its first refusal: of its
+/// tokens over the whole text, then of its grammar and depth, then of its checks. `NoMemory` may come instead of any
+/// answer.
 pub fn accept(alloc: Global, desc: &Description, bytes: &[u8]) -> Result<Checked, SourceRefusal>
     requires { length bytes.now ≤ FILE_MAX }
     ensures tells { TellsAcceptance desc.now bytes.now result }

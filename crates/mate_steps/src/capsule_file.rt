@@ -20,7 +20,7 @@ pub struct VerifiedCapsule {
     pub code: Verified,
 }
 
-/// The capsule of a file, with its verified code. It is boxed at once: it takes some thousand bytes.
+/// The capsule of a file, with its verified code. It is boxed at once: it takes several thousand bytes.
 pub fn capsule_of<F: Files>(
     alloc: Global,
     files: &mut F,
@@ -43,7 +43,7 @@ pub fn capsule_of<F: Files>(
 }
 
 /// The capsule of the machine whose image the text spells in hexadecimal digits, with its verified code; or the first
-/// refusal: of the digits, then of the image, then of the code. None comes for want of memory.
+/// refusal: of the digits, then of the image, then of the code. None if memory runs out.
 #[inline(never)]
 fn read_capsule(
     alloc: Global,
@@ -77,7 +77,7 @@ fn spelled(desc: &Description, text: &[u8]) -> Result<Capsule, CapsuleCause>
     }
 }
 
-/// It stays a call of its own, as what it moves is large. None comes for want of memory.
+/// It isn't inlined, as what it moves is large. None if memory runs out.
 #[inline(never)]
 fn boxed(alloc: Global, capsule: Capsule, code: Verified) -> Option<Box<VerifiedCapsule>>
     ensures { IfSome result (λ c. c.value ≡ record { capsule = capsule; code = code }) }

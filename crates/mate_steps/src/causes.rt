@@ -1,4 +1,4 @@
-//! The cause that the refusal of a source's text is.
+//! From the refusal of a source's text to its cause.
 
 ghost use Rattle.std.specs.Prelude.{ℕ, List, ⊤, MatchOption};
 ghost use Rattle.vm_desc.specs.declared.description.Description.{Description as DescriptionValue};
@@ -10,7 +10,7 @@ use mate_refusals::{SourceCause, SpellingCause};
 use ts_checker::CheckFault;
 use ts_parser::SourceFault;
 
-/// What is wrong with a source that is refused so; None where memory was wanting.
+/// What is wrong with a source that is refused with this refusal; None for `NoMemory`.
 pub(crate) fn source_cause(refusal: SourceRefusal) -> Option<SourceCause>
     ensures { (d : DescriptionValue) (bytes : List ℕ) → IsRefused d bytes refusal → MatchOption result ⊤ (IsBadSource d bytes) }
 {

@@ -1,16 +1,16 @@
 //! From an accepted script to its code.
 
 ghost use Rattle.std.specs.Prelude.{◌≡◌, ◌≤◌, true, false, length, IfOk};
-ghost use Rattle.ts_syntax.specs.Checked.{tree_of, checked_shape as shape_of_script};
+ghost use Rattle.ts_checked.specs.Checked.{checked_tree, checked_shape as shape_of_script};
 ghost use Rattle.vm_desc.specs.Shapes.{shape_of};
 ghost use Rattle.mate_steps.specs.SourceCode.{GivesCode};
 
 use mate_num::Code;
 use opcode_gen::table;
 use std::alloc::Global;
+use ts_checked::Checked;
 use ts_compiler::{CompileFault, compile};
 use ts_fold::fold;
-use ts_syntax::Checked;
 use vm_desc::Description;
 
 /// A script as it is compiled, and its code.
@@ -18,7 +18,7 @@ use vm_desc::Description;
 pub struct CompiledScript {
     /// The accepted script, or the folded one.
     pub script: Checked,
-    /// 1 to `CODE_MAX` bytes.
+    /// From 1 to `CODE_MAX` bytes.
     pub code: Code,
 }
 
@@ -27,12 +27,13 @@ pub struct CompiledScript {
 pub enum CodeFault {
     /// The tree that is compiled needs too deep a stack, or its code is too long.
     Uncompiled(CompileFault),
-    /// No memory was left for the folded tree. It comes only where folding is asked.
+    /// No memory was left for the folded tree. It comes only if folding is asked for.
     NoMemory,
 }
 
-/// The code of a script that the machine accepts, folded before it is compiled where `folded` says so. `Uncompiled` comes
-/// exactly where the tree that is compiled needs a stack of more than 16 values, or its code takes more than `CODE_MAX` bytes.
+/// The code of a script that the machine accepts, folded before it is compiled if `folded` says so. `Uncompiled`
+/// comes exactly if the tree that is compiled needs a stack of more than 16 values, or its code takes more than
+/// `CODE_MAX` bytes.
 pub fn compiled_script(
     alloc: Global,
     desc: &Description,
@@ -40,7 +41,7 @@ pub fn compiled_script(
     script: Checked,
 ) -> Result<CompiledScript, CodeFault>
     requires { shape_of_script script ≡ shape_of desc.now }
-    ensures gives { GivesCode (shape_of desc.now) folded (tree_of script) result }
+    ensures gives { GivesCode (shape_of desc.now) folded (checked_tree script) result }
     ensures filled { IfOk result (λ c. 1 ≤ length c.code.items) }
 {
     if folded {
@@ -52,7 +53,7 @@ pub fn compiled_script(
 
 fn plain_code(desc: &Description, script: Checked) -> Result<CompiledScript, CodeFault>
     requires { shape_of_script script ≡ shape_of desc.now }
-    ensures gives { GivesCode (shape_of desc.now) false (tree_of script) result }
+    ensures gives { GivesCode (shape_of desc.now) false (checked_tree script) result }
     ensures filled { IfOk result (λ c. 1 ≤ length c.code.items) }
 {
     match compile(&table(desc), &script) {
@@ -67,7 +68,7 @@ fn folded_code(
     script: &Checked,
 ) -> Result<CompiledScript, CodeFault>
     requires { shape_of_script script.now ≡ shape_of desc.now }
-    ensures gives { GivesCode (shape_of desc.now) true (tree_of script.now) result }
+    ensures gives { GivesCode (shape_of desc.now) true (checked_tree script.now) result }
     ensures filled { IfOk result (λ c. 1 ≤ length c.code.items) }
 {
     let Ok(script) = fold(alloc, script) else {

@@ -1,11 +1,11 @@
-//! Laws where compiler, verifier and lock inference meet. Each is what a function promises that does nothing.
+//! Laws of compiler, verifier and lock inference together. Each is the contract of a function that does nothing.
 
 ghost use Rattle.std.specs.Prelude.{◌≡◌, ℕ, Bool, Ok, Err};
 ghost use Rattle.arrayvec.specs.ArrayVec.{ArrayVec};
 ghost use Rattle.mate_num.specs.Uses.{IsSameUses};
 ghost use Rattle.mate_num.specs.declared.lock_set.LockSet.{LockSet as LockSetValue};
 ghost use Rattle.mate_num.specs.declared.shape.Shape.{Shape};
-ghost use Rattle.ts_syntax.specs.Statement.{Block};
+ghost use Rattle.ts_checked.specs.Statement.{Block};
 ghost use Rattle.ts_meaning.specs.Uses.{script_uses};
 ghost use Rattle.ts_meaning.specs.Translation.{code_of};
 ghost use Rattle.ts_compiler.specs.Compiled.{AreAccepted};
@@ -23,7 +23,7 @@ pub fn compiled_code_is_verified()
         → Verifies shape bytes.items (Ok v) → v.code ≡ code_of tree }
 {}
 
-/// The locks of a tree's code hold as read exactly what the tree reads, and as written exactly what it writes.
+/// The locks of a tree's code are to read exactly what the tree reads, and to write exactly what it writes.
 pub fn locks_of_compiled_code()
     ensures { (shape : Shape) (tree : Block) (set : LockSetValue) → AreLocksOf shape (code_of tree) set
         → IsSameUses (held_uses set) (script_uses shape tree) }

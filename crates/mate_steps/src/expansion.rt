@@ -1,4 +1,4 @@
-//! From the file of a source with procedures to the plain script that it stands for.
+//! From the file of a source with procedures to the plain script that it expands to.
 
 ghost use Rattle.std.specs.Prelude.{◌≡◌, ◌≤◌, length};
 ghost use Rattle.mate_num.specs.declared.bounds.TheConstants.{FILE_MAX};
@@ -14,7 +14,7 @@ use std::mem;
 use ts_procs::{PScript, ProcFault, expand, read};
 use ts_syntax::Script;
 
-/// The plain script that the source with procedures in a file stands for.
+/// The plain script that the source with procedures in a file expands to.
 pub fn expansion_of<F: Files>(alloc: Global, files: &mut F, name: &str) -> Result<Script, Refusal>
     ensures does { expanded_source (record { told = F.contents files.old; steady = F.steady files.old }) name.now result }
     ensures reads { ReadsFiles (F.contents files.old) (F.steady files.old) (F.faults files.old) (F.contents files.new)
@@ -24,14 +24,14 @@ pub fn expansion_of<F: Files>(alloc: Global, files: &mut F, name: &str) -> Resul
     expanded_bytes(alloc, name, bytes.as_slice())
 }
 
-/// That of the bytes of the source `name`.
+/// The same for the bytes of the source `name`.
 fn expanded_bytes(alloc: Global, name: &str, bytes: &[u8]) -> Result<Script, Refusal>
     requires { length bytes.now ≤ FILE_MAX }
     ensures { expanded_bytes name.now bytes.now result }
 {
     let script = script_with_procedures(alloc, name, bytes)?;
     let plain = expanded_script(alloc, name, &script);
-    // a command ends soon behind it: its memory goes back as a whole, and not node by node
+    // a command ends soon after this: its memory goes back as a whole, not node by node
     mem::forget(script);
     plain
 }
@@ -47,7 +47,7 @@ fn script_with_procedures(alloc: Global, name: &str, bytes: &[u8]) -> Result<PSc
     }
 }
 
-/// The plain script that the script of the source `name` stands for.
+/// The plain script that the script of the source `name` expands to.
 fn expanded_script(alloc: Global, name: &str, script: &PScript) -> Result<Script, Refusal>
     ensures { expanded_script name.now (written_of script.now) result }
 {
@@ -57,7 +57,7 @@ fn expanded_script(alloc: Global, name: &str, script: &PScript) -> Result<Script
     }
 }
 
-/// The refusal of the source `name` for this fault, unless memory is wanting.
+/// The refusal of the source `name` for this fault, unless memory runs out.
 fn refused(alloc: Global, name: &str, fault: ProcFault) -> Refusal
     ensures { RefusesExpansion name.now fault result }
 {

@@ -2,7 +2,7 @@
 
 ghost use Rattle.std.specs.Prelude.{◌≡◌, ◌≤◌, length, IfOk};
 ghost use Rattle.mate_num.specs.declared.bounds.TheConstants.{FILE_MAX};
-ghost use Rattle.ts_syntax.specs.Checked.{tree_of, checked_shape as shape_of_script};
+ghost use Rattle.ts_checked.specs.Checked.{checked_tree, checked_shape as shape_of_script};
 ghost use Rattle.vm_desc.specs.Shapes.{shape_of};
 ghost use Rattle.mate_steps.specs.Parts.{ReadsFiles};
 ghost use Rattle.mate_steps.specs.Sources.{source, compiled_bytes, accepted, compiled, tree_in};
@@ -13,10 +13,10 @@ use crate::{CodeFault, CompiledScript, accept, compiled_script};
 use mate_files::Files;
 use mate_refusals::{Cause, Refusal, in_file};
 use std::alloc::Global;
-use ts_syntax::Checked;
+use ts_checked::Checked;
 use vm_desc::Description;
 
-/// The compiled script of a source with its code, folded before it is compiled where `fold` says so.
+/// The compiled script of a source with its code, folded before it is compiled if `fold` says so.
 pub fn source_of<F: Files>(
     alloc: Global,
     files: &mut F,
@@ -33,7 +33,7 @@ pub fn source_of<F: Files>(
     compiled_bytes(alloc, desc, fold, name, bytes.as_slice())
 }
 
-/// That of the bytes of the source `name`.
+/// The same for the bytes of the source `name`.
 #[inline(never)]
 pub fn compiled_bytes(
     alloc: Global,
@@ -81,7 +81,7 @@ fn compiled(
     script: Checked,
 ) -> Result<CompiledScript, Refusal>
     requires { shape_of_script script ≡ shape_of desc.now }
-    ensures does { compiled desc.now fold name.now (tree_of script) result }
+    ensures does { compiled desc.now fold name.now (checked_tree script) result }
     ensures filled { IfOk result (λ c. 1 ≤ length c.code.items) }
 {
     match compiled_script(alloc, desc, fold, script) {

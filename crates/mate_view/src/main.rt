@@ -11,7 +11,7 @@ use std::{env, fs, io};
 use view_cli::{Request, Stop, read, view};
 use view_records::Ink;
 
-/// How many bytes are written to the output at once.
+/// How many bytes are written to standard output at once.
 const OUT_BLOCK: usize = 65_536;
 
 fn main(rt: HostRuntime) -> ExitCode {
@@ -26,7 +26,7 @@ fn main(rt: HostRuntime) -> ExitCode {
     ExitCode::from(status.code())
 }
 
-/// The words of the command line, without the program's own name. Words that aren't UTF-8 ask for nothing.
+/// The words of the command line, without the program's own name. Words that aren't UTF-8 are refused.
 #[inline(never)]
 fn words(rt: &(impl Env + AllocGlobal)) -> Result<Vec<String>, Refusal> {
     let args = match env::args(rt) {

@@ -7,7 +7,7 @@ use std::collections::BTreeMap;
 /// Files in memory, some of whose reads can be made to fail.
 ///
 /// It holds the bytes of each name, the numbers of the calls of `read` that are to fail, the number
-/// of calls that were made, and the number of those that failed or met too large a file. Both counts
+/// of calls that were made, and the number of those that failed or met a file that is too large. Both counts
 /// stay at `u64::MAX` once they are there.
 #[derive(Drop)]
 pub struct MemFiles {
@@ -103,7 +103,7 @@ impl Files for MemFiles {
         ensures steady { is_steady self.new ≡ is_steady self.old }
         ensures later { read_faults self.old ≤ read_faults self.new }
 
-        // What these do besides.
+        // What these do beyond that.
         ensures failed { IsErrOf result FilesFault.Failed
             ↔ (IsListed self.old ⊎ (names_of self.old name.now ≡ None)) }
         ensures too_large { (len : ℕ) → IsErrOf result (FilesFault.TooLarge len)

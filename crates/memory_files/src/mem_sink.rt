@@ -69,9 +69,9 @@ impl Sink for MemSink {
 
     ghost faults = { write_faults };
 
-    /// Appends `bytes`, or nothing where it is refused.
+    /// Appends `bytes`, or nothing if it is refused.
     ///
-    /// `Failed` comes exactly at a listed call. No bytes are no call, and are never refused.
+    /// `Failed` comes exactly at a listed call. A call with no bytes has no number, and is never refused.
     fn put(&mut self, bytes: &[u8]) -> Result<(), SinkFault>
         // What every `Sink` promises.
         ensures writes { Writes (sink_told self.old) (sink_told self.new) result bytes.now }
@@ -79,7 +79,7 @@ impl Sink for MemSink {
         ensures cause { HasCause (write_faults self.old) (write_faults self.new) result }
         ensures later { write_faults self.old ≤ write_faults self.new }
 
-        // What this does besides.
+        // What this does beyond that.
         ensures failed { IsErrOf result SinkFault.Failed ↔ IsToFail self.old bytes.now }
         ensures err { OnErr result (bytes_of self.new ≡ bytes_of self.old) }
         ensures failing { failing_of self.new ≡ failing_of self.old }

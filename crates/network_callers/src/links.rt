@@ -20,14 +20,14 @@ pub fn a_pump_is_no_timer() -> u16
     Cancel::Pump(3).number()
 }
 
-/// The streams of links stand behind those of 64 nodes.
+/// The streams of links come after those of 64 nodes.
 pub fn the_first_link_has_the_stream_behind_the_nodes(random: u64, link: Link) -> u32
     ensures { result ≡ lcg_word (stream random 64) 0 }
 {
     Wire::new(random, 0, link).word
 }
 
-/// The links are not sorted by the nodes at their ends.
+/// The links aren't sorted by the nodes at their ends.
 pub fn links_keep_their_order(alloc: Global, first: Wire, second: Wire) -> Result<Wires, NoMemory>
     ensures { IfOk result (λ wires. wires ≡ first ∷ second ∷ []) }
 {
@@ -37,7 +37,7 @@ pub fn links_keep_their_order(alloc: Global, first: Wire, second: Wire) -> Resul
     Ok(wires)
 }
 
-/// A link that loses so many of a thousand packets, and its next word.
+/// A link that loses `loss` of a thousand packets, and its next word.
 fn a_link(loss: u16, word: u32) -> Wire
     ensures link { result.link ≡ 0 }
     ensures to { result.to ≡ 9 }

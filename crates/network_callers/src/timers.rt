@@ -6,7 +6,8 @@ ghost use Rattle.trickle_timer.specs.declared.timer.Fire.TheVariants.{Send, Keep
 use trickle_timer::{Fire, Trickle};
 use vm_desc::TrickleSet;
 
-/// A timer that is silent from two consistent packets on, with intervals of 100 to 400 ms, in the interval that begins at 0.
+/// A timer that is silent after two consistent packets or more, with intervals of 100 to 400 ms, in the interval that
+/// begins at 0.
 fn a_timer() -> Trickle
     ensures set { result.set ≡ record { imin = 100; doublings = 2; k = 2 } }
     ensures begin { result.running.begin ≡ 0 }

@@ -78,7 +78,7 @@ impl Heap {
         self.values[usize::from(var.0)] = value;
     }
 
-    /// The value at an index of a buffer, from 0; the fault Index exactly outside the buffer's values.
+    /// The value at an index of a buffer, from 0; the fault `Index` exactly if it is outside the buffer's values.
     pub fn item(&self, buf: BufId, index: i16) -> Result<i16, FaultKind>
         requires { buf.0 < length self.now.buffers.items }
         ensures { result ≡ item_of (buffer_at self.now buf.0) index }
@@ -90,7 +90,8 @@ impl Heap {
         }
     }
 
-    /// Changes the value at an index of a buffer, from 0; the fault Index exactly outside the buffer's values.
+    /// Changes the value at an index of a buffer, from 0. The fault `Index` comes exactly if it is outside the
+    /// buffer's values, and leaves the heap as it was.
     pub fn set_item(&mut self, buf: BufId, index: i16, value: i16) -> Result<(), FaultKind>
         requires { buf.0 < length self.old.buffers.items }
         ensures { ChangesBuffer self.old buf.0 (item_set (buffer_at self.old buf.0) index value) result self.new }
@@ -105,7 +106,7 @@ impl Heap {
         }
     }
 
-    /// Appends a value to a buffer; the fault BufferFull exactly where it holds 10.
+    /// Appends a value to a buffer. The fault `BufferFull` comes exactly if it holds 10, and leaves the heap as it was.
     pub fn append(&mut self, buf: BufId, value: i16) -> Result<(), FaultKind>
         requires { buf.0 < length self.old.buffers.items }
         ensures { ChangesBuffer self.old buf.0 (appended (buffer_at self.old buf.0) value) result self.new }
@@ -119,7 +120,8 @@ impl Heap {
         Ok(())
     }
 
-    /// Takes the last value out of a buffer; the fault BufferEmpty exactly where it holds none.
+    /// Takes the last value out of a buffer. The fault `BufferEmpty` comes exactly if it holds none, and leaves the
+    /// heap as it was.
     pub fn take(&mut self, buf: BufId) -> Result<i16, FaultKind>
         requires { buf.0 < length self.old.buffers.items }
         ensures value { result ≡ last_of (buffer_at self.old buf.0) }

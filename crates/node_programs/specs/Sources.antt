@@ -5,8 +5,8 @@ use Rattle.arrayvec.specs.ArrayVec.{ArrayVec}
 use Rattle.mate_num.specs.Uses.{Uses}
 use Rattle.mate_num.specs.declared.shape.Shape.{Shape}
 use Rattle.mate_num.specs.declared.store.Store.{Store}
-use Rattle.ts_syntax.specs.Checked.{tree_of}
-use Rattle.ts_syntax.specs.declared.checked.Checked.{Checked}
+use Rattle.ts_checked.specs.Checked.{checked_tree}
+use Rattle.ts_checked.specs.declared.checked.Checked.{Checked}
 use Rattle.ts_meaning.specs.Meaning.{run_of}
 use Rattle.ts_meaning.specs.Uses.{script_uses}
 use Rattle.mate_num.specs.declared.outcome.Outcome.{Outcome}
@@ -33,11 +33,11 @@ source_in (p ∷ ps) h = if is_held_as h p then p.source else source_in ps h
 -- its code's
 abbrev pub run_from : Shape → Option Checked → HeldProgram → Store → ArrayVec ℤ → List ℤ → ℕ → Outcome
 run_from shape None h store payload answers turns = (meaning_of shape).run h store payload answers turns
-run_from shape (Some source) h store payload answers turns = run_of (tree_of source) store payload answers turns
+run_from shape (Some source) h store payload answers turns = run_of (checked_tree source) store payload answers turns
 
 abbrev pub uses_from : Shape → Option Checked → HeldProgram → Uses
 uses_from shape None h = (meaning_of shape).uses h
-uses_from shape (Some source) h = script_uses shape (tree_of source)
+uses_from shape (Some source) h = script_uses shape (checked_tree source)
 
 -- what held programs mean, if these programs are given; by instructions they go as their code does
 abbrev pub meaning_by : Description → List Program → Meaning

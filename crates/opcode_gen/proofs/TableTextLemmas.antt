@@ -1,4 +1,4 @@
--- The lines of a table: what stands in each, and that each function has a name.
+-- The lines of a table: what is in each, and that each function has a name.
 use Rattle.std.proofs.Common.{◌≡◌, ℕ, ◌+◌, ◌<◌, List, length, map, get_or, Some, sym, ap, ◌∙◌, arith}
 use Rattle.std.specs.List.{enumerate_from}
 use Rattle.std.proofs.lemmas.Option.{slice_get-get_or}

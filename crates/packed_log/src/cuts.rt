@@ -40,14 +40,14 @@ impl Cuts {
         self.ends.len()
     }
 
-    /// How many more cuts it takes without memory.
+    /// How many more cuts it takes without more memory.
     pub(crate) fn spare(&self) -> usize
         ensures { result ≡ self.now.spare }
     {
         self.ends.capacity() - self.ends.len()
     }
 
-    /// The length of so many pieces together, from the front.
+    /// The length of the first `pieces` pieces together.
     pub(crate) fn before(&self, pieces: usize) -> usize
         requires { pieces ≤ length self.now.lengths }
         ensures { result ≡ sum (take pieces self.now.lengths) }
@@ -69,7 +69,7 @@ impl Cuts {
         Ok(())
     }
 
-    /// One more piece, of that length.
+    /// Appends a piece of that length.
     pub(crate) fn push(&mut self, count: usize)
         requires room { 1 ≤ self.old.spare }
         requires fits { sum self.old.lengths + count < 2 ^ 64 }
@@ -80,7 +80,7 @@ impl Cuts {
         self.ends.push_reserved(whole + count);
     }
 
-    /// Keeps so many pieces from the front, or all if there are fewer.
+    /// Keeps the first `n` pieces, or all if there are fewer.
     pub(crate) fn truncate(&mut self, n: usize)
         ensures lengths { self.new.lengths ≡ take n self.old.lengths }
         ensures spare { self.old.spare ≤ self.new.spare }

@@ -8,7 +8,8 @@ use mate_num::{IMAGE_MAX, Image, NoMemory};
 use std::alloc::Global;
 use std::marker::Model;
 
-/// Images, each in the memory of its own length. Contracts see the list, and how many more it takes without memory, however long.
+/// Images, each in the memory of its own length. Contracts see the list, and how many more images it takes without
+/// more memory, however long they are.
 #[derive(Drop)]
 pub struct Images {
     bytes: Pieces<u8>,
@@ -43,7 +44,7 @@ impl Images {
         self.bytes.len()
     }
 
-    /// The image at `index`, from 0; None exactly from the length on.
+    /// The image at `index`, from 0; None exactly if `index` is the length or more.
     pub fn get(&self, index: usize) -> Option<ImageRef<'_>>
         ensures { result ≡ slice_get self.now.items index }
     {
@@ -56,7 +57,7 @@ impl Images {
         }
     }
 
-    /// How many more images it takes without memory, however long they are.
+    /// How many more images it takes without more memory, however long they are.
     pub fn spare(&self) -> usize
         ensures { result ≡ self.now.spare }
     {
@@ -93,7 +94,7 @@ impl Images {
     }
 }
 
-/// An image, where it is kept among others. Contracts see the image.
+/// An image, in place among others. Contracts see the image.
 #[derive(Drop)]
 pub struct ImageRef<'a> {
     bytes: &'a [u8],

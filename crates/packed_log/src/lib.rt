@@ -1,4 +1,4 @@
-//! Images and stores of a log, packed one behind another: each takes the memory of its own bytes, and not of the longest one.
+//! Images and stores of a log, packed one after another: each takes the memory of its own bytes, not of the longest one.
 #![tactic(auto)]
 
 mod cuts;

@@ -1,4 +1,4 @@
-//! Pieces of a row, one behind another.
+//! Pieces of a row, one after another.
 
 ghost use Rattle.std.specs.Prelude.{◌≡◌, ◌≤◌, ◌<◌, ◌+◌, ◌∷◌, ◌++◌, [], length, take, slice_index_or, OnOk};
 
@@ -7,8 +7,8 @@ use mate_num::NoMemory;
 use std::alloc::Global;
 use std::marker::Model;
 
-/// A list of lists, kept in one row. Contracts see the lists, for how many more there are places, and for how many more items
-/// there is room.
+/// A list of lists, kept in one row. Contracts see the lists, for how many more lists there are places, and for how
+/// many more items there is room.
 #[derive(Drop)]
 pub(crate) struct Pieces<T> {
     items: Vec<T>,
@@ -47,20 +47,21 @@ impl<T: Copy + Drop> Pieces<T> {
         self.cuts.len()
     }
 
-    /// How many more pieces it takes without memory, where there is room for their items.
+    /// How many more pieces it takes without more memory, if there is room for their items.
     pub(crate) fn places(&self) -> usize
         ensures { result ≡ self.now.places }
     {
         self.cuts.spare()
     }
 
-    /// How many more items it takes without memory.
+    /// How many more items it takes without more memory.
     pub(crate) fn room(&self) -> usize
         ensures { result ≡ self.now.room }
     {
         self.items.capacity() - self.items.len()
     }
 
+    /// The piece at `n`, from 0; there must be one.
     pub(crate) fn piece(&self, n: usize) -> &[T]
         requires { n < length self.now.pieces }
         ensures { result.now ≡ slice_index_or self.now.pieces n [] }
@@ -71,7 +72,7 @@ impl<T: Copy + Drop> Pieces<T> {
         &self.items[start..behind]
     }
 
-    /// Makes room for so many more pieces, with so many items together. `NoMemory` leaves the pieces as they were.
+    /// Makes room for `places` more pieces, with `room` items together. `NoMemory` leaves the pieces as they were.
     pub(crate) fn reserve(&mut self, places: usize, room: usize) -> Result<(), NoMemory>
         ensures pieces { self.new.pieces ≡ self.old.pieces }
         ensures places { self.old.places ≤ self.new.places }
@@ -98,7 +99,7 @@ impl<T: Copy + Drop> Pieces<T> {
         };
     }
 
-    /// Keeps so many pieces from the front, or all if there are fewer.
+    /// Keeps the first `n` pieces, or all if there are fewer.
     pub(crate) fn truncate(&mut self, n: usize)
         ensures pieces { self.new.pieces ≡ take n self.old.pieces }
         ensures places { self.old.places ≤ self.new.places }

@@ -17,8 +17,8 @@ const PARTS_MAX: usize = 1 + BUFFERS_MAX;
 /// The greatest number of values in a store.
 const VALUES_MAX: usize = SHARED_MAX + BUFFERS_MAX * PAYLOAD_MAX;
 
-/// Stores, each in the memory of the values that it has. Contracts see the list, and how many more it takes without memory, however
-/// many values they have.
+/// Stores, each in the memory of the values that it has. Contracts see the list, and how many more stores it takes
+/// without more memory, however many values they have.
 #[derive(Drop)]
 pub struct Stores {
     parts: Pieces<i16>,
@@ -75,7 +75,7 @@ impl Stores {
         self.counts.len()
     }
 
-    /// The store at `index`, from 0; None exactly from the length on.
+    /// The store at `index`, from 0; None exactly if `index` is the length or more.
     pub fn get(&self, index: usize) -> Option<StoreRef<'_>>
         ensures { result ≡ slice_get self.now.items index }
     {
@@ -92,7 +92,7 @@ impl Stores {
         }
     }
 
-    /// How many more stores it takes without memory, however many values they have.
+    /// How many more stores it takes without more memory, however many values they have.
     pub fn spare(&self) -> usize
         ensures { result ≡ self.now.spare }
     {
@@ -135,11 +135,11 @@ impl Stores {
     }
 }
 
-/// A store, where it is kept among others. Contracts see the store.
+/// A store, in place among others. Contracts see the store.
 #[derive(Drop)]
 pub struct StoreRef<'a> {
     parts: &'a Pieces<i16>,
-    // the place of its shared variables among the parts, and how many buffers are behind them
+    // the place of its shared variables among the parts, and how many buffers come after them
     first: usize,
     buffers: usize,
 }
@@ -174,7 +174,7 @@ impl<'a> StoreRef<'a> {
         self.buffers
     }
 
-    /// The values in a buffer, and no values if there is no such buffer.
+    /// The values in a buffer, or no values if there is no such buffer.
     pub fn buffer(&self, buffer: usize) -> &'a [i16]
         ensures value { result.now ≡ buffer_at self.now buffer }
         ensures few { length result.now ≤ 10 }

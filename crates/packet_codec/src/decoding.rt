@@ -25,7 +25,7 @@ pub enum PacketFault {
     BadField,
 }
 
-/// The packet that the bytes are to the machine, or the first fault, in this order: `BadLength` for fewer
+/// The packet that the bytes are for the machine, or the first fault, in this order: `BadLength` for fewer
 /// than 5 bytes, `OtherVm`, `BadKind`, `BadLength`, `BadField`.
 pub fn decode(desc: &Description, bytes: &[u8]) -> Result<Packet, PacketFault>
     ensures value { result ≡ packet_in desc.now bytes.now }
@@ -174,7 +174,7 @@ fn is_fragment(
         && (u32::from(index) + 1 == u32::from(count) || len >= full_len(large))
 }
 
-// The length of a piece that isn't the last one.
+// The length of a piece that isn't the last one, in bytes.
 fn full_len(large: bool) -> usize
     ensures { result ≡ full_len large }
 {

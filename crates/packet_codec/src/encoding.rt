@@ -40,7 +40,7 @@ fn kind(packet: &Packet) -> u8
     }
 }
 
-// Appends what stands behind the machine's number.
+// Appends what comes after the machine's number.
 fn put_body(out: &mut PacketBytes, packet: &Packet)
     requires { length out.old.items ≡ 5 }
     ensures bytes { out.new.items ≡ out.old.items ++ body_of packet.now }
@@ -102,7 +102,7 @@ fn put_values(out: &mut PacketBytes, values: &[i16])
     }
 }
 
-// Appends the bytes, for which there is room.
+// Appends the bytes; there must be room for them.
 fn put(out: &mut PacketBytes, bytes: &[u8])
     requires { length out.old.items + length bytes.now ≤ 64 }
     ensures bytes { out.new.items ≡ out.old.items ++ bytes.now }

@@ -1,4 +1,4 @@
-//! The law of packets, as the contract of a call that does nothing.
+//! The law of packets, as the contract of a function that does nothing.
 
 ghost use Rattle.std.specs.Prelude.{◌≡◌, ℕ, List, length, Ok};
 ghost use Rattle.vm_desc.specs.declared.description.Description.{Description};

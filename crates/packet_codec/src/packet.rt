@@ -7,23 +7,22 @@ use arrayvec::ArrayVec;
 use capsule_codec::Piece;
 use mate_num::{HandlerId, Payload};
 
-/// What a node sends. It is right for a machine where its handlers, numbers and lengths are the
-/// machine's, as said at each field.
+/// What a node sends. It is right for a machine if its handlers, numbers and lengths are the machine's, as said at each field.
 #[derive(PartialEq, Eq, Debug, Drop)]
 pub enum Packet {
     /// The version that the sender holds of each handler, in order, 0 for none.
     Vector {
         versions: ArrayVec<u32, 8>,
     },
-    /// Fragments that the sender lacks of a version, from 1 on, of a handler: bit `i` of `missing` asks
-    /// for fragment `i`, of at most 22, and some bit is set.
+    /// Fragments that the sender lacks of a version, from 1 on, of a handler: bit `i` of `missing` asks for fragment
+    /// `i`, of at most 22, and at least one bit is set.
     Status {
         handler: HandlerId,
         version: u32,
         missing: u32,
     },
-    /// A piece of an image: number `index`, from 0, of `count`, at most 22. It has 1 to 24 bytes, or 1 to
-    /// 48 where `large` is true. Every piece but the last one has all of them.
+    /// A piece of an image: number `index`, from 0, of `count`, at most 22. It has 1 to 24 bytes, or 1 to 48 if
+    /// `large` is true. Every piece but the last one has 24 or 48.
     Fragment {
         handler: HandlerId,
         version: u32,
@@ -32,7 +31,7 @@ pub enum Packet {
         large: bool,
         bytes: Piece,
     },
-    /// The values that a script sent.
+    /// The values that a script sends.
     App {
         payload: Payload,
     },

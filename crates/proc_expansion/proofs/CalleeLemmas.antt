@@ -1,4 +1,4 @@
--- The numbers of parameters: how many stand before a procedure's, and that all fit.
+-- The numbers of parameters: how many come before a procedure's, and that all fit.
 use Rattle.std.proofs.Common.{◌≡◌, ℕ, suc, zero, ◌+◌, ◌<◌, ◌≤◌, List, [], ◌∷◌, ◌++◌, length, map, take, drop, get_or, Some, option_map, slice_get, ap, sym, ◌∙◌, arith}
 use Rattle.std.specs.Prelude.{◌^◌, min, sum_by}
 use Rattle.std.proofs.lemmas.List.{get_or_default, map-append, take_all, drop_all, length-map, length-take}
@@ -7,7 +7,7 @@ use Rattle.std.proofs.lemmas.List.Sums.{sum_by-append}
 use Rattle.ts_syntax.specs.declared.expr.Expr.{Expr}
 use Rattle.ts_syntax.specs.declared.procedure.Proc.{Proc}
 use Rattle.ts_syntax.specs.Seen.{procedure_of}
-use Rattle.ts_syntax.proofs.ListLemmas.{drop_item}
+use Rattle.ts_checked.proofs.ListLemmas.{drop_item}
 use Rattle.proc_names.specs.Heads.{parameter_count}
 use Rattle.proc_expansion.specs.Expansion.{Callee, callee}
 use Rattle.proc_expansion.specs.Plan.{bodies_of, firsts_of}

@@ -5,7 +5,7 @@ use Rattle.std.proofs.lemmas.List.{length-take, length-map, map-append, take_all
 use Rattle.std.proofs.lemmas.Option.{slice_get-map, slice_get-get_or}
 use Rattle.ts_syntax.specs.declared.procedure.Proc.{Proc}
 use Rattle.ts_syntax.specs.declared.stmt.Stmt.{Stmt}
-use Rattle.ts_syntax.proofs.ListLemmas.{drop_item}
+use Rattle.ts_checked.proofs.ListLemmas.{drop_item}
 use Rattle.ts_syntax.specs.Tree.{Tree, Trees, no_trees, tree_then, Act, set, set_item, append, take_last, clear, call_alone, if_then, if_else, for_next, while_do, run_procedure, Acts, no_acts, act_then}
 use Rattle.ts_syntax.specs.Seen.{acts, act_of, acts_of, procedure_of}
 use Rattle.ts_syntax.specs.declared.word.Word.{Word}

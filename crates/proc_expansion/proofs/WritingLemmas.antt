@@ -8,7 +8,7 @@ use Rattle.ts_syntax.specs.declared.stmt.Stmt.{Stmt}
 use Rattle.ts_syntax.specs.declared.word.Word.{Word}
 use Rattle.ts_syntax.specs.Seen.{tree_of, trees_of, act_of, acts_of, acts, procedure_of}
 use Rattle.ts_syntax.specs.Tree.{Trees, Act, tree_then}
-use Rattle.ts_syntax.proofs.ListLemmas.{drop_item}
+use Rattle.ts_checked.proofs.ListLemmas.{drop_item}
 use Rattle.proc_expansion.specs.declared.pending.Pending.{Pending}
 use Rattle.proc_renaming.specs.Renaming.{Hiding, assigned}
 use Rattle.proc_expansion.specs.Expansion.{Callee, callee, first_trees, body_called, expanded_act, expanded_acts}

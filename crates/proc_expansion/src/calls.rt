@@ -18,7 +18,7 @@ use proc_renaming::statements::assignments;
 use std::alloc::Global;
 use ts_syntax::{Args, Block, Word};
 
-/// Appends the assignments of a `do`, and answers the body of its procedure if it has statements.
+/// Appends the assignments of a `do`, and returns the body of its procedure if it has statements.
 pub(crate) fn call<'a>(
     alloc: Global,
     plan: &Plan<'a>,

@@ -29,13 +29,14 @@ pub const STATEMENTS_MAX: u32 = 10_000;
 /// How deep the blocks of an expansion may nest.
 pub const DEPTH_MAX: u32 = 32;
 
-/// The plain script that a script with procedures stands for. Its parameters are the private variables `_0`, `_1` and so on,
-/// numbered in the order of the procedures and then of their heads, and declared behind the script's own names. A `do` becomes
-/// the assignments of its arguments, from left to right, and then its procedure's body, expanded. A parameter hides a variable
-/// or a buffer of its name within the body, and no function.
+/// The plain script that a script with procedures expands to. Its parameters are the private variables `_0`, `_1` and
+/// so on, numbered in the order of the procedures and then of their heads, and declared after the script's own names.
+/// A `do` becomes the assignments of its arguments, from left to right, and then its procedure's body, expanded. A
+/// parameter hides a variable or a buffer of its name within the body, but no function.
 ///
-/// `TooLarge` comes exactly where the expansion has more than 10,000 statements, and `TooNested` exactly where it hasn't and its
-/// blocks nest more than 32 deep; neither writes the expansion out. `NoMemory` may come in place of any answer.
+/// `TooLarge` comes exactly if the expansion has more than 10,000 statements, and `TooNested` exactly if it has at
+/// most that many and its blocks nest more than 32 deep; neither writes the expansion out. `NoMemory` may come instead
+/// of any answer.
 pub fn expand(alloc: Global, script: &PScript) -> Result<Script, ProcFault>
     ensures { Expands (written_of script.now) result }
 {
@@ -63,7 +64,7 @@ pub fn expand(alloc: Global, script: &PScript) -> Result<Script, ProcFault>
     Ok(written(alloc, &plan, script, script.body().as_slice())?)
 }
 
-// The plain script, by procedures and statements with shorter calls.
+// The plain script, made from procedures and statements whose calls were shortened.
 fn shortened(alloc: Global, plan: &Plan, script: &PScript) -> Result<Script, NoMemory>
     requires planned { map procedure_of plan.now.heads.procs.now ≡ (written_of script.now).procs }
     requires shallow { acts_depth (expansion (written_of script.now)).body ≤ DEPTH_MAX }
@@ -93,7 +94,7 @@ fn whole_extent(plan: &Plan, script: &PScript) -> Extent
     )
 }
 
-// The plain script, by a plan of procedures and by statements that become the same as the script's.
+// The plain script, by a plan of procedures and by statements that expand to the same as the script's.
 fn written<'a>(
     alloc: Global,
     plan: &Plan<'a>,

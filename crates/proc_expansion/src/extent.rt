@@ -1,4 +1,4 @@
-//! How large the expansions of bodies are, by those of the procedures declared before.
+//! How large the expansions of bodies are, computed from those of the procedures declared before.
 
 ghost use Rattle.std.specs.Prelude.{◌≡◌, min, take, IfOk};
 ghost use Rattle.ts_syntax.specs.Seen.{act_of, acts_of, trees_of};
@@ -13,7 +13,7 @@ use proc_names::Heads;
 use std::alloc::Global;
 use ts_syntax::{Args, Block, Stmt, Word};
 
-/// Where the count of an expansion's statements stops.
+/// The count of an expansion's statements stops here.
 pub(crate) const COUNT_MAX: u32 = 1_000_000;
 
 /// How large statements are: how many there are, those inside blocks counted, up to `COUNT_MAX`; and how deep their blocks
@@ -69,7 +69,7 @@ pub(crate) fn extents(alloc: Global, heads: &Heads) -> Result<Vec<Extent>, NoMem
     Ok(extents)
 }
 
-/// The extent of a block's expansion, behind so many procedures, whose bodies have these extents.
+/// The extent of a block's expansion, after `count` procedures, whose bodies have these extents.
 #[cycle(block)]
 pub(crate) fn block_extent(heads: &Heads, extents: &[Extent], count: usize, stmts: &Block) -> Extent
     requires { extents.now ≡ body_extents (take count (bodies_of heads.now.procs.now)) }

@@ -1,4 +1,4 @@
-//! Procedures and blocks with shorter calls.
+//! Procedures and blocks whose calls were shortened.
 
 ghost use Rattle.std.specs.Prelude.{◌≡◌, ◌≤◌, ◌<◌, length, get_or, take, map, OnOk, IfOk};
 ghost use Rattle.ts_syntax.specs.Seen.{act_of, acts_of, trees_of};
@@ -18,8 +18,9 @@ use proc_renaming::statements::{for_next, if_else, if_then, run, simple, while_d
 use std::alloc::Global;
 use ts_syntax::{Args, Block, Proc, Stmt, Word};
 
-/// The same procedures, with calls that are left out where they add nothing, and go to what a procedure only runs: a body with many
-/// such calls is gone through once, and not at each of its calls. And for each procedure one whose body becomes the same.
+/// The procedures with fewer calls: a call that adds nothing is left out, and one of a procedure that does nothing
+/// but run another goes to that other. So a body with many such calls is gone through once, and not at each of its
+/// calls. And for each procedure, one whose body expands to the same.
 pub(crate) fn live_procs(
     alloc: Global,
     plan: &Plan,
@@ -49,7 +50,7 @@ pub(crate) fn live_procs(
     Ok((live, targets))
 }
 
-/// A block behind `count` procedures, with such calls.
+/// A block after `count` procedures, with its calls shortened.
 #[cycle(live)]
 pub(crate) fn live_block(
     alloc: Global,

@@ -8,7 +8,7 @@ ghost use Rattle.proc_renaming.specs.Hidden.{hiding_of};
 use proc_renaming::Hidden;
 use ts_syntax::Stmt;
 
-/// Statements that are still to be written, which stand behind so many procedures, and the parameters that hide names in them.
+/// Statements that are still to be written, after `count` procedures, and the parameters that hide names in them.
 #[derive(Drop)]
 pub(crate) struct Pending<'a> {
     pub(crate) stmts: &'a [Stmt],
@@ -21,12 +21,14 @@ impl<'a> Pending<'a> {
     ghost use Rattle.proc_expansion.specs.Plan.{bodies_of};
     ghost use Rattle.proc_expansion.specs.Pending.{acts_left, steps_left, steps_of_bodies, act_steps};
 
-    /// The first of the statements, and the others; None exactly where there are none.
+    /// The first of the statements, and the others; None exactly if there are none.
     pub(crate) fn split_first(self) -> Option<(&'a Stmt, Pending<'a>)>
         ensures left { (procs : List Proc) → MatchOption result (acts_left procs self.entry ≡ [])
-            (λ r. acts_left procs self.entry ≡ expanded_act (take r.1.count (bodies_of procs)) (hiding_of r.1.hidden) (act_of r.0.now) ++ acts_left procs r.1) }
+            (λ r. acts_left procs self.entry ≡ expanded_act (take r.1.count (bodies_of procs)) (hiding_of r.1.hidden) (act_of r.0.now)
+            ++ acts_left procs r.1) }
         ensures steps { (procs : List Proc) → MatchOption result ⊤
-            (λ r. steps_left procs self.entry ≡ act_steps (take r.1.count (steps_of_bodies procs)) (act_of r.0.now) + steps_left procs r.1) }
+            (λ r. steps_left procs self.entry ≡ act_steps (take r.1.count (steps_of_bodies procs)) (act_of r.0.now)
+            + steps_left procs r.1) }
     {
         let mut rest = self;
         let (stmt, stmts) = rest.stmts.split_first()?;

@@ -27,6 +27,7 @@ pub(crate) struct Plan<'a> {
 }
 
 impl<'a> Plan<'a> {
+    /// The plan of these procedures. `NoMemory` is the only refusal.
     pub(crate) fn of(alloc: Global, procs: &'a [Proc]) -> Result<Plan<'a>, NoMemory>
         requires { parameter_count (map procedure_of procs.now) < 2 ^ 32 }
         ensures { IfOk result (λ plan. plan.heads.procs.now ≡ procs.now) }

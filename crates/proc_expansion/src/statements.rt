@@ -18,7 +18,7 @@ use proc_renaming::statements::{for_next, if_else, if_then, simple, while_do};
 use std::alloc::Global;
 use ts_syntax::{Block, Stmt};
 
-/// The expansion of a block behind `count` procedures, whose blocks nest less than `depth` deep.
+/// The expansion of a block after `count` procedures, whose blocks nest less than `depth` deep.
 #[cycle(block)]
 pub(crate) fn block<'a>(
     alloc: Global,
@@ -42,8 +42,8 @@ pub(crate) fn block<'a>(
     Ok(written)
 }
 
-// Appends what the body of a `do` becomes. The bodies that are still to be written stand on a stack of their own, so that
-// a chain of procedures may be as long as a source is.
+// Appends what the body of a `do` becomes. The bodies that are still to be written are kept on a stack of their own,
+// so that a chain of procedures may be as long as a source is.
 #[cycle(block)]
 fn bodies<'a>(
     alloc: Global,
@@ -67,7 +67,7 @@ fn bodies<'a>(
     Ok(())
 }
 
-// Appends what a statement becomes, but for the body of a `do`, which is answered if it has statements.
+// Appends what a statement becomes, except for the body of a `do`, which is returned if it has statements.
 #[cycle(block)]
 fn statement<'a>(
     alloc: Global,

@@ -1,4 +1,4 @@
-//! Which procedure is run in place of another.
+//! Which procedure is run instead of another.
 
 ghost use Rattle.std.specs.Prelude.{◌≡◌, ◌<◌, length, get_or, take};
 ghost use Rattle.ts_syntax.specs.Seen.{acts_of};
@@ -9,9 +9,9 @@ ghost use Rattle.proc_expansion.specs.Targets.{IsTarget, AreTargets};
 use proc_names::Heads;
 use ts_syntax::{Proc, Stmt};
 
-/// A procedure whose body becomes the same as that of the one at a place, which has these statements: the procedure itself, unless
-/// it does nothing but to run one without parameters; then that one's, by those of the procedures before it. So a chain of such
-/// procedures is passed in one step.
+/// A procedure whose body expands to the same as that of the one at a place, which has these statements: the
+/// procedure itself, unless all it does is run one without parameters; then that one's target, by those of the
+/// procedures before it. So a chain of such procedures is followed in one step.
 pub(crate) fn target(
     heads: &Heads,
     targets: &[usize],

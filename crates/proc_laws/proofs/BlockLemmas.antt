@@ -2,8 +2,8 @@
 use Rattle.std.proofs.Common.{◌≡◌, ℤ, List, [], ◌∷◌, ◌++◌, Result, Ok, Err, refl, ap, sym, ◌∙◌, subst}
 use Rattle.std.specs.Prelude.{⊤}
 use Rattle.mate_num.specs.Number.{is_truth}
-use Rattle.ts_syntax.specs.Expression.{Expression}
-use Rattle.ts_syntax.specs.Statement.{Statement, Block, no_statements, statement, If, IfElse, For, While}
+use Rattle.ts_checked.specs.Expression.{Expression}
+use Rattle.ts_checked.specs.Statement.{Statement, Block, no_statements, statement, If, IfElse, For, While}
 use Rattle.ts_syntax.specs.Tree.{Act}
 use Rattle.ts_syntax.specs.Seen.{acts}
 use Rattle.ts_scope.specs.declared.fault.CheckFault.{CheckFault}

@@ -1,4 +1,5 @@
--- Calls of procedures: the arguments' values make a frame with frames, and stand in the parameters' variables in the expansion.
+-- Calls of procedures: the arguments' values make a frame in the run with frames, and are in the parameters'
+-- variables in the expansion.
 use Rattle.std.proofs.Common.{◌≡◌, ℕ, zero, suc, ◌+◌, ◌<◌, ◌≤◌, ℤ, pos, true, List, [], ◌∷◌, length, get_or, drop, set, None, Result, Ok, Err, refl, ap, sym, ◌∙◌, subst, arith}
 use Rattle.std.specs.Prelude.{⊤}
 use Rattle.std.proofs.lemmas.List.{get_or-set_same, get_or-set_other}
@@ -7,12 +8,12 @@ use Rattle.mate_num.specs.Store.{payload, buffer_at, item_of}
 use Rattle.mate_num.specs.Operators.{negative_of, not_of}
 use Rattle.mate_num.specs.declared.call.FaultKind.{FaultKind}
 use Rattle.mate_num.specs.declared.id.FunId.{FunId}
-use Rattle.ts_syntax.specs.Expression.{Expression, Arguments, no_arguments, argument, Num, Shared, Private, Item, Size, MsgItem, MsgSize, Call, SendBuf, Neg, Not, Two}
-use Rattle.ts_syntax.specs.Statement.{Block, statement, Set}
+use Rattle.ts_checked.specs.Expression.{Expression, Arguments, no_arguments, argument, Num, Shared, Private, Item, Size, MsgItem, MsgSize, Call, SendBuf, Neg, Not, Two}
+use Rattle.ts_checked.specs.Statement.{Block, statement, Set}
 use Rattle.ts_syntax.specs.Tree.{Trees, no_trees, tree_then}
 use Rattle.ts_syntax.specs.Seen.{acts}
-use Rattle.ts_syntax.specs.declared.checked_stmt.CVar.{CVar}
-use Rattle.ts_syntax.specs.declared.checked_stmt.CVar.TheVariants as var
+use Rattle.ts_checked.specs.declared.checked_stmt.CVar.{CVar}
+use Rattle.ts_checked.specs.declared.checked_stmt.CVar.TheVariants as var
 use Rattle.ts_scope.specs.declared.fault.CheckFault.{CheckFault}
 use Rattle.ts_scope.specs.Refusal.{◌>>=◌}
 use Rattle.ts_scope.specs.Names.{ScriptNames, variable}

@@ -11,8 +11,8 @@ use Rattle.ts_syntax.specs.declared.word.Word.{Word}
 use Rattle.ts_syntax.specs.declared.stmt.Step.{Step}
 use Rattle.ts_syntax.specs.Tree as given
 use Rattle.ts_syntax.specs.Tree.{Tree, Trees, no_trees, tree_then}
-use Rattle.ts_syntax.specs.Expression.{Arguments, argument, Item, Size, MsgItem, Call, SendBuf, Neg, Not, Two}
-use Rattle.ts_syntax.specs.Statement.{Do, DoSend}
+use Rattle.ts_checked.specs.Expression.{Arguments, argument, Item, Size, MsgItem, Call, SendBuf, Neg, Not, Two}
+use Rattle.ts_checked.specs.Statement.{Do, DoSend}
 use Rattle.ts_scope.specs.declared.fault.CheckFault.{CheckFault}
 use Rattle.ts_scope.specs.declared.fault.CheckFault.TheVariants.{Kind, Arity}
 use Rattle.ts_scope.specs.Refusal.{◌>>=◌, unless_refused}

@@ -9,10 +9,10 @@ use Rattle.mate_num.specs.declared.call.End.TheVariants.{Fault}
 use Rattle.mate_num.specs.declared.call.FaultKind.{FaultKind}
 use Rattle.mate_num.specs.declared.id.BufId.{BufId}
 use Rattle.mate_num.specs.declared.id.FunId.{FunId}
-use Rattle.ts_syntax.specs.Expression.{Expression, Arguments, no_arguments, argument, Num, Item, Size, MsgItem, MsgSize, Call, SendBuf, Neg, Not, Two}
-use Rattle.ts_syntax.specs.declared.bin_op.BinOp.{BinOp}
-use Rattle.ts_syntax.specs.declared.checked_stmt.CVar.{CVar}
-use Rattle.ts_syntax.specs.declared.checked_stmt.CVar.TheVariants as var
+use Rattle.ts_checked.specs.Expression.{Expression, Arguments, no_arguments, argument, Num, Item, Size, MsgItem, MsgSize, Call, SendBuf, Neg, Not, Two}
+use Rattle.ts_checked.specs.declared.bin_op.BinOp.{BinOp}
+use Rattle.ts_checked.specs.declared.checked_stmt.CVar.{CVar}
+use Rattle.ts_checked.specs.declared.checked_stmt.CVar.TheVariants as var
 use Rattle.ts_meaning.specs.State.{ScriptState, Evaluation, Done, Over, then_do, value_or_fault, variable_at, with_variable, first_ten, next_answer, call_answered}
 use Rattle.ts_meaning.specs.Meaning.{applied, value_of, values_of}
 use Rattle.ts_checker.specs.Checks.{variable_expression}

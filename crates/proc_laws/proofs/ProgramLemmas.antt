@@ -10,8 +10,8 @@ use Rattle.mate_num.specs.declared.call.End.TheVariants.{Halt}
 use Rattle.mate_num.specs.declared.id.BufId.{BufId}
 use Rattle.vm_desc.specs.declared.description.Description.{Description}
 use Rattle.ts_syntax.specs.declared.word.Word.{Word}
-use Rattle.ts_syntax.specs.declared.checked_stmt.CVar.TheVariants as var
-use Rattle.ts_syntax.specs.Statement.{Statement, Block, Set, SetItem, Append, Take, Clear}
+use Rattle.ts_checked.specs.declared.checked_stmt.CVar.TheVariants as var
+use Rattle.ts_checked.specs.Statement.{Statement, Block, Set, SetItem, Append, Take, Clear}
 use Rattle.ts_syntax.specs.Tree.{Trees, Act, set, set_item, append, take_last, clear, call_alone, if_then, if_else, for_next, while_do, run_procedure, Acts, no_acts, act_then, Procedure, ProcedureSource, Source}
 use Rattle.ts_syntax.specs.Seen.{acts}
 use Rattle.ts_scope.specs.declared.fault.CheckFault.{CheckFault}

@@ -1,4 +1,4 @@
--- Lists of private variables that stand for one another: those of a run with frames, and those of a run of the expansion.
+-- Lists of private variables that correspond: those of a run with frames, and those of a run of the expansion.
 use Rattle.std.proofs.Common.{◌≡◌, ℕ, ◌+◌, ◌-◌, ◌<◌, ◌≤◌, ℤ, pos, List, ◌++◌, length, get_or, take, drop, set, refl, ap, sym, ◌∙◌, arith, inl, inr, ◌⊎◌}
 use Rattle.std.proofs.lemmas.Bool.Decides.{eqb_tells}
 use Rattle.std.proofs.lemmas.List.{length-set, length-append, length-take-le, length-drop, get_or-set_same, get_or-set_other, get_or-take, get_or-drop, get_or-append-add, get_or_append_left}

@@ -8,9 +8,9 @@ use Rattle.mate_num.specs.declared.call.FaultKind.{FaultKind}
 use Rattle.mate_num.specs.declared.call.FaultKind.TheVariants.{Overrun}
 use Rattle.mate_num.specs.declared.id.BufId.{BufId}
 use Rattle.mate_num.specs.declared.id.FunId.{FunId}
-use Rattle.ts_syntax.specs.Expression.{Expression, Arguments, Call, SendBuf}
-use Rattle.ts_syntax.specs.Statement.{Set, SetItem, Append, Take, Clear, Do, DoSend}
-use Rattle.ts_syntax.specs.declared.checked_stmt.CVar.{CVar}
+use Rattle.ts_checked.specs.Expression.{Expression, Arguments, Call, SendBuf}
+use Rattle.ts_checked.specs.Statement.{Set, SetItem, Append, Take, Clear, Do, DoSend}
+use Rattle.ts_checked.specs.declared.checked_stmt.CVar.{CVar}
 use Rattle.ts_meaning.specs.State.{ScriptState, Evaluation, Done, Over, then_do, variable_at, with_variable, with_buffer, buffer_changed, moved, dropped, with_turns, after_round, rounds, loop_does, choose, round_if}
 use Rattle.ts_meaning.specs.Meaning.{value_of, is_within, while_round, stepped, body_and_step, for_round, run_stmt}
 use Rattle.proc_laws.proofs.StateLemmas.{Layout, HasRoom, Stands}

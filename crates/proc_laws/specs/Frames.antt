@@ -6,9 +6,9 @@ use Rattle.mate_num.specs.declared.store.Store.{Store}
 use Rattle.mate_num.specs.declared.call.End.TheVariants.{Halt}
 use Rattle.vm_desc.specs.declared.description.Description.{Description}
 use Rattle.ts_syntax.specs.declared.word.Word.{Word}
-use Rattle.ts_syntax.specs.declared.checked_stmt.CVar.TheVariants.{Private}
-use Rattle.ts_syntax.specs.Expression.{Expression, Arguments}
-use Rattle.ts_syntax.specs.Statement.{Statement}
+use Rattle.ts_checked.specs.declared.checked_stmt.CVar.TheVariants.{Private}
+use Rattle.ts_checked.specs.Expression.{Expression, Arguments}
+use Rattle.ts_checked.specs.Statement.{Statement}
 use Rattle.ts_syntax.specs.Tree.{Act, set, set_item, append, take_last, clear, call_alone, if_then, if_else, for_next, while_do}
 use Rattle.ts_syntax.specs.Tree.{run_procedure, Acts, no_acts, act_then, Procedure, ProcedureSource}
 use Rattle.ts_scope.specs.declared.scope.Symbol.TheVariants.{Variable}

@@ -1,13 +1,13 @@
-//! The expansion of a script with procedures means what the script does.
+//! The law that the expansion of a script with procedures means what the script does.
 
 ghost use Rattle.proc_names.specs.Named.{written_of};
 ghost use Rattle.proc_laws.specs.FrameLaw.{RunsAsExpanded, RunsAsAnswered};
 
 use proc_names::PScript;
 
-/// The law of frames: where the expansion of a script with procedures is accepted for a machine, its run has the end, the store
-/// and the calls that the script's run with frames has, for every store, message, list of answers and number of turns. It holds
-/// of what `expand` answers, and of the expansion of a script that is too large for `expand`.
+/// The law of frames: if the expansion of a script with procedures is accepted for a machine, its run has the end,
+/// the store and the calls of the script's run with frames, for every store, message, list of answers and number of
+/// turns. It holds for what `expand` returns, and for the expansion of a script that is too large for `expand`.
 pub fn frame_law(script: &PScript)
     ensures runs { RunsAsExpanded (written_of script.now) }
     ensures answered { RunsAsAnswered (written_of script.now) }

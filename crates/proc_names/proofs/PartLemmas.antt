@@ -1,4 +1,4 @@
--- What an answer tells of a whole, by what it tells of the parts.
+-- What an answer says of a whole, by what it says of the parts.
 use Rattle.std.proofs.Common.{◌≡◌, ℕ, ◌+◌, ◌<◌, ◌≤◌, List, [], ◌∷◌, ◌++◌, length, drop, get_or, Option, Some, None, Result, Ok, Err, ap, sym, ◌∙◌}
 use Rattle.std.specs.Prelude.{IsErrAnd, is_some}
 use Rattle.std.specs.Result.{result_err}
@@ -9,7 +9,7 @@ use Rattle.ts_syntax.specs.declared.stmt.Stmt.{Stmt}
 use Rattle.ts_syntax.specs.declared.word.Word.{Word}
 use Rattle.ts_syntax.specs.Seen.{tree_of, trees_of, act_of, acts_of}
 use Rattle.ts_syntax.specs.Tree.{Tree, Act}
-use Rattle.ts_syntax.proofs.ListLemmas.{drop_item}
+use Rattle.ts_checked.proofs.ListLemmas.{drop_item}
 use Rattle.proc_names.specs.declared.fault.ProcFault.{ProcFault}
 use Rattle.proc_names.specs.declared.fault.ProcFault.TheVariants.{Again, NoMemory}
 use Rattle.proc_names.specs.Places.{place_of_name}

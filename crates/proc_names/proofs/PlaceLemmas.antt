@@ -1,4 +1,4 @@
--- The first place of a name among names: in a longer list, in a part of one, and what stands beside it.
+-- The first place of a name among names: in a longer list, in a part of one, and next to other names.
 use Rattle.std.proofs.Common.{◌≡◌, ℕ, suc, zero, ◌+◌, ◌<◌, List, [], ◌∷◌, ◌++◌, length, map, take, Bool, true, false, cond, Option, Some, None, option_map, slice_get, refl, ap, sym, ◌∙◌, arith}
 use Rattle.std.specs.Prelude.{bytes_eq, IfSome, is_some}
 use Rattle.std.proofs.Common.{subst, get_or}

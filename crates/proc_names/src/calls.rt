@@ -15,7 +15,7 @@ use crate::reserved::{arguments, declarations, expression, word};
 use std::alloc::Global;
 use ts_syntax::{Args, Block, Proc, ProcScript, Stmt, Word};
 
-/// The names of a whole script.
+/// Checks the names of a whole script.
 pub(crate) fn script(alloc: Global, script: &ProcScript) -> Result<(), ProcFault>
     ensures { NamesPass result (name_fault (procedure_source_of script.now)) }
 {
@@ -28,7 +28,7 @@ pub(crate) fn script(alloc: Global, script: &ProcScript) -> Result<(), ProcFault
     block(&heads, procs.len(), &script.body)
 }
 
-// A procedure, behind those that stand before its place.
+// Checks a procedure, in which those before its place can be called.
 fn procedure(alloc: Global, heads: &Heads, place: usize, proc: &Proc) -> Result<(), ProcFault>
     ensures { NamesPass result (procedure_fault (take place (heads_of heads.now.procs.now)) (procedure_of proc.now)) }
 {
@@ -123,7 +123,7 @@ fn statement(heads: &Heads, count: usize, stmt: &Stmt) -> Result<(), ProcFault>
     }
 }
 
-// A `do`: its procedure's name, and its arguments.
+// Checks a `do`: its procedure's name, and its number of arguments.
 fn call(heads: &Heads, count: usize, name: &Word, args: &Args) -> Result<(), ProcFault>
     ensures { result_err result ≡ call_name_fault (take count (heads_of heads.now.procs.now)) name.now (trees_of args.now) }
 {

@@ -4,16 +4,17 @@ use mate_num::{Name, NoMemory};
 
 /// Why a script with procedures is refused. A place is the offset in bytes of a word's first byte in the source.
 ///
-/// The text comes first, with the first of its faults; then the names, from left to right by place, where at one name
-/// `Reserved` comes before `NoProc` and `Again`, and these before `Params`; and then the size of the expansion, before its depth.
+/// The text comes first, with the first of its faults; then the names, from left to right by place. At one name
+/// `Reserved` comes before `NoProc` and `Again`, and these before `Params`. Then comes the size of the expansion, and
+/// last its depth.
 #[derive(Drop)]
 pub enum ProcFault {
-    /// A byte that begins no token, the 17th byte of a name, or a letter or `_` directly behind a literal.
+    /// A byte that begins no token, the 17th byte of a name, or a letter or `_` directly after a literal.
     BadByte { place: u32 },
     /// A literal over 65535 begins here.
     BigLiteral { place: u32 },
-    /// The tokens before this one begin some script with procedures, and with it they begin none; the text's length
-    /// where the text ends too early.
+    /// The tokens before this one begin some script with procedures, and with it they begin none. If the text ends
+    /// too early, `place` is the text's length.
     Unexpected { place: u32 },
     /// The tokens up to this one begin some script with procedures, and it opens a block inside 32 open ones, or is the
     /// 65th counted token of a part of a statement.
@@ -27,9 +28,9 @@ pub enum ProcFault {
     Again { name: Name, place: u32 },
     /// The name at `place` begins with `_`.
     Reserved { place: u32 },
-    /// The expansion has more than 10,000 statements: so many, counted up to 1,000,000.
+    /// The expansion has more than 10,000 statements: `count`, which stops at 1,000,000.
     TooLarge { count: u32 },
-    /// The blocks of the expansion nest more than 32 deep: so deep.
+    /// The blocks of the expansion nest more than 32 deep: `depth`.
     TooNested { depth: u32 },
     /// Memory was refused.
     NoMemory,

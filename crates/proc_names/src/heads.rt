@@ -21,6 +21,7 @@ impl<'a> Heads<'a> {
     ghost use Rattle.proc_names.specs.Places.{place_of_name, declared_as};
     ghost use Rattle.proc_names.specs.Heads.{heads_of};
 
+    /// The heads of these procedures. `NoMemory` is the only refusal.
     pub fn of(alloc: Global, procs: &'a [Proc]) -> Result<Heads<'a>, NoMemory>
         ensures { IfOk result (λ heads. heads.procs.now ≡ procs.now) }
     {
@@ -28,7 +29,7 @@ impl<'a> Heads<'a> {
         Ok(Heads { procs, places })
     }
 
-    /// The place of the first procedure of a name among the first `count`; None exactly where none of these has it.
+    /// The place of the first procedure of a name among the first `count`; None exactly if none of these has it.
     pub fn place(&self, count: usize, name: &Name) -> Option<usize>
         ensures value { result ≡ place_of_name (take count (map (λ p. p.name.name) self.now.procs.now)) name.now }
         ensures below { IfSome result (λ place. place < count) }
@@ -37,7 +38,7 @@ impl<'a> Heads<'a> {
         self.places.among_first(count, name)
     }
 
-    /// How many parameters the first procedure of a name has, among the first `count`.
+    /// How many parameters the first procedure of a name has, among the first `count`; None exactly if none of these has it.
     pub fn parameters(&self, count: usize, name: &Name) -> Option<usize>
         ensures { result ≡ declared_as (take count (heads_of self.now.procs.now)) name.now }
     {

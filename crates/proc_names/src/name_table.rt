@@ -9,8 +9,8 @@ use std::alloc::Global;
 use std::collections::BTreeMap;
 use ts_syntax::{Proc, Word};
 
-/// The first place of each of some names, counted from 0. It borrows the names, and finds one by the order of their texts: how long
-/// that takes grows with the logarithm of their number, whatever the names are.
+/// The first place of each of some names, counted from 0. It borrows the names, and finds one by the order of their
+/// texts: the time that this takes grows with the logarithm of their number, whatever the names are.
 #[derive(Drop)]
 pub struct NameTable<'a> {
     numbers: BTreeMap<&'a str, usize>,
@@ -53,7 +53,7 @@ impl<'a> NameTable<'a> {
         Ok(table)
     }
 
-    // Adds a name with its place, unless it stands in the table.
+    // Adds a name with its place, unless it is in the table.
     fn add(&mut self, name: &'a Name, place: usize) -> Result<(), NoMemory>
         ensures { OnOk result ((q : List ℕ) → number_of_name self.new q ≡ kept_or (number_of_name self.old q) (bytes_eq q name.now) place) }
     {
@@ -65,14 +65,14 @@ impl<'a> NameTable<'a> {
         Ok(())
     }
 
-    /// The place of a name; None exactly where it isn't one of the names.
+    /// The place of a name; None exactly if it isn't one of the names.
     pub fn get(&self, name: &Name) -> Option<usize>
         ensures { result ≡ number_of_name self.now name.now }
     {
         self.numbers.get(name.as_str()).copied()
     }
 
-    /// The place of a name among the first `count` names.
+    /// The place of a name among the first `count` names; None exactly if it isn't one of them.
     pub fn among_first(&self, count: usize, name: &Name) -> Option<usize>
         ensures { (names : List (List ℕ)) → Tabulates self.now names → result ≡ place_of_name (take count names) name.now }
     {
@@ -80,7 +80,7 @@ impl<'a> NameTable<'a> {
     }
 }
 
-/// A place, where it is below a count.
+/// A place, if it is below a count.
 pub(crate) fn below(count: usize, place: Option<usize>) -> Option<usize>
     ensures { result ≡ place_below count place }
 {

@@ -10,7 +10,7 @@ use crate::fault::ProcFault;
 use std::alloc::Global;
 use ts_syntax::{Decls, PBlock, ProcScript, Procs};
 
-/// A script with procedures. The type keeps that each `do` names a procedure that is declared before it and gives it as
+/// A script with procedures. The type says that each `do` names a procedure that is declared before it and gives it as
 /// many arguments as it has parameters, that no two procedures and no two parameters of one head share a name, that no
 /// name begins with `_`, and that there are fewer than 2^32 parameters.
 pub struct PScript {
@@ -19,7 +19,7 @@ pub struct PScript {
     pub ghost few: { parameter_count (procedure_source_of script).procs < 2 ^ 32 },
 }
 
-/// What is to be dropped of it is dropped in one function, and so by one call wherever a script ends.
+/// All that has to be dropped is dropped in one function, so each place at which a script ends has one call.
 impl Drop for PScript {
     fn drop(self) {
         let PScript { script: _script } = self;
@@ -31,8 +31,8 @@ impl PScript {
     ghost use Rattle.ts_syntax.specs.Seen.{procedure_of, acts_of};
     ghost use Rattle.proc_names.specs.Named.{written_of, IsNamedScript};
 
-    /// The script, if its names pass, and else the first refusal: `NoProc`, `Params`, `Again` or `Reserved`. `NoMemory` may
-    /// come in place of either.
+    /// The script if its names pass, else the first refusal: `NoProc`, `Params`, `Again` or `Reserved`. `NoMemory`
+    /// may come instead of either.
     pub fn new(alloc: Global, script: ProcScript) -> Result<PScript, ProcFault>
         requires { parameter_count (procedure_source_of script).procs < 2 ^ 32 }
         ensures { IsNamedScript (procedure_source_of script) result }

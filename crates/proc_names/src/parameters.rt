@@ -13,7 +13,7 @@ use ts_syntax::Word;
 #[derive(Drop)]
 pub struct Parameters<'a> {
     pub words: &'a [Word],
-    /// Where each stands, unless they are so few that they are gone through one by one.
+    /// The place of each, unless they are so few that a search goes through them.
     places: Option<NameTable<'a>>,
     ghost tabulated: { ForSome places (λ table. Tabulates table (map (λ w. w.name) words.now)) },
 }
@@ -22,9 +22,10 @@ impl<'a> Parameters<'a> {
     ghost use Rattle.std.specs.Prelude.{IfOk, take};
     ghost use Rattle.proc_names.specs.Places.{place_of_name};
 
-    /// How many are gone through one by one at most.
+    /// At most this many are searched one by one.
     const FEW: usize = 8;
 
+    /// The parameters with these names. `NoMemory` is the only refusal.
     pub fn of(alloc: Global, words: &'a [Word]) -> Result<Parameters<'a>, NoMemory>
         ensures { IfOk result (λ parameters. parameters.words.now ≡ words.now) }
     {
@@ -36,7 +37,7 @@ impl<'a> Parameters<'a> {
         Ok(Parameters { words, places })
     }
 
-    /// The place of the first parameter of a name, counted from 0.
+    /// The place of the first parameter of a name, counted from 0; None exactly if there is none.
     pub fn place(&self, name: &Name) -> Option<usize>
         ensures { result ≡ place_of_name (map (λ w. w.name) self.now.words.now) name.now }
     {

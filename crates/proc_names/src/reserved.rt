@@ -19,6 +19,7 @@ fn is_reserved(name: &Name) -> bool
     }
 }
 
+/// `Reserved` if the name begins with `_`.
 pub(crate) fn word(word: &Word) -> Result<(), ProcFault>
     ensures { result_err result ≡ word_fault word.now }
 {
@@ -28,6 +29,7 @@ pub(crate) fn word(word: &Word) -> Result<(), ProcFault>
     Ok(())
 }
 
+/// `Reserved` at the first declared name that begins with `_`.
 pub(crate) fn declarations(decls: &[Decl]) -> Result<(), ProcFault>
     ensures { result_err result ≡ decls_fault decls.now }
 {
@@ -37,6 +39,7 @@ pub(crate) fn declarations(decls: &[Decl]) -> Result<(), ProcFault>
     Ok(())
 }
 
+/// `Reserved` at the first name in the expression that begins with `_`.
 #[cycle(expression)]
 pub(crate) fn expression(expr: &Expr) -> Result<(), ProcFault>
     ensures { result_err result ≡ expr_fault (tree_of expr.now) }
@@ -65,6 +68,7 @@ pub(crate) fn expression(expr: &Expr) -> Result<(), ProcFault>
     }
 }
 
+/// `Reserved` at the first name in the arguments that begins with `_`.
 #[cycle(expression)]
 pub(crate) fn arguments(args: &[Expr]) -> Result<(), ProcFault>
     ensures { result_err result ≡ args_fault (trees_of args.now) }

@@ -1,4 +1,4 @@
--- What stands behind the statements that were written before.
+-- What comes after the statements that were written before.
 use Rattle.std.proofs.Common.{◌≡◌, ℕ, ◌+◌, ◌<◌, ◌≤◌, List, [], ◌∷◌, ◌++◌, length, get_or, drop, ap, sym, ◌∙◌, subst, map, arith, append_assoc}
 use Rattle.std.specs.Prelude.{Result, Ok, Err, OnOk, MatchResult, IsErrAnd}
 use Rattle.std.proofs.lemmas.List.{map-append, append-nil, drop_all}
@@ -8,7 +8,7 @@ use Rattle.ts_syntax.specs.declared.stmt.Stmt.TheVariants.{Set}
 use Rattle.ts_syntax.specs.declared.word.Word.{Word}
 use Rattle.ts_syntax.specs.Seen.{tree_of, trees_of, act_of}
 use Rattle.ts_syntax.specs.Tree.{Act, set}
-use Rattle.ts_syntax.proofs.ListLemmas.{drop_item}
+use Rattle.ts_checked.proofs.ListLemmas.{drop_item}
 use Rattle.ts_syntax.proofs.SeenLemmas.{act_set}
 use Rattle.proc_renaming.specs.Renaming.{Hiding, parameter_name, renamed_expr, renamed_simple, assigned}
 

@@ -1,4 +1,4 @@
-//! What stays as it is.
+//! Copies of what stays as it is.
 
 ghost use Rattle.std.specs.Prelude.{◌≡◌, IfOk};
 
@@ -6,7 +6,7 @@ use mate_num::NoMemory;
 use std::alloc::Global;
 use ts_syntax::{Word, Words};
 
-/// A name that stays.
+/// A copy of a name.
 pub fn same(word: &Word) -> Word
     ensures { result ≡ word.now }
 {
@@ -16,7 +16,7 @@ pub fn same(word: &Word) -> Word
     }
 }
 
-/// The names of a procedure's parameters, which stay.
+/// A copy of the names of a procedure's parameters.
 pub fn same_words(alloc: Global, words: &[Word]) -> Result<Words, NoMemory>
     ensures { IfOk result (λ copy. copy ≡ words.now) }
 {

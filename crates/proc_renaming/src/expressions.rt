@@ -11,7 +11,7 @@ use mate_num::NoMemory;
 use std::alloc::Global;
 use ts_syntax::{Args, Expr, ForHead};
 
-// It becomes a part of `boxed`, so that a node takes one call.
+// The renamed expression is put into `boxed`, so that a node takes one call.
 #[cycle(expression)]
 #[inline(always)]
 pub(crate) fn expression(alloc: Global, hidden: &Hidden, expr: &Expr) -> Result<Expr, NoMemory>
@@ -42,7 +42,7 @@ pub(crate) fn expression(alloc: Global, hidden: &Hidden, expr: &Expr) -> Result<
     }
 }
 
-// A part of an expression. It stays a call of its own: a node is large, and the expressions around it are still being made.
+// A part of an expression. It isn't inlined: a node is large, and the expressions around it are still being made.
 #[cycle(expression)]
 #[inline(never)]
 fn boxed(alloc: Global, hidden: &Hidden, part: &Box<Expr>) -> Result<Box<Expr>, NoMemory>

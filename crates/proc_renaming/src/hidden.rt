@@ -21,6 +21,7 @@ impl<'a> Hidden<'a> {
     ghost use Rattle.proc_renaming.specs.Renaming.{renamed};
     ghost use Rattle.proc_renaming.specs.Hidden.{hiding_of};
 
+    /// The names that these parameters hide; the first parameter has the number `first`. `NoMemory` is the only refusal.
     pub fn of(alloc: Global, first: u32, params: &'a [Word]) -> Result<Hidden<'a>, NoMemory>
         requires { first + length params.now ≤ 2 ^ 32 }
         ensures { IfOk result (λ hidden. hiding_of hidden ≡ record { first = first; params = params.now }) }
@@ -29,7 +30,7 @@ impl<'a> Hidden<'a> {
         Ok(Hidden { first, params })
     }
 
-    /// The name of a variable or a buffer, as it stands in the expansion.
+    /// The name of a variable or a buffer, as it is in the expansion.
     pub(crate) fn word(&self, word: &Word) -> Word
         ensures { result ≡ renamed (hiding_of self.now) word.now }
     {

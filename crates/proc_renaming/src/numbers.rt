@@ -1,4 +1,4 @@
-//! The private variables that parameters are.
+//! The private variables that parameters become.
 
 ghost use Rattle.std.specs.Prelude.{◌≡◌, ◌<◌, ◌++◌, IfOk};
 ghost use Rattle.proc_renaming.specs.Renaming.{parameter_name, parameter_decls};
@@ -9,7 +9,7 @@ use mate_num::{Name, NoMemory};
 use std::alloc::Global;
 use ts_syntax::{Decl, DeclKind, Decls, Word};
 
-/// The name of the variable that the parameter of this number is: `_` and the number.
+/// The name of the variable that the parameter of this number becomes: `_` and the number.
 pub(crate) fn parameter_name(number: u32) -> Name
     ensures { result ≡ parameter_name number }
 {
@@ -23,7 +23,7 @@ pub(crate) fn parameter_name(number: u32) -> Name
     name
 }
 
-/// The same declarations again, and behind them the first `count` parameters.
+/// The declarations, and after them the first `count` parameters as private variables.
 pub fn declarations(alloc: Global, decls: &[Decl], count: u32) -> Result<Decls, NoMemory>
     ensures { IfOk result (λ all. all ≡ decls.now ++ parameter_decls 0 count) }
 {

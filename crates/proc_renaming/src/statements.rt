@@ -1,7 +1,7 @@
-//! Statements with their names renamed: each is appended to those before it. After `NoMemory` some of what was to be appended may
-//! stand there.
+//! Statements with their names renamed: each is appended to those before it. After `NoMemory` some of what was to be
+//! appended may be there.
 //!
-//! None of them is inlined, so that what each keeps on the stack isn't there while blocks inside blocks are expanded.
+//! None of them is inlined, so that their stack frames are gone while blocks inside blocks are expanded.
 
 ghost use Rattle.std.specs.Prelude.{◌≡◌, ◌≤◌, ◌+◌, ◌++◌, ◌∷◌, ◌^◌, [], length, map, OnOk};
 ghost use Rattle.ts_syntax.specs.Seen.{tree_of, trees_of, act_of, acts_of};
@@ -17,7 +17,7 @@ use mate_num::NoMemory;
 use std::alloc::Global;
 use ts_syntax::{Block, Expr, ForHead, Stmt, Word};
 
-/// A statement that has no block and runs no procedure; nothing is appended for any other. The name of a function stays.
+/// Appends a statement that has no block and runs no procedure; appends nothing for any other. The name of a function stays.
 #[inline(never)]
 pub fn simple(
     alloc: Global,
@@ -52,7 +52,7 @@ pub fn simple(
     }
 }
 
-/// An assignment for each argument: the first of them to the variable of this number, and the next ones to those behind it.
+/// Appends an assignment for each argument: the first one to the variable of this number, the others to those after it.
 pub fn assignments(
     alloc: Global,
     hidden: &Hidden,
@@ -73,7 +73,7 @@ pub fn assignments(
     Ok(())
 }
 
-/// An `if` without `else`; its block stands as it is given.
+/// Appends an `if` without `else`; its block is taken as it is given.
 #[inline(never)]
 pub fn if_then(
     alloc: Global,
@@ -82,13 +82,14 @@ pub fn if_then(
     body: Block,
     written: &mut Block,
 ) -> Result<(), NoMemory>
-    ensures { OnOk result (map act_of written.new ≡ map act_of written.old ++ if_then_act (renamed_expr (hiding_of hidden.now) (tree_of test.now)) (acts_of body) ∷ []) }
+    ensures { OnOk result (map act_of written.new ≡ map act_of written.old
+        ++ if_then_act (renamed_expr (hiding_of hidden.now) (tree_of test.now)) (acts_of body) ∷ []) }
 {
     let test = expression(alloc, hidden, test)?;
     written.push(Stmt::If(test, body, None))
 }
 
-/// An `if` with `else`; its blocks stand as they are given.
+/// Appends an `if` with `else`; its blocks are taken as they are given.
 #[inline(never)]
 pub fn if_else(
     alloc: Global,
@@ -98,13 +99,14 @@ pub fn if_else(
     other: Block,
     written: &mut Block,
 ) -> Result<(), NoMemory>
-    ensures { OnOk result (map act_of written.new ≡ map act_of written.old ++ if_else_act (renamed_expr (hiding_of hidden.now) (tree_of test.now)) (acts_of body) (acts_of other) ∷ []) }
+    ensures { OnOk result (map act_of written.new ≡ map act_of written.old
+        ++ if_else_act (renamed_expr (hiding_of hidden.now) (tree_of test.now)) (acts_of body) (acts_of other) ∷ []) }
 {
     let test = expression(alloc, hidden, test)?;
     written.push(Stmt::If(test, body, Some(other)))
 }
 
-/// A `for`; its block stands as it is given.
+/// Appends a `for`; its block is taken as it is given.
 #[inline(never)]
 pub fn for_next(
     alloc: Global,
@@ -115,7 +117,8 @@ pub fn for_next(
     written: &mut Block,
 ) -> Result<(), NoMemory>
     ensures { let h = hiding_of hidden.now in
-        let new = for_next_act (renamed h head.now.var) (renamed_expr h (tree_of head.now.from)) (renamed_expr h (tree_of head.now.to)) head.now.step (acts_of body) (renamed h next.now) in
+        let new = for_next_act (renamed h head.now.var) (renamed_expr h (tree_of head.now.from)) (renamed_expr h (tree_of head.now.to))
+        head.now.step (acts_of body) (renamed h next.now) in
         OnOk result (map act_of written.new ≡ map act_of written.old ++ new ∷ []) }
 {
     let head = for_head(alloc, hidden, head)?;
@@ -123,7 +126,7 @@ pub fn for_next(
     written.push(Stmt::For(head, body, next))
 }
 
-/// A `while`; its block stands as it is given.
+/// Appends a `while`; its block is taken as it is given.
 #[inline(never)]
 pub fn while_do(
     alloc: Global,
@@ -132,13 +135,14 @@ pub fn while_do(
     body: Block,
     written: &mut Block,
 ) -> Result<(), NoMemory>
-    ensures { OnOk result (map act_of written.new ≡ map act_of written.old ++ while_do_act (renamed_expr (hiding_of hidden.now) (tree_of test.now)) (acts_of body) ∷ []) }
+    ensures { OnOk result (map act_of written.new ≡ map act_of written.old
+        ++ while_do_act (renamed_expr (hiding_of hidden.now) (tree_of test.now)) (acts_of body) ∷ []) }
 {
     let test = expression(alloc, hidden, test)?;
     written.push(Stmt::While(test, body))
 }
 
-/// A `do` of a procedure, whose name stays.
+/// Appends a `do` of a procedure, whose name stays.
 #[inline(never)]
 pub fn run(
     alloc: Global,
@@ -147,7 +151,8 @@ pub fn run(
     args: &[Expr],
     written: &mut Block,
 ) -> Result<(), NoMemory>
-    ensures { OnOk result (map act_of written.new ≡ map act_of written.old ++ run_procedure name.now (renamed_args (hiding_of hidden.now) (trees_of args.now)) ∷ []) }
+    ensures { OnOk result (map act_of written.new ≡ map act_of written.old
+        ++ run_procedure name.now (renamed_args (hiding_of hidden.now) (trees_of args.now)) ∷ []) }
 {
     let args = arguments(alloc, hidden, args)?;
     written.push(Stmt::Run(same(name), args))

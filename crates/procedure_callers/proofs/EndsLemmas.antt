@@ -1,4 +1,4 @@
--- How the runs with frames tell the end of the expansion.
+-- How the runs with frames give the end of the expansion.
 use Rattle.std.proofs.Common.{ap, ◌∙◌}
 use Rattle.mate_num.specs.declared.call.End.{End}
 use Rattle.mate_num.specs.declared.outcome.Outcome.{Outcome}

@@ -2,7 +2,7 @@
 use Rattle.std.specs.Prelude.{ℕ, zero, suc, List, [], ◌∷◌, codes, true}
 use Rattle.ts_syntax.specs.Seen.{acts, trees}
 use Rattle.ts_syntax.specs.Tree.{Tree, number, variable, two, Act, set, while_do, run_procedure, Procedure, ProcedureSource}
-use Rattle.ts_syntax.specs.declared.bin_op.BinOp.TheVariants.{Div}
+use Rattle.ts_checked.specs.declared.bin_op.BinOp.TheVariants.{Div}
 use Rattle.ts_syntax.specs.declared.script.Decl.{Decl}
 use Rattle.ts_syntax.specs.declared.script.DeclKind.TheVariants.{Private}
 use Rattle.ts_syntax.specs.declared.word.Word.{Word}

@@ -1,4 +1,4 @@
-//! Scripts that exclude wrong runs with frames. Each is one whose end tells what stands in a frame, and by `frame_law` its
+//! Scripts that exclude wrong runs with frames. The end of each shows what is in a frame, and by `frame_law` its
 //! expansion has that end.
 
 ghost use Rattle.std.specs.Prelude.{◌≡◌};

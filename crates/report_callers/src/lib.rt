@@ -3,5 +3,6 @@
 
 pub mod command_lines;
 pub mod lines;
+pub mod logs;
 pub mod reading;
 pub mod texts;

@@ -49,7 +49,7 @@ pub fn times_do_not_fall() -> bool
     admits_next(&Some(place_at(70)), &line, &bulk)
 }
 
-/// A packet that is lost to node 5 is of a run with more than five nodes.
+/// A packet that is lost on its way to node 5 is of a run with more than five nodes.
 pub fn a_receiver_is_one_of_the_nodes(alloc: Global, desc: &Description) -> Result<bool, TextFault>
     ensures { IfOk result (λ fits. fits ≡ false) }
 {

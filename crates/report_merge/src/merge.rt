@@ -40,7 +40,7 @@ pub(crate) fn records<S: Sink>(
     }
 }
 
-/// The lines of what happened on the air in an event. It answers the position after them.
+/// The lines of what happened on the air in an event. Returns the position after them.
 fn air_of_event<S: Sink>(
     pen: &mut Pen,
     out: &mut S,
@@ -66,7 +66,7 @@ fn air_of_event<S: Sink>(
     next
 }
 
-/// The lines of a log's entries in an event. It answers the position after them.
+/// The lines of a log's entries in an event. Returns the position after them.
 fn log_of_event<S: Sink>(
     pen: &mut Pen,
     out: &mut S,
@@ -117,7 +117,7 @@ fn logs_of_event<S: Sink>(
     }
 }
 
-/// The first event with a record that is left; None where no record is left.
+/// The first event with a record that is left; None if no record is left.
 fn next_event(report: &Report, air: usize, cursors: &[usize]) -> Option<u64>
     requires same { length cursors.now ≡ length report.now.nodes }
     requires ordered { IsOrdered report.now }
@@ -131,7 +131,7 @@ fn next_event(report: &Report, air: usize, cursors: &[usize]) -> Option<u64>
     next
 }
 
-/// The event of what happened on the air at a position; None from the end on.
+/// The event of what happened on the air at a position; None at the end.
 fn air_head(air: &[Aired], position: usize) -> Option<u64>
     ensures { result ≡ option_map air_event (slice_get air.now position) }
 {
@@ -141,7 +141,7 @@ fn air_head(air: &[Aired], position: usize) -> Option<u64>
     }
 }
 
-/// The event of the entry at a position; None from the end on.
+/// The event of the entry at a position; None at the end.
 fn log_head(log: &NodeLog, position: usize) -> Option<u64>
     ensures { result ≡ option_map entry_event (slice_get log.now.entries position) }
 {
@@ -151,7 +151,7 @@ fn log_head(log: &NodeLog, position: usize) -> Option<u64>
     }
 }
 
-/// The lesser of two numbers, where there are two.
+/// The lesser of two numbers, or the one that there is.
 fn lesser(a: Option<u64>, b: Option<u64>) -> Option<u64>
     ensures { result ≡ lesser a b }
 {

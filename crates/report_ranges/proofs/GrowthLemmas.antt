@@ -1,4 +1,4 @@
--- A log that goes on stays in the ranges of its types, where what is told more is.
+-- A log that goes on stays in the ranges of its types, if what is added is in them.
 use Rattle.std.proofs.Common.{◌≡◌, ◌≤◌, ◌+◌, ◌-◌, ℕ, zero, suc, List, [], ◌∷◌, ◌++◌, length, map, drop, refl, sym, ◌∙◌, ap, subst, arith}
 use Rattle.std.specs.Prelude.{All}
 use Rattle.std.specs.List.{AllWithin}

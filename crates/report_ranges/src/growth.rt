@@ -1,4 +1,5 @@
-//! What stands in a log, or in a record of the air, behind a place in it. Each function reads what it is given, and changes nothing.
+//! What is in a log, or in a record of the air, after a place in it. Each function is a law about what it is given:
+//! it reads it, and changes nothing.
 
 ghost use Rattle.std.specs.Prelude.{◌≡◌, length, drop, All};
 ghost use Rattle.mate_journal.specs.Ranges.{HasStampedRanges, HasAiredRanges};
@@ -30,7 +31,7 @@ impl LogSize {
     }
 }
 
-/// What stands in the log behind so much of it is in the ranges of its types.
+/// What is in the log after its first `size` items is in the ranges of its types.
 pub fn log_is_in_range_from(log: &NodeLog, size: LogSize)
     ensures { IsInRangeFrom size log.now }
 {
@@ -39,7 +40,7 @@ pub fn log_is_in_range_from(log: &NodeLog, size: LogSize)
     stores_are_in_range(log.stores(), size.stores);
 }
 
-/// What happened on the air behind so many records is in the ranges of its types.
+/// What is on the air after the first `count` records is in the ranges of its types.
 pub fn air_is_in_range_from(air: &[Aired], count: usize)
     ensures { All HasAiredRanges (drop count air.now) }
 {

@@ -1,4 +1,4 @@
-//! The numbers of a report are in the ranges of their types.
+//! The law that the numbers of a report are in the ranges of their types.
 #![tactic(auto)]
 
 pub mod growth;

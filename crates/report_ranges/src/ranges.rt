@@ -1,4 +1,5 @@
-//! The numbers of a report are in the ranges of their types. Each function reads what it is given, and changes nothing.
+//! The law that the numbers of a report are in the ranges of their types, part by part. Each function reads what it
+//! is given, and changes nothing.
 
 ghost use Rattle.std.specs.Prelude.{ℤ, All, FitsSigned, drop};
 ghost use Rattle.std.specs.Int.{w16};
@@ -122,7 +123,7 @@ fn bytes_are_in_range(bytes: &[u8])
     let _bytes = bytes;
 }
 
-/// Those behind the first `from`.
+/// The same of the images after the first `from`.
 pub(crate) fn images_are_in_range(images: &Images, from: usize)
     ensures { All HasImageRanges (drop from images.now.items) }
 {
@@ -140,7 +141,7 @@ fn image_is_in_range(image: &ImageRef)
     bytes_are_in_range(image.as_slice());
 }
 
-/// Those behind the first `from`.
+/// The same of the stores after the first `from`.
 pub(crate) fn stores_are_in_range(stores: &Stores, from: usize)
     ensures { All HasStoreRanges (drop from stores.now.items) }
 {

@@ -27,7 +27,7 @@ pub struct RunTally {
 }
 
 impl RunTally {
-    /// That of a run on so many nodes, for so many handlers, before anything happened.
+    /// The counts of a run on `nodes` nodes with `handlers` handlers, before anything happened. `NoMemory` is the only refusal.
     pub fn new(alloc: Global, nodes: u8, handlers: usize) -> Result<RunTally, NoMemory>
         ensures { IfOk result (IsNewTally handlers nodes) }
     {
@@ -41,7 +41,7 @@ impl RunTally {
         })
     }
 
-    /// The summary of the run, of so many events. It takes no memory.
+    /// The summary of the run after `events` events. It takes no memory.
     pub fn summary(self, events: u64, whole: bool) -> Summary
         ensures { result ≡ record { nodes = self.nodes; air = self.air; events = events; whole = whole } }
     {
@@ -65,7 +65,7 @@ pub struct Summary {
 }
 
 impl Summary {
-    /// That of a run of so many events on one node, with nothing on the air.
+    /// The summary of a run of `events` events on one node, with nothing on the air.
     pub fn of_node(
         alloc: Global,
         tally: LogTally,
@@ -85,8 +85,8 @@ impl Summary {
     }
 
     /// Writes the summary: how many nodes, events and records there are, and how many records of each counted kind; per handler
-    /// the greatest version that was installed and the number of nodes that have it last, both 0 where nothing was installed; and
-    /// at last `end`, or `full` where the run is not whole.
+    /// the greatest version that was installed and the number of nodes that have it last, both 0 if nothing was installed; and
+    /// at last `end`, or `full` if the run is not whole.
     ///
     /// A fault is the sink's, which then holds a prefix of the summary. It takes no memory.
     pub fn write<S: Sink>(&self, desc: &Description, out: &mut S) -> Result<(), SinkFault>
@@ -201,7 +201,7 @@ fn greater(a: u32, b: u32) -> u32
     a.max(b)
 }
 
-/// How many nodes have a version of a handler as their last one; 0 where there is none.
+/// How many nodes have a version of a handler as their last one; 0 if there is none.
 fn holders(nodes: &[LogTally], handler: HandlerId, version: u32) -> u64
     ensures { result ≡ (if version == 0 then 0 else count_by (λ t. (versions_at handler.0 t.versions.items).last == version) nodes.now) }
 {

@@ -26,7 +26,7 @@ pub struct EntryCounts {
 }
 
 impl EntryCounts {
-    /// How many are of a kind.
+    /// How many entries are of a kind.
     pub fn of(&self, kind: EntryKind) -> u64
         ensures { result ≡ entries_counted kind self.now }
     {
@@ -72,7 +72,7 @@ pub struct LogTally {
 }
 
 impl LogTally {
-    /// That of an empty log, for so many handlers.
+    /// The counts of an empty log, for `handlers` handlers. `NoMemory` is the only refusal.
     pub fn new(alloc: Global, handlers: usize) -> Result<LogTally, NoMemory>
         ensures { IfOk result (λ tally. IsLogTally handlers tally []) }
     {
@@ -93,7 +93,7 @@ impl LogTally {
         })
     }
 
-    /// Counts entries behind those that were counted.
+    /// Counts entries that come after those that were counted.
     pub fn add_all(&mut self, entries: &[Stamped])
         requires { IsUpTo (2 ^ 63) self.old }
         ensures tallies { (handlers : ℕ) (front : List StampedEntry) → IsLogTally handlers self.old front
@@ -133,7 +133,7 @@ struct Installed {
     version: u32,
 }
 
-/// What an entry installs.
+/// What an entry installs, if it does.
 fn install_of(entry: &Entry) -> Option<Installed>
     ensures { result ≡ install_told entry.now }
 {
@@ -150,7 +150,7 @@ fn install_of(entry: &Entry) -> Option<Installed>
     }
 }
 
-/// Tells what the entry installs.
+/// Records what the entry installs.
 fn note(versions: &mut Vec<Versions>, entry: &Entry)
     ensures { Notes versions.old.items versions.new.items entry.now }
 {
@@ -160,7 +160,7 @@ fn note(versions: &mut Vec<Versions>, entry: &Entry)
     }
 }
 
-/// Tells that a version is installed for a handler, where the machine has it.
+/// Records that a version is installed for a handler, if the machine has it.
 fn install(versions: &mut Vec<Versions>, installed: Installed)
     ensures { InstallsVersion versions.old.items versions.new.items installed.handler.0 installed.version }
 {
@@ -171,7 +171,7 @@ fn install(versions: &mut Vec<Versions>, installed: Installed)
     }
 }
 
-/// The versions with one more.
+/// The versions after one more install.
 fn newer(before: Versions, version: u32) -> Versions
     ensures { result ≡ with_version before version }
 {
@@ -191,7 +191,7 @@ pub struct AirTally {
 }
 
 impl AirTally {
-    /// That of no records.
+    /// The counts of no records.
     pub fn new() -> AirTally
         ensures { IsAirTally result [] }
     {
@@ -203,7 +203,7 @@ impl AirTally {
         }
     }
 
-    /// Counts records behind those that were counted.
+    /// Counts records that come after those that were counted.
     pub fn add_all(&mut self, air: &[Aired])
         requires { IsAirTallyUpTo (2 ^ 63) self.old }
         ensures tallies { (front : List AirRecord) → IsAirTally self.old front → IsAirTally self.new (front ++ air.now) }

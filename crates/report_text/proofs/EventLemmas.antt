@@ -1,4 +1,4 @@
--- Lists whose items have an event number each, and what stands in one event.
+-- Lists whose items have an event number each, and what is in one event.
 use Rattle.std.proofs.Common.{◌≡◌, ◌≢◌, ℕ, zero, suc, ◌+◌, ◌<◌, ◌≤◌, max, Bool, false, cond, List, ◌++◌, ◌∷◌, [], length, replicate, take, drop, get_or, map, refl, ap, sym, ◌∙◌, subst, arith, inl, inr, min}
 use Rattle.std.specs.Prelude.{flat_map, fold, ◌==◌, All}
 use Rattle.std.proofs.Common.{append-nil, length-drop, ◌-◌, take-append-drop, drop-cons, add-one}

@@ -7,9 +7,9 @@ use Rattle.vm_desc.specs.declared.description.Description.{Description}
 use Rattle.mate_journal.specs.Log.{Log}
 use Rattle.mate_journal.specs.Machine.{Machine, Meaning}
 use Rattle.mate_journal.specs.Described.{machine_of}
-use Rattle.mate_journal.specs.Journal.{TimedEntry, NodeState, journal_of, journal_entry, first_state, state_after_all}
+use Rattle.mate_journal.specs.Journal.{JournalEntry, TimedEntry, NodeState, journal_of, journal_entry, first_state, state_after_entries}
 use Rattle.mate_journal.specs.Pace.{Pace, no_pace}
-use Rattle.mate_journal.specs.NodeScript.{Step, RunEnd, Whole, Full, Cut, AreOfEvent, HaveMade, EndsRun, IsRunOf}
+use Rattle.mate_journal.specs.NodeScript.{Step, RunEnd, Whole, Full, Cut, made_at, HaveMade, EndsRun, IsRunOf}
 use Rattle.mate_journal.specs.NodeReport.{IsNodeReport}
 use Rattle.mate_journal.specs.Tidy.{store_named, EventsRise, IsTidyLog, HasFullImages}
 use Rattle.mate_journal.specs.declared.air.Aired.{Aired}
@@ -24,9 +24,9 @@ use Rattle.report_text.proofs.EventLemmas.{All-of_map}
 abbrev AreAtZero : List TimedEntry → Type 0
 AreAtZero es = All (λ (e : TimedEntry). e.stamp.time ≡ 0) es
 
-of_event-zero : (n : ℕ) (es : List TimedEntry) → AreOfEvent n es → AreAtZero es
-of_event-zero n es all =
-    All-weaker (λ (e : TimedEntry). e.stamp ≡ record { event = n; time = 0 }) (λ (e : TimedEntry). e.stamp.time ≡ 0) (λ e is. ap (λ (s : Stamp). s.time) is) es all
+at-zero : (n : ℕ) (told : List JournalEntry) → AreAtZero (map (made_at n) told)
+at-zero n [] = All-nil (λ (e : TimedEntry). e.stamp.time ≡ 0)
+at-zero n (t ∷ ts) = All-cons (λ (e : TimedEntry). e.stamp.time ≡ 0) (made_at n t) (map (made_at n) ts) refl (at-zero n ts)
 
 none-zero : (es : List TimedEntry) → es ≡ [] → AreAtZero es
 none-zero es none = All-same (λ (e : TimedEntry). e.stamp.time ≡ 0) es [] none (All-nil (λ (e : TimedEntry). e.stamp.time ≡ 0))
@@ -34,21 +34,16 @@ none-zero es none = All-same (λ (e : TimedEntry). e.stamp.time ≡ 0) es [] non
 parts-zero : (es front rest : List TimedEntry) → es ≡ front ++ rest → AreAtZero front → AreAtZero rest → AreAtZero es
 parts-zero es front rest is a b = All-same (λ (e : TimedEntry). e.stamp.time ≡ 0) es (front ++ rest) is (All-append (λ (e : TimedEntry). e.stamp.time ≡ 0) front rest a b)
 
-made-zero : (m : Machine) (records n : ℕ) (r : NodeState) (p : Pace) (steps : List Step) (es : List TimedEntry) (q : Pace) → HaveMade m records n r p steps es q → AreAtZero es
-made-zero m records n r p [] es q made = none-zero es made.0
-made-zero m records n r p (step ∷ steps) es q made =
-    parts-zero es made.1 made.2 made.4 (of_event-zero n made.1 made.5)
-    (made-zero m (records + length made.1) (suc n) (state_after_all m r made.1) made.3 steps made.2 q made.7)
-
-ends-zero : (m : Machine) (how : RunEnd) (records n : ℕ) (r : NodeState) (p : Pace) (left : List Step) (es : List TimedEntry) → EndsRun m how records n r p left es → AreAtZero es
-ends-zero m Whole records n r p left es ends = of_event-zero n es ends.2
-ends-zero m Full records n r p left es ends = none-zero es ends.2
-ends-zero m Cut records n r p left es ends = none-zero es ends
+made-zero : (m : Machine) (how : RunEnd) (left : List Step) (records n : ℕ) (r : NodeState) (p : Pace) (steps : List Step) (es : List TimedEntry) → HaveMade (EndsRun m how left) m records n r p steps es → AreAtZero es
+made-zero m Whole left records n r p [] es (none, told, shows, is) = All-same (λ (e : TimedEntry). e.stamp.time ≡ 0) es (map (made_at n) told) is (at-zero n told)
+made-zero m Full left records n r p [] es made = none-zero es made.2
+made-zero m Cut left records n r p [] es made = none-zero es made
+made-zero m how left records n r p (step ∷ steps) es (few, told, rest, then, is, makes, later) =
+    parts-zero es (map (made_at n) told) rest is (at-zero n told)
+    (made-zero m how left (records + length told) (suc n) (state_after_entries m r told) then steps rest later)
 
 run-zero : (m : Machine) (how : RunEnd) (steps : List Step) (es : List TimedEntry) → IsRunOf m how steps es → AreAtZero es
-run-zero m how steps es run =
-    parts-zero es run.front run.last run.events_are (made-zero m 0 1 (first_state m) no_pace run.done run.front run.pace run.made)
-    (ends-zero m how (length run.front) (suc (length run.done)) (state_after_all m (first_state m) run.front) run.pace run.left run.last run.ends)
+run-zero m how steps es run = made-zero m how run.left 0 1 (first_state m) no_pace run.done es run.made
 
 -- ---- one node
 

@@ -90,7 +90,7 @@ impl<const ROOM: usize> Chunk<ROOM> {
         self.start = write_digits(number, &mut self.bytes, self.start);
     }
 
-    /// Adds the digits of a value in front, and before them a `-` where it is negative.
+    /// Adds the digits of a value in front, and before them a `-` if it is negative.
     pub fn value(&mut self, value: i16)
         requires { length self.old + 6 ≤ ROOM }
         ensures adds { IsInFront self.old self.new (signed_decimal value) }

@@ -202,7 +202,7 @@ fn seen_line<S: Sink>(
     }
 }
 
-/// The bytes that a line which shows a store takes at most.
+/// The most bytes that a line which shows a store takes.
 fn store_room(desc: &Description) -> usize
     ensures value { result ≡ 24 * length desc.now.shared.items + 89 * length desc.now.buffers.items + 41 }
     ensures most { result ≤ 1137 }
@@ -229,7 +229,7 @@ fn small_seen_line<S: Sink>(
     print_line(pen, out, &mut line, stamp, node);
 }
 
-/// The same where a store is large. It stands for itself, so that only such a line has its room on the stack.
+/// The same for a large store. It isn't inlined, so that only such a line has its room on the stack.
 #[inline(never)]
 fn large_seen_line<S: Sink>(
     pen: &mut Pen,
@@ -280,7 +280,7 @@ fn shown_in_front<const ROOM: usize>(
     }
 }
 
-/// The name of a handler, and no bytes where the description has no such handler.
+/// The name of a handler, or no bytes if the description has no such handler.
 pub fn handler_name(desc: &Description, handler: HandlerId) -> &[u8]
     ensures value { result.now ≡ handler_name desc.now handler }
     ensures fits { length result.now ≤ 16 }
@@ -291,7 +291,7 @@ pub fn handler_name(desc: &Description, handler: HandlerId) -> &[u8]
     }
 }
 
-/// The name of a function, and no bytes where the description has no such function.
+/// The name of a function, or no bytes if the description has no such function.
 fn function_name(desc: &Description, fun: FunId) -> &[u8]
     ensures value { result.now ≡ function_name desc.now fun }
     ensures fits { length result.now ≤ 16 }
@@ -302,7 +302,7 @@ fn function_name(desc: &Description, fun: FunId) -> &[u8]
     }
 }
 
-/// The bytes of an image of the log, and no bytes where the log has no such image.
+/// The bytes of an image of the log, or no bytes if the log has no such image.
 fn image_at(log: &NodeLog, image: u32) -> &[u8]
     ensures { result.now ≡ image_text (slice_get log.now.images image) }
 {

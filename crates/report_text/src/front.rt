@@ -1,4 +1,4 @@
-//! The words of a line, each put after a space in front of what stands there.
+//! The words of a line, each put after a space in front of what is there.
 
 ghost use Rattle.std.specs.Prelude.{◌≡◌, ◌+◌, ◌*◌, ◌≤◌, ◌++◌, length};
 ghost use Rattle.mate_files.specs.Pen.{Prints};
@@ -9,7 +9,7 @@ use crate::chunk::Chunk;
 use mate_files::{Pen, Sink};
 use mate_num::Stamp;
 
-/// Room for each line but those that show an image or a large store.
+/// Room for each line except those that show an image or a large store, in bytes.
 pub const LINE: usize = 192;
 
 /// A space and a number.
@@ -85,7 +85,7 @@ pub fn stamp_in_front<const ROOM: usize>(chunk: &mut Chunk<ROOM>, stamp: Stamp, 
     chunk.number(stamp.event);
 }
 
-/// Prints the line that has the stamp in front of what stands in the chunk.
+/// Prints the line that has the stamp in front of what is in the chunk.
 pub fn print_line<S: Sink, const ROOM: usize>(
     pen: &mut Pen,
     out: &mut S,

@@ -1,4 +1,4 @@
-//! The laws of reports. Each is what a function promises that does nothing.
+//! The laws of reports. Each is the contract of a function that does nothing.
 
 ghost use Rattle.std.specs.Prelude.{List};
 ghost use Rattle.vm_desc.specs.declared.description.Description.{Description};

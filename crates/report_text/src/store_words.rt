@@ -1,4 +1,4 @@
-//! The words of a store, each put after a space in front of what stands there.
+//! The words of a store, each put after a space in front of what is there.
 
 ghost use Rattle.std.specs.Prelude.{◌+◌, ◌*◌, ◌≤◌, flat_map, length};
 ghost use Rattle.std.specs.List.{zip};
@@ -11,7 +11,8 @@ use mate_journal::StoreRef;
 use mate_num::Name;
 use vm_desc::Description;
 
-/// Room for each line that shows a store: 24 bytes a shared variable, 89 a buffer, and 41.
+/// Room for each line that shows a store, in bytes: 24 for each shared variable, 89 for each buffer, and 41, which are at most
+/// 1,137; rounded up to a multiple of 8.
 pub const STORE_LINE: usize = 1144;
 
 /// `NAME=V` per shared variable, and then `NAME=[V V]` per buffer.

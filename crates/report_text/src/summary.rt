@@ -37,7 +37,7 @@ pub enum AirKind {
 
 /// Writes the summary of a tidy report: how many nodes, events and records it has, and how many records of each
 /// counted kind; per handler the greatest version that was installed and the number of nodes that have it last, both
-/// 0 where nothing was installed; and at last `end`, or `full` where the run is not whole.
+/// 0 if nothing was installed; and at last `end`, or `full` if the run is not whole.
 ///
 /// A fault is the sink's, which then holds a prefix of the summary. It takes no memory.
 pub fn brief<S: Sink>(desc: &Description, report: &Report, out: &mut S) -> Result<(), SinkFault>
@@ -112,12 +112,12 @@ fn newest_line<S: Sink>(
 #[derive(Clone, Copy)]
 struct NewestVersion {
     version: u32,
-    // How many nodes have it as their last one, also where it is 0.
+    // How many nodes have it as their last one; this counts also if it is 0.
     holders: u64,
 }
 
 impl NewestVersion {
-    /// How many nodes have it as their last one; 0 where there is none.
+    /// How many nodes have it as their last one; 0 if there is none.
     fn held_by(&self) -> u64
         ensures { result ≡ (if self.now.version == 0 then 0 else self.now.holders) }
     {
@@ -139,7 +139,7 @@ fn newest(logs: &[NodeLog], handler: HandlerId) -> NewestVersion
     NewestVersion { version, holders }
 }
 
-/// How many nodes have the newest version as their last one, with a log more.
+/// How many nodes have the newest version as their last one, with one log more.
 fn holders_after(version: u32, holders: u64, versions: Versions) -> u64
     requires { holders < 2 ^ 63 }
     ensures value { result ≡ holders_after version holders versions.newest versions.last }
@@ -178,7 +178,7 @@ fn versions_in(log: &NodeLog, handler: HandlerId, mut newest: u32) -> Versions
     Versions { newest, last }
 }
 
-/// The version that an entry installs for a handler.
+/// The version that an entry installs for a handler, if it does.
 fn installed(entry: &Entry, handler: HandlerId) -> Option<u32>
     ensures { result ≡ installed handler.0 entry.now }
 {

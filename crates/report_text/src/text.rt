@@ -26,6 +26,7 @@ fn count_entries(logs: &[NodeLog]) -> u64
     count
 }
 
+/// How many records the report has: of all logs, and of the air.
 pub fn count_records(report: &Report) -> u64
     requires { length report.now.nodes ≤ 64 }
     ensures { result ≡ records report.now }
@@ -60,6 +61,7 @@ fn air_lines<S: Sink>(pen: &mut Pen, out: &mut S, air: &[Aired])
     }
 }
 
+/// The word of the last line: `end`, or `full` if the run is not whole.
 pub fn end_word(whole: bool) -> &'static str
     ensures { result.now ≡ end_word whole }
 {
@@ -87,8 +89,8 @@ pub fn end_line<S: Sink>(
 
 /// Writes the lines of what happened on the air, and then those of a log's entries from position `from`.
 ///
-/// A part that the description or the log does not have is spelled by no bytes. Where a run's report is written
-/// piece by piece, each piece goes behind the lines so far, and `write_end` makes a text of them (`makes_up`).
+/// A part that the description or the log doesn't have is written as no bytes. If a run's report is written piece by
+/// piece, each piece goes after the lines so far, and `write_end` makes a text of them (`makes_up`).
 pub fn write_event<S: Sink>(
     desc: &Description,
     air: &[Aired],
@@ -109,7 +111,7 @@ pub fn write_event<S: Sink>(
     pen.finish()
 }
 
-/// Writes the last line of a report: `end`, or `full` where the run is not whole, and the numbers of records, events
+/// Writes the last line of a report: `end`, or `full` if the run is not whole, and the numbers of records, events
 /// and nodes.
 pub fn write_end<S: Sink>(
     records: u64,

@@ -49,7 +49,7 @@ pub fn fault_word(kind: FaultKind) -> &'static str
     }
 }
 
-/// An image in hexadecimal digits; `-` stands for one without bytes.
+/// An image in hexadecimal digits; `-` is one without bytes.
 pub fn image_word<S: Sink>(pen: &mut Pen, out: &mut S, image: &[u8])
     ensures { Prints (S.written out.old) (S.faults out.old) pen.old.result (S.written out.new) (S.faults out.new) pen.new.result
         (image_word image.now) }

@@ -5,7 +5,8 @@ use crate::texts::bytes_of;
 use cases_commands::{Ended, Setting, run, unread};
 use std::alloc::{AllocError, Global};
 
-/// The status of a case, and what was written and told; a case that can't be read has an answer of its own.
+/// The status of a case, and what was written to standard output and standard error; a case that can't be read has an
+/// answer of its own.
 pub fn answer(alloc: Global, machines: &Machines, case: &str) -> Result<String, AllocError> {
     let parts: Vec<&str> = case.split(" | ").collect(alloc)?;
     let [words, parts @ ..] = parts.as_slice() else {
@@ -20,7 +21,7 @@ pub fn answer(alloc: Global, machines: &Machines, case: &str) -> Result<String, 
     }
 }
 
-/// What comes of it that each write to standard output fails in turn.
+/// What happens if each write to standard output fails in turn.
 fn each_write(
     alloc: Global,
     machines: &Machines,
@@ -41,7 +42,7 @@ fn each_write(
     "another answer\n".to_string(alloc)
 }
 
-/// Runs the words; the `failing`th write to standard output fails, or none at 0.
+/// Runs the words; write number `failing` to standard output fails, or none if that is 0.
 fn outcome(
     alloc: Global,
     machines: &Machines,
@@ -62,7 +63,8 @@ fn outcome(
     run(alloc, &mut setting, words)
 }
 
-/// Takes a part of a case: a file, as a text or as bytes, the expansion of one, or a call that is to fail. False where it is none of these.
+/// Takes a part of a case: a file, as a text or as bytes, the expansion of one, or a call that is to fail. False if
+/// it is none of these.
 fn set(alloc: Global, setting: &mut Setting, part: &str) -> Result<bool, AllocError> {
     if let Some(call) = part.strip_prefix("fail ") {
         return Ok(fail(setting, call));
@@ -85,7 +87,7 @@ fn add_file(alloc: Global, setting: &mut Setting, file: &str) -> Result<bool, Al
     Ok(add(setting, name, bytes.as_slice()))
 }
 
-/// Adds what `expand` writes of such a file in its place.
+/// Adds what `expand` writes for such a file under its name.
 fn add_expanded(alloc: Global, setting: &mut Setting, file: &str) -> Result<bool, AllocError> {
     let Some((name, _)) = file.split_once('=') else {
         return Ok(false);

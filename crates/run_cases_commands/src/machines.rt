@@ -1,4 +1,4 @@
-//! The descriptions that are handed in with each case.
+//! The descriptions that are given to each case.
 
 /// Texts of descriptions.
 #[derive(Drop)]

@@ -17,7 +17,7 @@ pub fn bytes_of(alloc: Global, text: &str) -> Result<Vec<u8>, AllocError> {
     Ok(bytes)
 }
 
-/// Appends a piece that begins with the number of times that it stands there.
+/// Appends a piece that begins with the number of times that it is there.
 fn push_repeated(bytes: &mut Vec<u8>, piece: &str) -> Result<(), AllocError> {
     let Some((count, piece)) = piece.split_once(' ') else {
         return Ok(());
@@ -49,7 +49,7 @@ fn push_byte(bytes: &mut Vec<u8>, byte: u8) -> Result<(), AllocError> {
     bytes.extend_from_slice(&[byte])
 }
 
-/// The byte that a letter behind a backslash stands for.
+/// The byte of a letter after a backslash.
 fn unescaped(letter: u8) -> u8 {
     match letter {
         b'n' => b'\n',

@@ -1,4 +1,4 @@
-//! Cases of the words of `mate-view`: what they write, the line that tells of a refusal, and the status.
+//! Cases of the words of `mate-view`: what they write, the line of a refusal, and the status.
 #![tactic(auto)]
 
 use mate_files::{OsFiles, Sink};

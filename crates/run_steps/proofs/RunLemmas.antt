@@ -10,11 +10,11 @@ use Rattle.script_reader.specs.declared.steps.Step.{Step}
 use Rattle.script_reader.specs.Steps.{NodeScript, IsRightStep}
 use Rattle.mate_journal.specs.Log.{Log, IsEmpty, IsSameLog}
 use Rattle.mate_journal.specs.Machine.{Machine, Meaning}
-use Rattle.mate_journal.specs.Journal.{JournalEntry, TimedEntry, NodeState, journal_of, first_state, state_after_all, untimed, journal_entry}
+use Rattle.mate_journal.specs.Journal.{JournalEntry, TimedEntry, NodeState, journal_of, first_state, state_after_all, journal_entry}
 use Rattle.mate_journal.specs.Pace.{Pace, no_pace}
 use Rattle.mate_journal.specs.WellFormed.{NotBefore}
 use Rattle.mate_journal.specs.NodeScript as node
-use Rattle.mate_journal.specs.NodeScript.{RunEnd, Whole, Full, Cut, Makes, HaveMade, AreOfEvent, EndsRun, IsRunOf, ShowsOnce}
+use Rattle.mate_journal.specs.NodeScript.{RunEnd, Whole, Full, Cut, Makes, HaveMade, made_at, EndsRun, IsRunOf, ShowsOnce}
 use Rattle.mate_journal.specs.NodeReport.{IsNodeReport, is_whole}
 use Rattle.mate_journal.specs.OpenLog.{Gone, nothing_gone}
 use Rattle.mate_journal.specs.Ranges.{HasStampRange, HasLogRanges, HasAiredRanges, HasReportRanges}
@@ -22,15 +22,14 @@ use Rattle.mate_journal.specs.declared.program.Program.{Program}
 use Rattle.mate_journal.specs.declared.entry.Stamped.{Stamped}
 use Rattle.mate_journal.specs.declared.report.Report.{Report}
 use Rattle.mate_journal.specs.declared.report.TheConstants.{RECORDS_MAX}
-use Rattle.journal_laws.specs.Growth.{FollowsLast}
+use Rattle.journal_laws.specs.Growth.{FollowsLast, EndsWithPace}
 use Rattle.journal_laws.proofs.Append.{journal_of-same, journal_of-empty, FollowsLast-later}
 use Rattle.journal_laws.proofs.FewLemmas.{run-few}
-use Rattle.mate_journal.proofs.JournalLemmas.{told_by-at}
-use Rattle.journal_laws.proofs.ScriptRuns.{HaveMade-push, AreOfEvent-at}
+use Rattle.journal_laws.proofs.ScriptRuns.{HaveMade-on, HaveMade-push}
 use Rattle.vm_desc.specs.Shapes.{shape_of}
 use Rattle.vm_desc.specs.Whole.{context_count}
 use Rattle.node_invariant.specs.Meaning.{machine_in, meaning_of}
-use Rattle.node_invariant.specs.Keeps.{reading, event_at, IsTimely}
+use Rattle.node_invariant.specs.Keeps.{reading, IsTimely}
 use Rattle.open_node.specs.View.{NodeView, heard_of, HasPace, Tells}
 use Rattle.open_node.specs.Calls.{Pacing}
 use Rattle.open_node.specs.Journal.{KeepsJournal}
@@ -88,7 +87,7 @@ HasRun-same d ps done old new described same paces ranges h =
       pace = h.pace;
       has = paces h.pace h.has;
       made =
-          subst (λ (es : List TimedEntry). HaveMade (machine_in d) 0 1 (first_state (machine_in d)) no_pace (map (step_of ps) done) es h.pace) (sym journals) h.made;
+          subst (λ (es : List TimedEntry). HaveMade (EndsWithPace h.pace) (machine_in d) 0 1 (first_state (machine_in d)) no_pace (map (step_of ps) done) es) (sym journals) h.made;
       timely = same-timely (stamp_at (length done)) new.log old.log same h.timely;
       ranges = ranges h.ranges;
       few = h.few;
@@ -108,27 +107,25 @@ one-more : (d : Description) (ps : List Program) (done : List Step) (step : Step
 one-more d ps done step old new h few t ranges stamp =
     let made = t.paces h.pace h.has in
     let at : Stamp = stamp_at (suc (length done)) in
-    let front : List TimedEntry = map (event_at at) t.told in
     let long : length (done ++ step ∷ []) ≡ suc (length done) = length-append done (step ∷ []) ∙ omega arith in
     let count : length (map (step_of ps) done) ≡ length done = length-map done (step_of ps) in
     let entries : length (journal_of old.log) ≡ length old.log.entries = length-journal old.log in
     let event : suc (length done) ≡ 1 + length (map (step_of ps) done) = omega (arith, count) in
     let by_description : Makes (machine_in d) (heard_of old) h.pace (step_of ps step) t.told made.0 =
     subst (λ (x : Description). Makes (machine_in x) (heard_of old) h.pace (step_of ps step) t.told made.0) h.description made.1 in
-    let makes : Makes (machine_in d) (state_after_all (machine_in d) (first_state (machine_in d)) (journal_of old.log)) h.pace (step_of ps step) (untimed front) made.0 =
-    subst (λ (ts : List JournalEntry). Makes (machine_in d) (state_after_all (machine_in d) (first_state (machine_in d)) (journal_of old.log)) h.pace (step_of ps step) ts made.0) (sym (told_by-at at t.told))
-    (subst (λ (r : NodeState). Makes (machine_in d) r h.pace (step_of ps step) t.told made.0) (heard-is d old h.description) by_description) in
-    let P : List node.Step → List TimedEntry → Type 0 = λ steps es. HaveMade (machine_in d) 0 1 (first_state (machine_in d)) no_pace steps es made.0 in
+    let makes : Makes (machine_in d) (state_after_all (machine_in d) (first_state (machine_in d)) (journal_of old.log)) h.pace (step_of ps step) t.told made.0 =
+    subst (λ (r : NodeState). Makes (machine_in d) r h.pace (step_of ps step) t.told made.0) (heard-is d old h.description) by_description in
+    let P : List node.Step → List TimedEntry → Type 0 = λ steps es. HaveMade (EndsWithPace made.0) (machine_in d) 0 1 (first_state (machine_in d)) no_pace steps es in
     record {
       description = t.description ∙ h.description;
       pace = made.0;
       has = made.2;
       made =
           subst (P (map (step_of ps) (done ++ step ∷ []))) (sym t.grows.journal)
-          (subst (λ (steps : List node.Step). P steps (journal_of old.log ++ front)) (sym (map-append (step_of ps) done (step ∷ [])))
-          (HaveMade-push (machine_in d) 0 1 (first_state (machine_in d)) no_pace (map (step_of ps) done) (journal_of old.log) h.pace (step_of ps step) front made.0 h.made
-          (omega (arith, few, entries))
-          (subst (λ (n : ℕ). AreOfEvent n front) event (AreOfEvent-at (suc (length done)) t.told)) makes));
+          (subst (λ (steps : List node.Step). P steps (journal_of old.log ++ map (made_at (suc (length done))) t.told)) (sym (map-append (step_of ps) done (step ∷ [])))
+          (subst (λ (n : ℕ). P (map (step_of ps) done ++ step_of ps step ∷ []) (journal_of old.log ++ map (made_at n) t.told)) (sym event)
+          (HaveMade-push (machine_in d) 0 1 (first_state (machine_in d)) no_pace (map (step_of ps) done) (journal_of old.log) h.pace (step_of ps step) t.told made.0 h.made
+          (omega (arith, few, entries)) makes)));
       timely = subst (λ (n : ℕ). IsTimely (stamp_at n) new.log) (sym long) t.grows.timely;
       ranges = ranges h.ranges;
       few = subst (λ (n : ℕ). n < 2 ^ 64) (sym long) stamp.event;
@@ -212,6 +209,26 @@ report-by d steps how l events keeps run count r is = record {
 
 -- ---- how it ends
 
+-- the steps that were made, and then the end
+ends-run : (d : Description) (ps : List Program) (done left : List Step) (how : RunEnd) (v : NodeView) (last es : List TimedEntry) (h : HasRun d ps done v) → es ≡ journal_of v.log ++ last
+    → EndsRun (machine_in d) how (map (step_of ps) left) (0 + length (journal_of v.log)) (1 + length (map (step_of ps) done)) (state_after_all (machine_in d) (first_state (machine_in d)) (journal_of v.log)) h.pace last
+    → (run : IsRunOf (machine_in d) how (map (step_of ps) (done ++ left)) es) × (length done ≡ length run.done)
+ends-run d ps done left how v last es h is ends =
+    let f = step_of ps in
+    let m : Machine = machine_in d in
+    let made : HaveMade (EndsRun m how (map f left)) m 0 1 (first_state m) no_pace (map f done ++ []) (journal_of v.log ++ last) =
+    HaveMade-on (EndsRun m how (map f left)) m 0 1 (first_state m) no_pace (map f done) [] (journal_of v.log) last h.pace h.made ends in (
+      record {
+        done = map f done;
+        left = map f left;
+        steps_are = map-append f done left;
+        made =
+            subst (λ (steps : List node.Step). HaveMade (EndsRun m how (map f left)) m 0 1 (first_state m) no_pace steps es) (append-nil (map f done))
+            (subst (λ (all : List TimedEntry). HaveMade (EndsRun m how (map f left)) m 0 1 (first_state m) no_pace (map f done ++ []) all) (sym is) made);
+      },
+      sym (length-map done f),
+    )
+
 -- all steps were made, and the store is shown
 whole-run : (d : Description) (ps : List Program) (steps : List Step) (old new : NodeView) (h : HasRun d ps steps old)
     → Tells old new (stamp_at (suc (length steps))) (Pacing (ShowsOnce (machine_in old.description) (heard_of old)))
@@ -219,53 +236,27 @@ whole-run : (d : Description) (ps : List Program) (steps : List Step) (old new :
 whole-run d ps steps old new h t =
     let m : Machine = machine_in d in
     let shown = t.paces h.pace h.has in
-    let at : Stamp = stamp_at (suc (length steps)) in
-    let last : List TimedEntry = map (event_at at) t.told in
     let count : length (map (step_of ps) steps) ≡ length steps = length-map steps (step_of ps) in
     let by_description : ShowsOnce m (heard_of old) h.pace t.told = subst (λ (x : Description). ShowsOnce (machine_in x) (heard_of old) h.pace t.told) h.description shown.1.0 in
-    let by_heard : ShowsOnce m (state_after_all m (first_state m) (journal_of old.log)) h.pace t.told = subst (λ (r : NodeState). ShowsOnce m r h.pace t.told) (heard-is d old h.description) by_description in (
-      record {
-        done = map (step_of ps) steps;
-        left = [];
-        front = journal_of old.log;
-        last = last;
-        pace = h.pace;
-        steps_are = sym (append-nil (map (step_of ps) steps));
-        events_are = t.grows.journal;
-        made = h.made;
-        ends = (
-          refl,
-          subst (λ (ts : List JournalEntry). ShowsOnce m (state_after_all m (first_state m) (journal_of old.log)) h.pace ts) (sym (told_by-at at t.told)) by_heard,
-          subst (λ (n : ℕ). AreOfEvent n last) (ap suc (sym count)) (AreOfEvent-at (suc (length steps)) t.told),
-        );
-      },
-      sym count,
-    )
+    let by_heard : ShowsOnce m (state_after_all m (first_state m) (journal_of old.log)) h.pace t.told = subst (λ (r : NodeState). ShowsOnce m r h.pace t.told) (heard-is d old h.description) by_description in
+    let event : suc (length steps) ≡ 1 + length (map (step_of ps) steps) = omega (arith, count) in
+    subst (λ (list : List Step). (run : IsRunOf m Whole (map (step_of ps) list) (journal_of new.log)) × (length steps ≡ length run.done)) (append-nil steps)
+    (ends-run d ps steps [] Whole old (map (made_at (suc (length steps))) t.told) (journal_of new.log) h t.grows.journal
+    (refl, t.told, by_heard, ap (λ (n : ℕ). map (made_at n) t.told) event))
 
 -- the log is full, and a step is left
 pub run-full : (d : Description) (ps : List Program) (steps : List Step) (i event : ℕ) (v : NodeView) (h : HasRun d ps (take i steps) v) → i < length steps → event ≡ i → RECORDS_MAX ≤ length v.log.entries
     → (run : IsRunOf (machine_in d) Full (map (step_of ps) steps) (journal_of v.log)) × (event ≡ length run.done)
 run-full d ps steps i event v h within same full =
     let f = step_of ps in
-    let m : Machine = machine_in d in
-    let count : length (map f (take i steps)) ≡ length (take i steps) = length-map (take i steps) f in
     let len : length (take i steps) ≡ i = taken steps i (omega (arith, within)) in
     let entries : length (journal_of v.log) ≡ length v.log.entries = length-journal v.log in
     let left : length (map f (drop i steps)) ≡ length (drop i steps) = length-map (drop i steps) f in
-    let dropped : length (drop i steps) ≡ length steps - i = length-drop i steps in (
-      record {
-        done = map f (take i steps);
-        left = map f (drop i steps);
-        front = journal_of v.log;
-        last = [];
-        pace = h.pace;
-        steps_are = ap (map f) (sym (take-append-drop i steps)) ∙ map-append f (take i steps) (drop i steps);
-        events_are = sym (append-nil (journal_of v.log));
-        made = h.made;
-        ends = (λ none. let no_length : length (map f (drop i steps)) ≡ 0 = ap (λ (xs : List node.Step). length xs) none in omega (arith, within, left, dropped, no_length), omega (arith, full, entries), refl);
-      },
-      same ∙ sym (count ∙ len),
-    )
+    let dropped : length (drop i steps) ≡ length steps - i = length-drop i steps in
+    let run = ends-run d ps (take i steps) (drop i steps) Full v [] (journal_of v.log) h (sym (append-nil (journal_of v.log)))
+    (λ none. let no_length : length (map f (drop i steps)) ≡ 0 = ap (λ (xs : List node.Step). length xs) none in omega (arith, within, left, dropped, no_length), omega (arith, full, entries), refl) in
+    subst (λ (list : List Step). (run : IsRunOf (machine_in d) Full (map f list) (journal_of v.log)) × (event ≡ length run.done)) (take-append-drop i steps)
+    (run.0, same ∙ sym len ∙ run.1)
 
 pub run-whole : (d : Description) (ps : List Program) (list : List Step) (i event : ℕ) (old new : NodeView) → HasRun d ps (take i list) old → i ≤ length list → length list ≤ i → event ≡ i
     → Tells old new (stamp_at (event + 1)) (Pacing (ShowsOnce (machine_in old.description) (heard_of old)))
@@ -282,22 +273,10 @@ run-whole d ps list i event old new h within all same t =
 pub run-cut : (d : Description) (ps : List Program) (steps : List Step) (i event : ℕ) (v : NodeView) (h : HasRun d ps (take i steps) v) → i ≤ length steps → event ≡ i
     → (run : IsRunOf (machine_in d) Cut (map (step_of ps) steps) (journal_of v.log)) × (event ≡ length run.done)
 run-cut d ps steps i event v h within same =
-    let f = step_of ps in
-    let count : length (map f (take i steps)) ≡ length (take i steps) = length-map (take i steps) f in
-    let len : length (take i steps) ≡ i = taken steps i within in (
-      record {
-        done = map f (take i steps);
-        left = map f (drop i steps);
-        front = journal_of v.log;
-        last = [];
-        pace = h.pace;
-        steps_are = ap (map f) (sym (take-append-drop i steps)) ∙ map-append f (take i steps) (drop i steps);
-        events_are = sym (append-nil (journal_of v.log));
-        made = h.made;
-        ends = refl;
-      },
-      same ∙ sym (count ∙ len),
-    )
+    let len : length (take i steps) ≡ i = taken steps i within in
+    let run = ends-run d ps (take i steps) (drop i steps) Cut v [] (journal_of v.log) h (sym (append-nil (journal_of v.log))) refl in
+    subst (λ (list : List Step). (run : IsRunOf (machine_in d) Cut (map (step_of ps) list) (journal_of v.log)) × (event ≡ length run.done)) (take-append-drop i steps)
+    (run.0, same ∙ sym len ∙ run.1)
 
 -- ---- reports by sources
 

@@ -16,6 +16,7 @@ use Rattle.mate_journal.specs.declared.report.Report.{Report}
 use Rattle.mate_journal.specs.declared.report.RunFault.{RunFault}
 use Rattle.mate_journal.specs.declared.report.RunFault.TheVariants.{LogFull, NoMemory}
 use Rattle.mate_journal.specs.declared.report.TheConstants.{RECORDS_MAX}
+use Rattle.journal_laws.specs.Growth.{EndsWithPace}
 use Rattle.node_invariant.specs.Meaning.{machine_in}
 use Rattle.node_invariant.specs.Keeps.{IsTimely}
 use Rattle.open_node.specs.View.{NodeView, heard_of, HasPace}
@@ -63,7 +64,7 @@ pub record HasRun (d : Description) (ps : List Program) (done : List Step) (v : 
   pub description : v.description ≡ d
   pub pace : Pace
   pub has : HasPace v pace
-  pub made : HaveMade (machine_in d) 0 1 (first_state (machine_in d)) no_pace (map (step_of ps) done) (journal_of v.log) pace
+  pub made : HaveMade (EndsWithPace pace) (machine_in d) 0 1 (first_state (machine_in d)) no_pace (map (step_of ps) done) (journal_of v.log)
   pub timely : IsTimely (stamp_at (length done)) v.log
   pub ranges : IsInRange v.log v.gone
   pub few : length done < 2 ^ 64

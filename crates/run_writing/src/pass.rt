@@ -6,7 +6,7 @@ use crate::write_fault::WriteFault;
 use mate_journal::{Airs, NodeLogs, Report};
 use std::alloc::Global;
 
-/// How the writing of a run ended: how many events ended, whether they are all, and whether their lines were written.
+/// How the writing of a run ended: how many events ended, whether the run was whole, and whether their lines were written.
 #[derive(Clone, Copy)]
 pub struct Pass {
     pub events: u64,
@@ -14,7 +14,7 @@ pub struct Pass {
     pub result: Result<(), WriteFault>,
 }
 
-/// The report of a run that didn't begin.
+/// The empty report, of a run that didn't begin.
 pub fn nothing_run(alloc: Global) -> Report
     ensures { result ≡ record { nodes = []; air = []; events = 0; whole = false } }
 {

@@ -10,8 +10,8 @@ use Rattle.capsule_codec.specs.declared.capsule.Capsule.{Capsule}
 use Rattle.code_verifier.specs.Verified.{VerifiedCode}
 use Rattle.mate_files.specs.Files.{Names}
 use Rattle.mate_journal.specs.declared.program.Program.{Program}
-use Rattle.ts_syntax.specs.Checked.{tree_of}
-use Rattle.ts_syntax.specs.declared.checked.Checked.{Checked}
+use Rattle.ts_checked.specs.Checked.{checked_tree}
+use Rattle.ts_checked.specs.declared.checked.Checked.{Checked}
 use Rattle.script_reader.specs.NodeScript.{node_script_in}
 use Rattle.script_reader.specs.Steps.{NodeScript}
 use Rattle.script_reader.specs.declared.fault.Cause.{Cause}
@@ -64,7 +64,7 @@ obtained_agrees R P Q alike (Err r) (Err t) p q = inr (inl p)
 same_image : (a b : ArrayVec ℕ) → a.items ≡ b.items → a ≡ b
 same_image a b is = ap (λ (xs : List ℕ). let v : ArrayVec ℕ = record { items = xs } in v) is
 
-source_same : (a b : Option Checked) (c e : Checked) → a ≡ Some c → b ≡ Some e → tree_of c ≡ tree_of e → SameSource a b
+source_same : (a b : Option Checked) (c e : Checked) → a ≡ Some c → b ≡ Some e → checked_tree c ≡ checked_tree e → SameSource a b
 source_same a b c e is is' same = subst (λ (x : Option Checked). SameSource x b) (sym is) (subst (λ (x : Option Checked). SameSource (Some c) x) (sym is') same)
 
 source_none : (a b : Option Checked) → a ≡ None → b ≡ None → SameSource a b

@@ -1,4 +1,4 @@
--- What the answers of calls that read files tell.
+-- What the answers of calls that read files say.
 use Rattle.std.proofs.Common.{◌≡◌, ◌∙◌, ℕ, List, Result, Ok, Err, subst, inl, inr}
 use Rattle.std.specs.Prelude.{IsErrAnd, IfOk}
 use Rattle.mate_refusals.specs.declared.refusal.Refusal.{Refusal}

@@ -12,7 +12,7 @@ use Rattle.mate_code.specs.CodeUses.{uses_of as code_uses}
 use Rattle.mate_code.specs.Run.{Code, code_run}
 use Rattle.mate_code.specs.Table.{table_of}
 use Rattle.mate_code.specs.Verification.{Marks, Refusal, TooLong, verification}
-use Rattle.ts_syntax.specs.Statement.{Block}
+use Rattle.ts_checked.specs.Statement.{Block}
 use Rattle.ts_meaning.specs.Meaning.{run_of}
 use Rattle.ts_meaning.specs.Uses.{script_uses}
 use Rattle.ts_meaning.specs.Translation as translation

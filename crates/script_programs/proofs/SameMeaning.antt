@@ -8,8 +8,8 @@ use Rattle.mate_num.specs.declared.shape.Shape.{Shape}
 use Rattle.mate_num.specs.declared.store.Store.{Store}
 use Rattle.ts_meaning.specs.Meaning.{run_of}
 use Rattle.ts_meaning.specs.Uses.{script_uses}
-use Rattle.ts_syntax.specs.Statement.{Block}
-use Rattle.ts_syntax.specs.declared.checked.Checked.{Checked}
+use Rattle.ts_checked.specs.Statement.{Block}
+use Rattle.ts_checked.specs.declared.checked.Checked.{Checked}
 use Rattle.mate_journal.specs.Machine.{HeldProgram}
 use Rattle.mate_journal.specs.declared.program.Program.{Program}
 use Rattle.node_programs.specs.Sources.{held_as, is_held_as, source_in, run_from, uses_from, meaning_by}

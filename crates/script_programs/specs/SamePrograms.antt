@@ -1,13 +1,13 @@
 -- Programs that mean the same and install the same.
 use Rattle.std.specs.Prelude.{◌≡◌, List, [], ◌∷◌, Option, Some, None, ⊤}
 use Rattle.mate_journal.specs.declared.program.Program.{Program}
-use Rattle.ts_syntax.specs.Checked.{tree_of}
-use Rattle.ts_syntax.specs.declared.checked.Checked.{Checked}
+use Rattle.ts_checked.specs.Checked.{checked_tree}
+use Rattle.ts_checked.specs.declared.checked.Checked.{Checked}
 
 -- the same tree, or none
 abbrev pub SameSource : Option Checked → Option Checked → Type 0
 SameSource None None = ⊤
-SameSource (Some a) (Some b) = tree_of a ≡ tree_of b
+SameSource (Some a) (Some b) = checked_tree a ≡ checked_tree b
 SameSource _ _ = ⊥
 
 pub record SameProgram (a b : Program) : Type 0 where

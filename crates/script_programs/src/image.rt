@@ -1,4 +1,4 @@
-//! The image of a capsule, as a program has it.
+//! The image of a capsule, as a program holds it.
 
 ghost use Rattle.std.specs.Prelude.{◌≡◌};
 ghost use Rattle.capsule_codec.specs.Image.{capsule_parts, capsule_image, IsCapsule};

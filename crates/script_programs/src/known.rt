@@ -1,4 +1,4 @@
-//! Sources that were compiled, by their bytes: a script may name one file very often.
+//! Sources that were compiled, by their bytes: a script may name one file many times.
 
 ghost use Rattle.std.specs.Prelude.{◌≡◌, ◌≤◌, [], length, IfOk, IfSome, Ok};
 ghost use Rattle.std.specs.Str.{bytes_eq};
@@ -14,7 +14,7 @@ use mate_steps::{compiled_bytes, read_file};
 use std::alloc::Global;
 use vm_desc::Description;
 
-/// How many sources are known at most. Where one more comes, the others are forgotten.
+/// How many sources are known at most. If one more comes, the others are forgotten.
 const KNOWN_MAX: usize = 16;
 
 /// The bytes of a source, and what they gave.
@@ -24,14 +24,14 @@ pub struct KnownSource {
     compiled: SharedSource,
 }
 
-/// Sources that were compiled for one machine, all folded before or none.
+/// Sources that were compiled for one machine, either all folded before or none.
 #[derive(Drop)]
 pub struct KnownSources {
     sources: Vec<KnownSource>,
 }
 
-/// The compiled script of a source with its code, folded before it is compiled where `fold` says so. The file is read; it is
-/// compiled only where its bytes aren't known.
+/// The compiled script of a source with its code, folded before it is compiled if `fold` says so. The file is read;
+/// it is compiled only if its bytes aren't known.
 pub(crate) fn source_of<F: Files>(
     alloc: Global,
     files: &mut F,
@@ -95,7 +95,7 @@ impl KnownSources {
         }
     }
 
-    /// The place of the source with these bytes.
+    /// The place of the source with these bytes, if it is known.
     fn place_of(&self, bytes: &[u8]) -> Option<usize>
         ensures { IfSome result (IsKnownAt self.now bytes.now) }
     {
@@ -107,7 +107,7 @@ impl KnownSources {
         None
     }
 
-    /// The bytes and what they gave are known from now on, unless memory is wanting.
+    /// Adds the bytes and what they gave to the known sources, unless memory runs out.
     #[inline(never)]
     fn remember(
         &mut self,

@@ -1,4 +1,4 @@
-//! Completeness: a file has one script, and the files that a script names have one list of programs, but for want of memory.
+//! Completeness: a file has one script, and the files that a script names have one list of programs, unless memory runs out.
 
 ghost use Rattle.std.specs.Prelude.{◌≡◌, Bool, List, ℕ};
 ghost use Rattle.mate_files.specs.Files.{Names};

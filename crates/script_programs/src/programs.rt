@@ -21,8 +21,8 @@ use script_reader::{Step, Steps};
 use std::alloc::Global;
 use vm_desc::Description;
 
-/// The programs of the files that the script names, in the order of its steps; or the first refusal of them. Sources are
-/// folded before they are compiled where `fold` says so. The script can be run with them.
+/// The programs of the files that the script names, in the order of its steps; or their first refusal. Sources are
+/// folded before they are compiled if `fold` says so. The script can be run with them.
 pub fn programs_of<F: Files>(
     alloc: Global,
     files: &mut F,
@@ -50,7 +50,7 @@ pub fn programs_of<F: Files>(
     Ok(programs)
 }
 
-/// Whether the step names a file. Most steps of a long script name none, and nothing as large as a program is moved for them.
+/// Whether the step names a file. Most steps of a long script name none, and then nothing as large as a program is moved.
 fn names_file(step: &Step) -> bool
     ensures { result ≡ names_file step.now }
 {
@@ -124,7 +124,7 @@ fn step_program<F: Files>(
     }
 }
 
-/// The program of a source, for a handler as a version.
+/// The program of a source, for a handler, with a version.
 #[inline(never)]
 fn installed<F: Files>(
     alloc: Global,

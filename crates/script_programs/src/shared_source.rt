@@ -5,7 +5,7 @@ ghost use Rattle.mate_steps.specs.SourceCode.{IsCompiledOf};
 ghost use Rattle.mate_steps.specs.Steps.{obtained};
 ghost use Rattle.node_programs.specs.Right.{IsRightProgram};
 ghost use Rattle.script_programs.specs.Programs.{IsInstalled};
-ghost use Rattle.ts_syntax.specs.Statement.{Block};
+ghost use Rattle.ts_checked.specs.Statement.{Block};
 ghost use Rattle.vm_desc.specs.Shapes.{shape_of};
 
 use crate::image::stored_image;
@@ -18,7 +18,7 @@ use std::alloc::Global;
 use std::marker::Model;
 use vm_desc::Description;
 
-/// A compiled script, whose tree is in one place for all programs that it gives. Contracts see the compiled script.
+/// A compiled script, whose tree is kept once for all programs that it gives. Contracts see the compiled script.
 #[derive(Drop)]
 pub struct SharedSource {
     script: SharedScript,
@@ -27,7 +27,7 @@ pub struct SharedSource {
 
 impl Model for SharedSource {
     ghost use Rattle.std.specs.Coded.{codes};
-    ghost use Rattle.ts_syntax.specs.contracts.checked_stmt.CStmt as stmt;
+    ghost use Rattle.ts_checked.specs.contracts.checked_stmt.CStmt as stmt;
     ghost use Rattle.mate_steps.specs.declared.code.CompiledScript.{CompiledScript as Compiled};
 
     ghost Value = { Compiled };
@@ -61,7 +61,7 @@ impl SharedSource {
         }
     }
 
-    /// The same for one owner more.
+    /// The same source, with one more owner.
     pub fn share(&self) -> Result<SharedSource, Refusal>
         ensures { obtained (λ shared. shared ≡ self.now) result }
     {
@@ -74,7 +74,7 @@ impl SharedSource {
         }
     }
 
-    /// The program that it is for a handler of the machine, as a version.
+    /// The program that it gives for a handler of the machine, with a version.
     #[inline(never)]
     pub fn program(
         self,

@@ -1,4 +1,4 @@
--- The first word and the first line of a text, and what is left behind them.
+-- The first word and the first line of a text, and what is left after them.
 use Rattle.std.proofs.Common.{◌≡◌, ℕ, ◌+◌, ◌<◌, ◌≤◌, Bool, true, false, ◌==◌, not, cond, List, [], ◌∷◌, length, take, drop, filter, suc, ◌-◌, take_all, refl, sym, ◌∙◌, ap, one-add, arith}
 use Rattle.std.specs.Prelude.{nat_eq, slice_index_or}
 use Rattle.std.specs.List.{prefix_len, slice_split, onto_first}

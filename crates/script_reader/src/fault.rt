@@ -3,7 +3,7 @@
 /// What is wrong with a line.
 #[derive(Clone, Copy)]
 pub enum Cause {
-    /// An unknown, a missing or an extra word, or a byte that is no blank and no printable ASCII.
+    /// An unknown, a missing or an extra word, or a byte that is neither a blank nor printable ASCII.
     Word,
     /// A word that isn't a number or, for noise, an even number of hexadecimal digits.
     Number,
@@ -17,14 +17,14 @@ pub enum Cause {
     Name,
     /// A number that is no node's.
     Node,
-    /// Noise that is a packet to the machine.
+    /// Noise whose bytes are a packet of the machine.
     Packet,
 }
 
 /// Why bytes are no script for the machine.
 #[derive(Clone, Copy)]
 pub enum ScriptFault {
-    /// The first line that is refused, from 1, and the first cause in it from left to right.
+    /// The first line that is refused, counted from 1, and the first cause in it from left to right.
     BadLine { line: u32, cause: Cause },
     NoMemory,
 }

@@ -28,7 +28,7 @@ impl<'a> Lines<'a> {
         Lines { rest: text }
     }
 
-    /// The next line, without its end; None exactly where no line is left.
+    /// The next line, without its end; None exactly if no line is left.
     pub fn next(&mut self) -> Option<&'a [u8]>
         ensures line { MatchOption result (lines self.old ≡ []) (λ line. lines self.old ≡ line.now ∷ lines self.new) }
         ensures shorter { IfSome result (λ _. length self.new < length self.old) }
@@ -47,7 +47,7 @@ impl<'a> Lines<'a> {
     }
 }
 
-// How many bytes stand before the first LF, or before the end where there is none.
+// How many bytes come before the first LF, or before the end if there is none.
 fn line_len(text: &[u8]) -> usize
     ensures value { result ≡ prefix_len (λ b. not (b == 10)) text.now }
     ensures fits { result ≤ length text.now }

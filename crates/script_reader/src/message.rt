@@ -5,7 +5,7 @@ ghost use Rattle.std.specs.Prelude.{◌≡◌};
 use mate_num::{PAYLOAD_MAX, Payload};
 use std::marker::Model;
 
-/// The values of a post in 22 bytes, since a script may have very many. Contracts see the payload.
+/// The values of a post in 22 bytes, since a script may have many posts. Contracts see the payload.
 #[derive(Drop)]
 pub struct Message {
     count: u8,

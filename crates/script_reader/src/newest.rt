@@ -1,10 +1,10 @@
-//! The newest version of each handler so far, of which there are at most 8.
+//! The newest version of each handler so far; there are at most 8 handlers.
 
 ghost use Rattle.std.specs.Prelude.{◌≡◌, slice_index, slice_set};
 
 use mate_num::HandlerId;
 
-/// The newest version of a handler, and 0 where it has none.
+/// The newest version of a handler, or 0 if it has none.
 pub fn newest_of(newest: &[u32; 8], handler: HandlerId) -> u32
     ensures { result ≡ slice_index newest.now handler.0 }
 {
@@ -14,7 +14,7 @@ pub fn newest_of(newest: &[u32; 8], handler: HandlerId) -> u32
     }
 }
 
-/// Notes a version as the newest of a handler.
+/// Records a version as the newest of a handler.
 pub fn note_newest(newest: &mut [u32; 8], handler: HandlerId, version: u32)
     ensures { newest.new ≡ slice_set newest.old handler.0 version }
 {

@@ -64,7 +64,8 @@ impl Reader {
         requires count { length self.old.steps.files < number }
         requires small { number < 2 ^ 32 }
         requires keeps { KeepsProgress desc.now (progress_of self.old) }
-        ensures value { FollowsLine (after_line desc.now (progress_of self.old) (split_words line.now)) number result (progress_of self.new) }
+        ensures value { FollowsLine (after_line desc.now (progress_of self.old) (split_words line.now))
+            number result (progress_of self.new) }
         ensures files { OnOk result (length self.new.steps.files ≤ number) }
         ensures keeps { OnOk result (KeepsProgress desc.now (progress_of self.new)) }
     {
@@ -100,7 +101,7 @@ impl Reader {
     }
 }
 
-// Notes the version of an install.
+// Records the version of an install.
 fn note_version(newest: &mut [u32; 8], step: &Step)
     ensures { newest.new ≡ newest_after newest.old step.now }
 {
@@ -114,7 +115,7 @@ fn note_version(newest: &mut [u32; 8], step: &Step)
     }
 }
 
-// What a whole line says, where `files` files were named before it.
+// What a whole line says, if `files` files were named before it.
 #[tactic(auto, unfolding(crate::specs::NodeScript::a_line))]
 fn line_in<'a>(
     desc: &Description,
@@ -135,7 +136,7 @@ fn line_in<'a>(
     }
 }
 
-// What the words behind a line's first word say.
+// What the words after a line's first word say.
 #[tactic(auto, unfolding(crate::specs::NodeScript::behind))]
 fn behind<'a>(
     desc: &Description,
@@ -160,7 +161,7 @@ fn behind<'a>(
     }
 }
 
-// The same of the lines that name no file, no handler and no number of instructions.
+// The same for the lines that name no file, no handler and no number of instructions.
 #[tactic(auto, unfolding(crate::specs::NodeScript::behind_others))]
 fn behind_others<'a>(
     desc: &Description,

@@ -11,7 +11,7 @@ use std::marker::Model;
 /// What a node is to do next. A `program` is the position of a file among those that the script names.
 #[derive(Drop)]
 pub enum Step {
-    /// Compile the file, and install it under this version, from 1 on.
+    /// Compile the file, and install it as this version, 1 or more.
     Install {
         handler: HandlerId,
         version: u32,
@@ -31,7 +31,7 @@ pub enum Step {
         ctx: ContextId,
         n: u32,
     },
-    /// Give turns until every invocation waits or has ended.
+    /// Give turns until no invocation is ready: each waits or has ended.
     Run,
     /// Answer the call for which the context waits.
     Answer {

@@ -86,7 +86,7 @@ impl<'a> Words<'a> {
         }
     }
 
-    /// Refuses a word that is left.
+    /// Refuses the line with `Word` if a word is left.
     pub fn finish(&mut self) -> Result<(), Cause>
         ensures { ReadsWords (λ u. u) nothing_more (split_words self.old) result (split_words self.new) }
     {
@@ -96,7 +96,7 @@ impl<'a> Words<'a> {
         }
     }
 
-    /// A number from `low` to `high`; one that is outside is refused with `outside`.
+    /// A number from `low` to `high`; one that is outside is refused with `outside`, and a word that is none with `Number`.
     #[tactic(auto, unfolding(crate::specs::Words::a_number))]
     pub fn number(&mut self, low: u64, high: u64, outside: Cause) -> Result<u64, Cause>
         ensures value { ReadsWords (λ n. n) (a_number low high outside) (split_words self.old) result (split_words self.new) }
@@ -112,7 +112,7 @@ impl<'a> Words<'a> {
         }
     }
 
-    /// A value of a script.
+    /// A value of a script, from -32768 to 32767.
     #[tactic(auto, unfolding(crate::specs::Words::a_value))]
     pub fn value(&mut self) -> Result<i16, Cause>
         ensures { ReadsWords (λ v. v) a_value (split_words self.old) result (split_words self.new) }
@@ -121,7 +121,7 @@ impl<'a> Words<'a> {
         value_in(word)
     }
 
-    /// The values of the words that are left, but of no more than ten.
+    /// The values of the next words: of all that are left, but of ten at most.
     pub fn payload(&mut self) -> Result<Payload, Cause>
         ensures value { ReadsWords (λ p. p) a_payload (split_words self.old) result (split_words self.new) }
         ensures few { IfOk result (λ p. length p.items ≤ 10) }
@@ -175,7 +175,7 @@ pub(crate) fn spells(bytes: &[u8], text: &str) -> bool
     bytes.len() == text.len() && are_same(bytes, text.as_bytes())
 }
 
-// Whether the bytes are the same, as far as both go.
+// Whether the bytes are the same, up to the end of the shorter.
 fn are_same(bytes: &[u8], others: &[u8]) -> bool
     ensures { result ≡ list_all (λ p. p.0 == p.1) (zip bytes.now others.now) }
 {
@@ -215,7 +215,7 @@ fn are_printable(word: &[u8]) -> bool
     word.iter().all(|byte| is_printable(*byte))
 }
 
-// The word, where its characters are printable.
+// The word, if its characters are printable.
 fn plain(word: &[u8]) -> Result<&[u8], Cause>
     ensures { MatchResult result (λ same. printed word.now ≡ Ok same.now) (λ cause. printed word.now ≡ Err cause) }
 {
@@ -226,7 +226,7 @@ fn plain(word: &[u8]) -> Result<&[u8], Cause>
     }
 }
 
-// The word as text, where its characters are printable.
+// The word as text, if its characters are printable.
 fn printed(word: &[u8]) -> Result<&str, Cause>
     ensures { MatchResult result (λ text. printed word.now ≡ Ok text.now) (λ cause. printed word.now ≡ Err cause) }
 {
@@ -239,7 +239,7 @@ fn printed(word: &[u8]) -> Result<&str, Cause>
     Ok(text)
 }
 
-// One digit or more, and nothing else.
+// Whether the word has at least one digit, and nothing else.
 fn is_numeral(word: &[u8]) -> bool
     ensures { result ≡ is_numeral word.now }
 {
@@ -252,7 +252,7 @@ fn are_digits(word: &[u8]) -> bool
     word.iter().all(|byte| byte.is_ascii_digit())
 }
 
-// The number that the digits spell; None where it has more than 64 bits.
+// The number that the digits spell; None if it has more than 64 bits.
 fn numeral(word: &[u8]) -> Option<u64>
     requires { is_numeral word.now ≡ true }
     ensures { MatchOption result (2 ^ 64 ≤ digits_value 10 word.now) (λ n. n ≡ digits_value 10 word.now) }
@@ -264,7 +264,7 @@ fn numeral(word: &[u8]) -> Option<u64>
     Some(number)
 }
 
-// The number with one more digit behind it; None where it has more than 64 bits.
+// The number with one more digit after it; None if it has more than 64 bits.
 fn with_digit(number: u64, digit: u8) -> Option<u64>
     requires { is_ascii_digit digit ≡ true }
     ensures { MatchOption result (2 ^ 64 ≤ number * 10 + digit_value digit) (λ n. n ≡ number * 10 + digit_value digit) }
@@ -272,8 +272,8 @@ fn with_digit(number: u64, digit: u8) -> Option<u64>
     number.checked_mul(10)?.checked_add((digit - b'0') as u64)
 }
 
-// The first cause for which a word is refused that would be refused with this one if its characters were printable. Digits are, so a
-// word that spells a number needs no such test.
+// The first cause for which a word is refused that would be refused with `cause` if its characters were printable.
+// Digits are, so a word that spells a number needs no such test.
 fn cause_in(word: &[u8], cause: Cause) -> Cause
     ensures { MatchResult (printed word.now) (λ _. result ≡ cause) (λ first. result ≡ first) }
 {
@@ -315,7 +315,7 @@ fn value_in(word: &[u8]) -> Result<i16, Cause>
     }
 }
 
-// What the word spells behind a minus.
+// What the word spells after a minus.
 fn negative_in(digits: &[u8]) -> Result<i16, Cause>
     ensures { result ≡ signed (λ n. neg_ℤ (pos n)) (within 0 32768 Cause.Range (number_read digits.now)) }
 {

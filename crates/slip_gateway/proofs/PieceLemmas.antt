@@ -1,7 +1,7 @@
 -- Where the first and the last END of a stream stand, and bytes without escapes.
 use Rattle.std.proofs.Common.{◌≡◌, ◌∙◌, ap, sym, refl, ℕ, zero, suc, ◌+◌, ◌<◌, Bool, true, false, List, [], ◌∷◌, ◌++◌, Option, Some, None, length, take, drop, slice_index, arith, append_assoc, append-nil}
-use Rattle.std.specs.Prelude.{◌==◌, if◌then◌else◌, is_some}
-use Rattle.std.specs.List.{flat_map}
+use Rattle.std.specs.Prelude.{◌==◌, ◌||◌, if◌then◌else◌, is_some}
+use Rattle.std.specs.List.{flat_map, list_any}
 use Rattle.std.proofs.lemmas.Bool.{false_from_ne_true}
 use Rattle.std.proofs.lemmas.List.{length-drop}
 use Rattle.std.proofs.lemmas.List.Concat.{flat_map-cons}
@@ -92,3 +92,23 @@ no_escape bs none = plain bs (λ k lt. false_from_ne_true _ (none k (omega arith
 pub none_found : (bs : List ℕ) (r : Option ℕ) (t : Bool) → IsFirstByte (is_byte ESC) bs r → t ≡ is_some r → t ≡ false → unescaped false bs ≡ Some bs
 none_found bs None t found is shut = no_escape bs found
 none_found bs (Some n) t found is shut = absurd (cc)
+
+-- ---- whether an ESC is there
+
+any_none : (bs : List ℕ) → Absent ESC bs (length bs) → list_any (is_byte ESC) bs ≡ false
+any_none [] none = refl
+any_none (b ∷ bs) none =
+    ap (λ (t : Bool). t || list_any (is_byte ESC) bs) (none 0 (omega arith)) ∙ any_none bs (λ k lt. none (suc k) (omega (arith, lt)))
+
+or_yes : (t : Bool) → (t || true) ≡ true
+or_yes true = refl
+or_yes false = refl
+
+any_at : (bs : List ℕ) (n : ℕ) → n < length bs → (slice_index bs n == ESC) ≡ true → list_any (is_byte ESC) bs ≡ true
+any_at [] n lt here = absurd (omega (arith, lt))
+any_at (b ∷ bs) zero lt here = ap (λ (t : Bool). t || list_any (is_byte ESC) bs) here
+any_at (b ∷ bs) (suc n) lt here = ap (λ (t : Bool). is_byte ESC b || t) (any_at bs n (omega (arith, lt)) here) ∙ or_yes (is_byte ESC b)
+
+pub found_any : (bs : List ℕ) (r : Option ℕ) (t : Bool) → IsFirstByte (is_byte ESC) bs r → t ≡ is_some r → t ≡ list_any (is_byte ESC) bs
+found_any bs None t found is = is ∙ sym (any_none bs (λ k lt. false_from_ne_true _ (found k (omega arith) lt)))
+found_any bs (Some n) t found is = is ∙ sym (any_at bs n found.0.high found.1)

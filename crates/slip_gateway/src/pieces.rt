@@ -1,6 +1,7 @@
 //! A stream that is at hand whole: it is cut at its first END, and what stands before that is a frame.
 
 ghost use Rattle.std.specs.Prelude.{◌≡◌, [], false, Some, MatchOption, MatchResult};
+ghost use Rattle.std.specs.List.{list_any};
 ghost use Rattle.memchr.specs.Find.{is_byte, IsFirstByte};
 ghost use Rattle.slip_gateway.specs.Pieces.{IsFirstPiece, frame_at, IsWholeFrame, fault_frame};
 ghost use Rattle.slip_gateway.specs.Stream.{frames, unescaped};
@@ -36,9 +37,10 @@ fn first_end(stream: &[u8]) -> Option<usize>
     }
 }
 
-/// Whether an escape begins in the bytes of a frame.
+/// Whether an escape begins in the bytes of a frame. Where none does, they stand for themselves.
 pub fn has_escape(piece: &[u8]) -> bool
-    ensures { result ≡ false → unescaped false piece.now ≡ Some piece.now }
+    ensures value { result ≡ list_any (is_byte ESC) piece.now }
+    ensures plain { result ≡ false → unescaped false piece.now ≡ Some piece.now }
 {
     memchr(ESC, piece).is_some()
 }

@@ -1,4 +1,4 @@
-//! The calls that contexts have made and that wait for their answers, at most one a context.
+//! The calls that contexts have made and that wait for their answers, at most one for each context.
 #![tactic(auto)]
 
 pub mod pending;

@@ -6,7 +6,7 @@ ghost use Rattle.split_phase.specs.Calls.{call_at, AreNone, IsOf, CallBecomes};
 use mate_num::{CONTEXTS_MAX, ContextId, FunId, Payload, copy_of};
 use std::marker::Model;
 
-/// The context waits for no answer.
+/// The refusal of an answer: the context waits for none.
 #[derive(Clone, Copy)]
 pub struct NotWaiting;
 
@@ -45,8 +45,8 @@ impl Pending {
         self.calls[ctx.0 as usize] = Some((fun, args));
     }
 
-    /// The answer to the call of `ctx` has come: it gives the function that was called, and `ctx` waits no more.
-    /// `NotWaiting` comes exactly where it doesn't wait.
+    /// The answer to the call of `ctx` has come: the result is the function that was called, and `ctx` no longer
+    /// waits. `NotWaiting` comes exactly if it doesn't wait.
     pub fn answer(&mut self, ctx: ContextId) -> Result<FunId, NotWaiting>
         requires { ctx.0 < CONTEXTS_MAX }
         ensures answered { MatchResult result (λ fun. IsOf (call_at self.old ctx) fun) (λ _. call_at self.old ctx ≡ None) }
@@ -59,7 +59,7 @@ impl Pending {
         }
     }
 
-    /// The function that `ctx` called and a copy of the arguments; None exactly where it doesn't wait.
+    /// The function that `ctx` called and a copy of the arguments; None exactly if it doesn't wait.
     pub fn asked(&self, ctx: ContextId) -> Option<(FunId, Payload)>
         requires { ctx.0 < CONTEXTS_MAX }
         ensures { result ≡ call_at self.now ctx }
@@ -70,7 +70,7 @@ impl Pending {
         }
     }
 
-    /// All calls are dropped: no context waits.
+    /// All calls are dropped: no context waits any more.
     pub fn cancel(&mut self)
         ensures { AreNone self.new }
     {

@@ -37,7 +37,7 @@ fn print_line<S: Sink>(pen: &mut Pen, out: &mut S, reading: &(u64, i16))
     pen.text(out, "\n");
 }
 
-// Why a file wasn't read, for a test that fails by it.
+// Why a file wasn't read, for a test that fails because of it.
 fn words(fault: FilesFault) -> &'static str {
     match fault {
         FilesFault::Failed => "the file can't be read",

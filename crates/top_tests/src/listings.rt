@@ -9,7 +9,7 @@ use opcode_gen::table;
 use std::test::Fail;
 use vm_desc::{Description, builtin};
 
-/// Writes the text of the capsule with this image, and answers what the sink did.
+/// Writes the text of the capsule with this image, and returns what the sink did.
 fn print(
     desc: &Description,
     digits: &str,

@@ -1,4 +1,4 @@
-//! One node's timer: the interval that runs, its point, and what was heard in it.
+//! One node's timer: the interval that runs, its point, and what was received in it.
 
 ghost use Rattle.std.specs.Prelude.{◌≡◌, ◌+◌, ◌/◌, ◌%◌, ◌^◌, ◌<◌, ◌≤◌, ◌&&◌, [], List, not, nat_lt, nat_le, IsTrue, if◌then◌else◌};
 ghost use Rattle.mate_num.specs.declared.bounds.TheConstants.{HOUR};
@@ -16,11 +16,11 @@ use vm_desc::TrickleSet;
 pub enum Fire {
     /// It sends the versions that it holds.
     Send,
-    /// It is silent, since enough others sent the same.
+    /// It is silent, since it received at least k consistent packets in the interval.
     Keep,
 }
 
-/// A running timer. Times are in ms, up to an hour.
+/// A running timer. Times are in ms, up to an hour. The steps that are named below are those of RFC 6206, section 4.2.
 #[derive(Drop)]
 pub struct Trickle {
     set: TrickleSet,
@@ -43,7 +43,7 @@ impl Model for Trickle {
     ghost invariant = { λ t. IsRightTimer (timer_of t) };
 }
 
-/// Draws the point of an interval of this length that begins now.
+/// Draws the point of an interval of this length, in ms, that begins now (step 2 of RFC 6206, section 4.2).
 fn draw(words: &mut Lcg64Xsh32, length: u32, now: u32) -> u32
     requires two { 2 ≤ length }
     requires room { now + length < 2 ^ 32 }
@@ -58,8 +58,8 @@ impl Trickle {
     ghost use Rattle.trickle_timer.specs.Intervals.{Start};
     ghost use Rattle.trickle_timer.specs.Timer.{after_happening, begun_timer, started_timer, packet_event, TimerContinues, IsTimerOf, IsRightTimer, Decides};
 
-    /// The timer of a node: its first interval begins, with the shortest length. Each interval takes the next word of
-    /// the generator that begins at `random`, in the stream `2 * node`.
+    /// The timer of a node: its first interval begins at `now`, with the shortest length. Each interval takes the
+    /// next word of the generator that begins at `random`, in the stream `2 * node`.
     pub fn start(set: TrickleSet, random: u64, node: u8, now: u32) -> Trickle
         requires settings { IsTrue (is_trickle set) }
         requires node { node < 64 }
@@ -79,8 +79,8 @@ impl Trickle {
         }
     }
 
-    /// A packet is heard. A consistent one is counted, up to 65,535. Another one begins an interval of the shortest
-    /// length, unless the running one has that length. True exactly where an interval begins.
+    /// A packet is received. A consistent one is counted, up to 65,535. Any other begins an interval of the shortest
+    /// length, unless the running one has that length (steps 3 and 6). True exactly if an interval begins.
     pub fn hear(&mut self, consistent: bool, now: u32) -> bool
         requires hour { now ≤ HOUR }
         requires within { self.old.running.begin ≤ now }
@@ -95,7 +95,7 @@ impl Trickle {
         }
     }
 
-    /// Begins an interval of the shortest length, unless the running one has that length. True exactly where one begins.
+    /// Begins an interval of the shortest length, unless the running one has that length. True exactly if one begins.
     pub fn reset(&mut self, now: u32) -> bool
         requires hour { now ≤ HOUR }
         requires within { self.old.running.begin ≤ now }
@@ -110,8 +110,8 @@ impl Trickle {
         }
     }
 
-    /// What the node does at the point: it is silent exactly where `suppress` is true and the packets counted in the
-    /// interval are at least k.
+    /// What the node does at the point: it is silent exactly if `suppress` is true and at least k packets were
+    /// counted in the interval (step 4).
     pub fn fire(&mut self, suppress: bool) -> Fire
         ensures rule { Decides self.old suppress result }
         ensures same { self.new ≡ self.old }
@@ -123,7 +123,7 @@ impl Trickle {
         }
     }
 
-    /// The interval ends, and one twice as long begins, or of the longest length.
+    /// The interval ends; one twice as long begins, or one of the longest length if that is shorter (step 5).
     pub fn expire(&mut self, now: u32)
         requires hour { now ≤ HOUR }
         requires end { now ≡ self.old.running.begin + self.old.running.length }
@@ -142,7 +142,7 @@ impl Trickle {
         self.begin_with(self.set.imin, now);
     }
 
-    /// When the running interval began.
+    /// When the running interval began, in ms.
     pub fn begin(&self) -> u32
         ensures value { result ≡ self.now.running.begin }
         ensures right { IsRightTimer self.now }
@@ -150,7 +150,7 @@ impl Trickle {
         self.begin
     }
 
-    /// The length of the running interval, in ms: it ends so long after its beginning.
+    /// The length of the running interval, in ms: it ends that long after its beginning.
     pub fn length(&self) -> u32
         ensures value { result ≡ self.now.running.length }
         ensures right { IsRightTimer self.now }
@@ -158,7 +158,7 @@ impl Trickle {
         self.length
     }
 
-    /// The moment at which the node sends or is silent, in the second half of the running interval.
+    /// The time in ms at which the node sends or is silent, in the second half of the running interval.
     pub fn point(&self) -> u32
         ensures value { result ≡ self.now.running.point }
         ensures right { IsRightTimer self.now }

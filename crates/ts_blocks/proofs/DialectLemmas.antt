@@ -1,4 +1,4 @@
--- Statements of a dialect: they stop where one of their parts does, and those that each open block may have.
+-- Statements of a dialect: they stop if one of their parts does; and the statements that each open block may have.
 use Rattle.std.proofs.Common.{◌≡◌, ◌≤◌, List, length, Result, Ok, Err, Bor, ap, sym, subst, le_of_lt, arith}
 use Rattle.std.specs.Result.{IsErrAnd}
 use Rattle.ts_syntax.specs.declared.stmt.Stmt.{Stmt}

@@ -1,4 +1,4 @@
--- How a statement begins in a block, and where none does.
+-- How a statement begins in a block, and when none does.
 use Rattle.std.proofs.Common.{◌≡◌, ◌<◌, ℕ, length, List, [], ◌∷◌, ◌++◌, map, Some, None, Err, refl, sym, ◌∙◌, ap, subst, arith, Option}
 use Rattle.std.proofs.lemmas.Option.{same_Some}
 use Rattle.ts_syntax.specs.declared.word.Word.{Word}

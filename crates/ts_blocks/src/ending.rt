@@ -5,7 +5,7 @@ ghost use Rattle.ts_blocks.specs.Ending.{TakesEnd, ClosedBlock, Counted};
 use ts_syntax::expect::{expect, name};
 use ts_syntax::{Block, Halt, Token, TokenKind, Word};
 
-/// A block as it was read, and the tokens behind it.
+/// A block as it was read, and the tokens after it.
 pub type ReadBlock<'a> = Result<(Block, &'a [Token]), Halt<'a>>;
 
 /// Takes `end` and a keyword.
@@ -16,7 +16,7 @@ pub fn end_of<'a>(tokens: &'a [Token], kind: &TokenKind) -> Result<&'a [Token], 
     expect(rest, kind)
 }
 
-/// The block, where `end` and this keyword stand behind it, and the tokens behind them.
+/// The block, if `end` and this keyword come after it, and the tokens after them.
 pub fn closed_block<'a>(read: ReadBlock<'a>, kind: &TokenKind) -> ReadBlock<'a>
     ensures { ClosedBlock kind.now read.entry result }
 {
@@ -25,7 +25,7 @@ pub fn closed_block<'a>(read: ReadBlock<'a>, kind: &TokenKind) -> ReadBlock<'a>
     Ok((block, rest))
 }
 
-/// The block, where `next` and a name stand behind it, with that name, and the tokens behind it.
+/// The block, if `next` and a name come after it, with that name, and the tokens after it.
 pub fn counted<'a>(read: ReadBlock<'a>) -> Result<((Block, Word), &'a [Token]), Halt<'a>>
     ensures { Counted read.entry result }
 {

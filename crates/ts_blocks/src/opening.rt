@@ -14,7 +14,7 @@ pub enum Opening {
     If,
     For,
     While,
-    /// Where a script may have procedures.
+    /// `do`, if a script may have procedures.
     Do,
 }
 
@@ -47,7 +47,7 @@ fn opened_by(dialect: Dialect, token: &Token) -> Option<Opening>
     }
 }
 
-/// The opening of a statement, and what stands behind it; None where the tokens begin no statement.
+/// The opening of a statement, and what comes after it; None if the tokens begin no statement.
 pub fn after_opening(dialect: Dialect, tokens: &[Token]) -> Option<(Opening, &[Token])>
     ensures { FindsStmt dialect tokens.now result }
 {

@@ -15,7 +15,7 @@ use ts_statements::{behind_name, clearing, for_head, running};
 use ts_syntax::expect::{after, expect};
 use ts_syntax::{Block, Dialect, Halt, Stmt, Token, TokenKind, Word};
 
-/// Reads statements up to the first token that begins none: they, and the tokens from that one on.
+/// Reads statements up to the first token that begins none: the statements, and the tokens from that one on.
 #[cycle(stmt)]
 pub fn block<'a>(
     alloc: Global,
@@ -36,7 +36,7 @@ pub fn block<'a>(
     Ok((stmts, rest))
 }
 
-/// Reads on behind the opening of a statement.
+/// Reads on after the opening of a statement.
 #[cycle(stmt)]
 fn statement<'a>(
     alloc: Global,
@@ -57,7 +57,7 @@ fn statement<'a>(
     }
 }
 
-/// Reads on behind `if`.
+/// Reads on after `if`.
 #[cycle(stmt)]
 fn choice<'a>(
     alloc: Global,
@@ -73,7 +73,7 @@ fn choice<'a>(
     Ok((Stmt::If(test, body, other), rest))
 }
 
-/// Reads on behind `then`: the statements where the test holds, and those where it doesn't, if there is an `else`.
+/// Reads on after `then`: the statements to run if the test holds, and those to run if it doesn't, if there is an `else`.
 #[cycle(stmt)]
 fn branches<'a>(
     alloc: Global,
@@ -107,7 +107,7 @@ fn other_branch<'a>(
     Ok((None, rest))
 }
 
-/// Reads on behind `while`: the test, the statements, and `end while`.
+/// Reads on after `while`: the test, the statements, and `end while`.
 #[cycle(stmt)]
 fn repetition<'a>(
     alloc: Global,
@@ -122,7 +122,7 @@ fn repetition<'a>(
     Ok((Stmt::While(test, body), rest))
 }
 
-/// Reads on behind `for`: the head, the statements, and `next` with its name.
+/// Reads on after `for`: the head, the statements, and `next` with its name.
 #[cycle(stmt)]
 fn counting<'a>(
     alloc: Global,

@@ -8,7 +8,7 @@ use Rattle.mate_num.specs.declared.id.FunId.{FunId}
 use Rattle.vm_desc.specs.Limits.{function_args}
 use Rattle.vm_desc.specs.Shapes.{sends_buffer}
 use Rattle.vm_desc.specs.declared.function.FunKind.{FunKind}
-use Rattle.ts_syntax.specs.Expression.{Arguments}
+use Rattle.ts_checked.specs.Expression.{Arguments}
 use Rattle.ts_syntax.specs.Seen.{tree_of, trees_of}
 use Rattle.ts_syntax.specs.declared.expr.Expr.{Expr}
 use Rattle.ts_syntax.specs.declared.word.Word.{Word}

@@ -1,12 +1,12 @@
 -- Checks of lists, one item after another: what is checked so far, and the rest.
 use Rattle.std.proofs.Common.{◌≡◌, ℕ, ◌+◌, ◌<◌, ◌≤◌, List, [], ◌∷◌, ◌++◌, length, drop, get_or, Bool, Result, Ok, Err, refl, ap, sym, ◌∙◌}
 use Rattle.std.proofs.lemmas.List.{drop_all}
-use Rattle.ts_syntax.specs.Expression.{Expression, Arguments, no_arguments, argument, arguments}
-use Rattle.ts_syntax.specs.Statement.{Statement, Block, no_statements, statement, block}
+use Rattle.ts_checked.specs.Expression.{Expression, Arguments, no_arguments, argument, arguments}
+use Rattle.ts_checked.specs.Statement.{Statement, Block, no_statements, statement, block}
 use Rattle.ts_syntax.specs.Seen.{trees_of, acts_of, tree_of, act_of}
 use Rattle.ts_syntax.specs.declared.expr.Expr.{Expr}
 use Rattle.ts_syntax.specs.declared.stmt.Stmt.{Stmt}
-use Rattle.ts_syntax.proofs.ListLemmas.{drop_item}
+use Rattle.ts_checked.proofs.ListLemmas.{drop_item}
 use Rattle.ts_scope.specs.declared.fault.CheckFault.{CheckFault}
 use Rattle.ts_scope.specs.Refusal.{◌>>=◌}
 use Rattle.ts_scope.specs.Names.{ScriptNames}

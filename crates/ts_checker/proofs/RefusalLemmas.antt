@@ -1,13 +1,13 @@
--- What is returned where a part of a check refuses.
+-- What is returned if a part of a check refuses.
 use Rattle.std.proofs.Common.{◌≡◌, Bool, true, List, Option, Some, None, Result, Ok, Err, ◌∙◌, ap, sym, subst}
 use Rattle.std.specs.Prelude.{IsErrAnd}
 use Rattle.std.specs.declared.alloc.Global.{Global}
 use Rattle.std.specs.declared.boxed.Box.{Box}
-use Rattle.ts_syntax.specs.declared.bin_op.BinOp.{BinOp}
+use Rattle.ts_checked.specs.declared.bin_op.BinOp.{BinOp}
 use Rattle.ts_syntax.specs.declared.expr.Expr.TheVariants as of
 use Rattle.ts_syntax.specs.Seen.{tree_of, act_of, acts_of}
-use Rattle.ts_syntax.specs.Expression.{Expression, Two}
-use Rattle.ts_syntax.specs.Statement.{If, IfElse}
+use Rattle.ts_checked.specs.Expression.{Expression, Two}
+use Rattle.ts_checked.specs.Statement.{If, IfElse}
 use Rattle.ts_syntax.specs.declared.expr.Expr.{Expr}
 use Rattle.ts_syntax.specs.declared.stmt.Stmt.{Stmt}
 use Rattle.ts_syntax.specs.declared.stmt.Stmt.TheVariants as does

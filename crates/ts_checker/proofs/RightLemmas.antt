@@ -21,14 +21,14 @@ use Rattle.ts_syntax.specs.declared.stmt.Step.{Step}
 use Rattle.ts_syntax.specs.declared.script.Decl.{Decl}
 use Rattle.ts_syntax.specs.declared.script.DeclKind.{DeclKind}
 use Rattle.ts_syntax.specs.declared.script.DeclKind.TheVariants as of
-use Rattle.ts_syntax.specs.declared.checked_stmt.CVar.{CVar}
-use Rattle.ts_syntax.specs.declared.checked_stmt.CVar.TheVariants as var
+use Rattle.ts_checked.specs.declared.checked_stmt.CVar.{CVar}
+use Rattle.ts_checked.specs.declared.checked_stmt.CVar.TheVariants as var
 use Rattle.ts_syntax.specs.Tree as given
 use Rattle.ts_syntax.specs.Tree.{Tree, Trees, no_trees, tree_then, Act, Acts, no_acts, act_then, Source}
-use Rattle.ts_syntax.specs.Expression.{Expression, Arguments}
-use Rattle.ts_syntax.specs.Statement.{Statement, Block}
+use Rattle.ts_checked.specs.Expression.{Expression, Arguments}
+use Rattle.ts_checked.specs.Statement.{Statement, Block}
 use Rattle.mate_num.specs.Shapes.{is_shape}
-use Rattle.ts_syntax.specs.Right.{is_variable, is_buffer, is_call, is_send_of as is_send_for, argument_count, is_right_expr, are_right, is_step, is_head, is_right_stmt, is_right_block, is_right}
+use Rattle.ts_checked.specs.Right.{is_variable, is_buffer, is_call, is_send_of as is_send_for, argument_count, is_right_expr, are_right, is_step, is_head, is_right_stmt, is_right_block, is_right}
 use Rattle.ts_scope.specs.declared.scope.Symbol.{Symbol}
 use Rattle.ts_scope.specs.declared.scope.Symbol.TheVariants.{Variable, Buffer}
 use Rattle.ts_scope.specs.declared.scope.Entry.{Entry}

@@ -1,4 +1,4 @@
--- The checks of a script never refuse for want of memory.
+-- The checks of a script never refuse because memory ran out.
 use Rattle.std.proofs.Common.{◌≡◌, ℕ, Bool, true, false, if◌then◌else◌, List, [], ◌∷◌, Option, Some, None, Result, Ok, Err, ap}
 use Rattle.std.specs.Prelude.{ok_or}
 use Rattle.vm_desc.specs.declared.description.Description.{Description}

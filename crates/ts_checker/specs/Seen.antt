@@ -1,11 +1,11 @@
 -- How the checker's own values are seen.
 use Rattle.std.specs.declared.alloc.Global.{Global}
 use Rattle.std.specs.declared.boxed.Box.{Box}
-use Rattle.ts_syntax.specs.Expression.{Expression, Arguments, arguments}
-use Rattle.ts_syntax.specs.TreeOf.{expr_tree, args_trees}
-use Rattle.ts_syntax.specs.declared.checked_expr.CArgs.{CArgs}
-use Rattle.ts_syntax.specs.declared.checked_expr.CExpr.{CExpr}
-use Rattle.ts_syntax.specs.declared.checked_stmt.CForHead.{CForHead}
+use Rattle.ts_checked.specs.Expression.{Expression, Arguments, arguments}
+use Rattle.ts_checked.specs.TreeOf.{expr_tree, args_trees}
+use Rattle.ts_checked.specs.declared.checked_expr.CArgs.{CArgs}
+use Rattle.ts_checked.specs.declared.checked_expr.CExpr.{CExpr}
+use Rattle.ts_checked.specs.declared.checked_stmt.CForHead.{CForHead}
 use Rattle.ts_checker.specs.declared.called.Called as of
 use Rattle.ts_checker.specs.declared.called.Called.TheVariants as variant
 use Rattle.ts_checker.specs.Checks.{Called, sends, calls, CheckedHead}

@@ -1,9 +1,9 @@
 //! Calls whose checks passed.
 
 use mate_num::{BufId, FunId};
-use ts_syntax::{CArgs, CExpr, CStmt};
+use ts_checked::{CArgs, CExpr, CStmt};
 
-/// A call of a function that sends a buffer, or of another one.
+/// A call: of a function that sends a buffer, or of another one.
 #[derive(Drop)]
 pub(crate) enum Called {
     Sends(FunId, BufId),
@@ -12,7 +12,7 @@ pub(crate) enum Called {
 
 impl Called {
     ghost use Rattle.std.specs.Prelude.{◌≡◌};
-    ghost use Rattle.ts_syntax.specs.TreeOf.{expr_tree, stmt_tree};
+    ghost use Rattle.ts_checked.specs.TreeOf.{expr_tree, stmt_tree};
     ghost use Rattle.ts_checker.specs.Checks.{as_expression, as_statement};
     ghost use Rattle.ts_checker.specs.Seen.{call_of};
 

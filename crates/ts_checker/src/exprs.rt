@@ -6,7 +6,7 @@ ghost use Rattle.vm_desc.specs.Limits.{function_args};
 ghost use Rattle.vm_desc.specs.Shapes.{sends_buffer};
 ghost use Rattle.ts_syntax.specs.Seen.{tree_of, trees_of};
 ghost use Rattle.ts_syntax.specs.Tree as given;
-ghost use Rattle.ts_syntax.specs.TreeOf.{expr_tree};
+ghost use Rattle.ts_checked.specs.TreeOf.{expr_tree};
 ghost use Rattle.ts_checker.specs.Answer.{GivesChecked};
 ghost use Rattle.ts_checker.specs.Checks.{variable_expression, name_alone, sent, checked_call, checked_expr, checked_args};
 ghost use Rattle.ts_scope.specs.Seen.{scope_names};
@@ -15,11 +15,12 @@ ghost use Rattle.ts_checker.specs.Seen.{arguments_of, boxed_expression, call_of}
 use crate::called::Called;
 use mate_num::BufId;
 use std::alloc::Global;
+use ts_checked::{BinOp, CArgs, CExpr, CVar};
 use ts_scope::{CheckFault, Scope};
-use ts_syntax::{Args, BinOp, CArgs, CExpr, CVar, Expr, Word};
+use ts_syntax::{Args, Expr, Word};
 use vm_desc::FunKind;
 
-/// Checks an expression, where calls are allowed or not.
+/// Checks an expression; `calls` says whether calls are allowed in it.
 #[cycle(expression)]
 pub(crate) fn expression(
     alloc: Global,
@@ -48,8 +49,8 @@ pub(crate) fn expression(
     }
 }
 
-// The forms of an expression stay calls of their own: a function pays at its entry for all that it may hold, and few
-// nodes are of one form.
+// The forms of an expression aren't inlined: a function pays at its entry for all that it may hold, and few nodes are
+// of one form.
 
 // Checks a part of an expression, and boxes it.
 #[inline(never)]
@@ -174,7 +175,7 @@ fn arguments(alloc: Global, scope: &Scope, calls: bool, args: &[Expr]) -> Result
     Ok(checked)
 }
 
-// The number that a literal writes.
+// The number that a literal stands for, modulo 65536, from -32768 to 32767.
 fn number_of(literal: u16) -> i16
     ensures { result ≡ wrap (pos literal) }
 {
@@ -212,7 +213,7 @@ fn arg_count(kind: FunKind) -> u8
     }
 }
 
-// The buffer that a call sends, of a function whose name stands at `place`: its one argument, a name alone.
+// The buffer that a call sends, of a function whose name is at `place`: its one argument, a name alone.
 fn sent(scope: &Scope, place: u32, args: &[Expr]) -> Result<BufId, CheckFault>
     ensures { result ≡ sent (scope_names scope.now) place (trees_of args.now) }
 {
@@ -225,7 +226,7 @@ fn sent(scope: &Scope, place: u32, args: &[Expr]) -> Result<BufId, CheckFault>
     }
 }
 
-// The name that an expression is alone.
+// The name that an expression is, if it is a name alone.
 fn name_alone(expr: &Expr) -> Option<&Word>
     ensures { option_map (λ word. word.now) result ≡ name_alone (tree_of expr.now) }
 {

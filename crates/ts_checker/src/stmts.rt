@@ -3,7 +3,7 @@
 ghost use Rattle.std.specs.Prelude.{◌≡◌, [], IfOk};
 ghost use Rattle.ts_syntax.specs.Seen.{tree_of, trees_of, act_of, acts_of};
 ghost use Rattle.ts_syntax.specs.Tree as given;
-ghost use Rattle.ts_syntax.specs.TreeOf.{stmt_tree, block_tree, block_trees};
+ghost use Rattle.ts_checked.specs.TreeOf.{stmt_tree, block_tree, block_trees};
 ghost use Rattle.ts_checker.specs.Answer.{GivesChecked};
 ghost use Rattle.ts_checker.specs.Checks.{checked_step, checked_head, checked_stmt, checked_block};
 ghost use Rattle.ts_scope.specs.Seen.{scope_names};
@@ -12,8 +12,9 @@ ghost use Rattle.ts_checker.specs.Seen.{checked_head_of};
 use crate::exprs::{call, expression};
 use mate_num::NoMemory;
 use std::alloc::Global;
+use ts_checked::{CBlock, CForHead, CStmt};
 use ts_scope::{CheckFault, Scope};
-use ts_syntax::{Args, Block, CBlock, CForHead, CStmt, Expr, ForHead, Step, Stmt, Word};
+use ts_syntax::{Args, Block, Expr, ForHead, Step, Stmt, Word};
 
 /// Checks the statements of a block.
 #[cycle(block)]
@@ -27,7 +28,7 @@ pub(crate) fn block(alloc: Global, scope: &Scope, stmts: &Block) -> Result<CBloc
     Ok(checked)
 }
 
-// A block that takes so many statements with no more memory.
+// An empty block with room for `count` statements.
 fn room_for(alloc: Global, count: usize) -> Result<CBlock, NoMemory>
     ensures { IfOk result (λ room. block_trees room ≡ []) }
 {
@@ -179,7 +180,7 @@ fn for_head(alloc: Global, scope: &Scope, head: &ForHead) -> Result<CForHead, Ch
     })
 }
 
-// The step of a `for`: 1 where none is written, else from -32767 to 32767, and not 0.
+// The step of a `for`: 1 if none is written, else from -32767 to 32767, and not 0; `Kind` for any other.
 fn step_size(step: Option<Step>) -> Result<i16, CheckFault>
     ensures { result ≡ checked_step step }
 {

@@ -3,8 +3,8 @@ use Rattle.std.proofs.Common.{◌≡◌, ℕ, zero, suc, ◌+◌, ◌≤◌, Lis
 use Rattle.std.specs.Prelude.{max, min}
 use Rattle.mate_code.specs.declared.instr.Instr.{Instr}
 use Rattle.mate_code.specs.Instr.{size_of}
-use Rattle.ts_syntax.specs.Expression.{Expression, Arguments, arguments, argument}
-use Rattle.ts_syntax.specs.Statement.{Statement, block}
+use Rattle.ts_checked.specs.Expression.{Expression, Arguments, arguments, argument}
+use Rattle.ts_checked.specs.Statement.{Statement, block}
 use Rattle.ts_meaning.specs.Translation.{size_of_instrs, expr_code, args_code, expr_size, expr_need, args_need, stmt_size, stmt_need, block_size, block_need}
 use Rattle.ts_meaning.proofs.PlaceLemmas.{bytes_of-append}
 use Rattle.ts_compiler.specs.Parts.{capped}

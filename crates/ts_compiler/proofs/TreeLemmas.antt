@@ -3,20 +3,20 @@ use Rattle.std.proofs.Common.{◌≡◌, ℕ, List, ap, sym, ◌∙◌}
 use Rattle.mate_num.specs.declared.id.BufId.{BufId}
 use Rattle.mate_num.specs.declared.id.FunId.{FunId}
 use Rattle.mate_num.specs.declared.id.VarId.{VarId}
-use Rattle.ts_syntax.specs.Expression.{Expression, arguments, Shared, Private, Size, MsgSize, Call, SendBuf}
-use Rattle.ts_syntax.specs.Statement.{Statement, Set, SetItem, Append, Take, Clear, Do, DoSend, For, While}
-use Rattle.ts_syntax.specs.TreeOf.{expr_step, args_step, expr_tree, args_trees, stmt_step, block_step, stmt_tree, block_tree}
-use Rattle.ts_syntax.specs.declared.checked_expr.CExpr.{CExpr}
-use Rattle.ts_syntax.specs.declared.checked_expr.CArgs.{CArgs}
-use Rattle.ts_syntax.specs.declared.checked_expr.CExpr.TheFolds.{fold-roll-CExpr}
-use Rattle.ts_syntax.specs.declared.checked_expr.CExpr.TheOpen.{CExpr-F}
-use Rattle.ts_syntax.specs.declared.checked_expr.CExpr.TheVariants as expr
-use Rattle.ts_syntax.specs.declared.checked_stmt.CVar.{CVar}
-use Rattle.ts_syntax.specs.declared.checked_stmt.CForHead.{CForHead}
-use Rattle.ts_syntax.specs.declared.checked_stmt.CBlock.{CBlock}
-use Rattle.ts_syntax.specs.declared.checked_stmt.CStmt.TheFolds.{fold-roll-CStmt}
-use Rattle.ts_syntax.specs.declared.checked_stmt.CStmt.TheOpen.{CStmt-F}
-use Rattle.ts_syntax.specs.declared.checked_stmt.CStmt.TheVariants as stmt
+use Rattle.ts_checked.specs.Expression.{Expression, arguments, Shared, Private, Size, MsgSize, Call, SendBuf}
+use Rattle.ts_checked.specs.Statement.{Statement, Set, SetItem, Append, Take, Clear, Do, DoSend, For, While}
+use Rattle.ts_checked.specs.TreeOf.{expr_step, args_step, expr_tree, args_trees, stmt_step, block_step, stmt_tree, block_tree}
+use Rattle.ts_checked.specs.declared.checked_expr.CExpr.{CExpr}
+use Rattle.ts_checked.specs.declared.checked_expr.CArgs.{CArgs}
+use Rattle.ts_checked.specs.declared.checked_expr.CExpr.TheFolds.{fold-roll-CExpr}
+use Rattle.ts_checked.specs.declared.checked_expr.CExpr.TheOpen.{CExpr-F}
+use Rattle.ts_checked.specs.declared.checked_expr.CExpr.TheVariants as expr
+use Rattle.ts_checked.specs.declared.checked_stmt.CVar.{CVar}
+use Rattle.ts_checked.specs.declared.checked_stmt.CForHead.{CForHead}
+use Rattle.ts_checked.specs.declared.checked_stmt.CBlock.{CBlock}
+use Rattle.ts_checked.specs.declared.checked_stmt.CStmt.TheFolds.{fold-roll-CStmt}
+use Rattle.ts_checked.specs.declared.checked_stmt.CStmt.TheOpen.{CStmt-F}
+use Rattle.ts_checked.specs.declared.checked_stmt.CStmt.TheVariants as stmt
 
 pub tree-Shared : (v : VarId) → expr_tree (expr.Shared v) ≡ Shared v
 tree-Shared v = ap expr_tree (sym (expr.rolls-Shared v)) ∙ fold-roll-CExpr Expression (List Expression) expr_step args_step (CExpr-F.Shared v)

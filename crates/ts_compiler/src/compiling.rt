@@ -3,7 +3,7 @@
 ghost use Rattle.std.specs.Prelude.{◌≡◌, Ok, IfOk};
 ghost use Rattle.mate_code.specs.Code.{decoded};
 ghost use Rattle.mate_code.specs.Table.{table_of};
-ghost use Rattle.ts_syntax.specs.Checked.{checked_shape, tree_of};
+ghost use Rattle.ts_checked.specs.Checked.{checked_shape, checked_tree};
 ghost use Rattle.ts_meaning.specs.Laws.{RunsAsItsScript, UsesAsItsScript};
 ghost use Rattle.ts_meaning.specs.Translation.{code_of};
 ghost use Rattle.ts_compiler.specs.Compiled.{Compiles, AreAccepted};
@@ -13,27 +13,27 @@ use crate::extent::script_extent;
 use crate::fault::CompileFault;
 use mate_code::{Table, encode};
 use mate_num::{CODE_MAX, Code, STACK_MAX};
+use ts_checked::Checked;
 use ts_meaning::{
     code_is_encodable, code_is_verified, code_runs_as_its_script, code_uses_as_its_script,
 };
-use ts_syntax::Checked;
 
-/// The code of a checked script, for the machine whose table it is. `StackDepth` comes exactly where the script
-/// needs a stack of more than 16 values, and `TooLong` exactly where it doesn't but its code takes more than
-/// `CODE_MAX` bytes. It takes no memory. One pass measures the script; only code that has room is written.
+/// The code of a checked script, for the machine that the table is of. `StackDepth` comes exactly if the script needs
+/// a stack of more than 16 values, and `TooLong` exactly if it doesn't but its code takes more than `CODE_MAX` bytes.
+/// It takes no memory. One pass measures the script; code is written only if it fits.
 pub fn compile(table: &Table, script: &Checked) -> Result<Code, CompileFault>
     requires { table.now ≡ table_of (checked_shape script.now) }
-    ensures gives { Compiles (checked_shape script.now) (tree_of script.now) result }
+    ensures gives { Compiles (checked_shape script.now) (checked_tree script.now) result }
 
     // The bytes spell the instructions of the script's code, each at its place.
-    ensures decodes { IfOk result (λ code. decoded table.now code.items ≡ Ok (code_of (tree_of script.now))) }
+    ensures decodes { IfOk result (λ code. decoded table.now code.items ≡ Ok (code_of (checked_tree script.now))) }
 
     // They are verified, with the depth of the stack at each place.
-    ensures verified { IfOk result (λ code. AreAccepted (checked_shape script.now) (tree_of script.now) code) }
+    ensures verified { IfOk result (λ code. AreAccepted (checked_shape script.now) (checked_tree script.now) code) }
 
-    // The code runs as the script, and uses what the script uses.
-    ensures runs { IfOk result (λ _. RunsAsItsScript (checked_shape script.now) (tree_of script.now)) }
-    ensures uses { UsesAsItsScript (checked_shape script.now) (tree_of script.now) }
+    // The code runs as the script does, and uses what the script uses.
+    ensures runs { IfOk result (λ _. RunsAsItsScript (checked_shape script.now) (checked_tree script.now)) }
+    ensures uses { UsesAsItsScript (checked_shape script.now) (checked_tree script.now) }
 {
     code_is_encodable();
     code_is_verified();

@@ -3,9 +3,9 @@
 ghost use Rattle.std.specs.Prelude.{◌≡◌, ◌≤◌, ◌∷◌, ◌++◌, []};
 ghost use Rattle.mate_num.specs.declared.bounds.TheConstants.{CODE_MAX};
 ghost use Rattle.mate_code.specs.declared.instr.Instr.TheVariants.{Add, BSet, BTake, Drop, Fun};
-ghost use Rattle.ts_syntax.specs.Expression.{arguments};
-ghost use Rattle.ts_syntax.specs.Statement.{If, For, While};
-ghost use Rattle.ts_syntax.specs.TreeOf.{expr_tree, args_trees, stmt_tree, block_tree};
+ghost use Rattle.ts_checked.specs.Expression.{arguments};
+ghost use Rattle.ts_checked.specs.Statement.{If, For, While};
+ghost use Rattle.ts_checked.specs.TreeOf.{expr_tree, args_trees, stmt_tree, block_tree};
 ghost use Rattle.ts_meaning.specs.Translation.{size_of_instrs, get_code, set_code, expr_code, args_code, stmt_code, block_code, for_test};
 ghost use Rattle.ts_meaning.specs.Translation.{script_code, script_size};
 ghost use Rattle.ts_compiler.specs.Parts.{HasRoom, WritesInstrs, guarded_code, head_code, other_code};
@@ -16,7 +16,7 @@ use arrayvec::ArrayVec;
 use mate_code::Instr;
 use mate_num::{BufId, CODE_MAX, FunId};
 use std::marker::Model;
-use ts_syntax::{CArgs, CBlock, CExpr, CForHead, CStmt, CVar};
+use ts_checked::{CArgs, CBlock, CExpr, CForHead, CStmt, CVar};
 
 // How many bytes a jump takes.
 const JUMP: u16 = 3;
@@ -43,7 +43,7 @@ impl Model for Emitter {
 }
 
 impl Emitter {
-    /// The instructions of a script whose code has room.
+    /// The instructions of a script whose code fits.
     pub(crate) fn of(body: &CBlock) -> Emitter
         requires { script_size (block_tree body.now) ≤ CODE_MAX }
         ensures { result ≡ script_code (block_tree body.now) }
@@ -115,7 +115,7 @@ impl Emitter {
         }
     }
 
-    // An expression, and an instruction that takes its value.
+    // Writes an expression, and an instruction that takes its value.
     #[cycle(expr)]
     fn expr_then(&mut self, expr: &CExpr, instr: Instr)
         requires { HasRoom self.old (expr_code (expr_tree expr.now) ++ instr ∷ []) }
@@ -125,7 +125,7 @@ impl Emitter {
         self.push(instr);
     }
 
-    // A call: its arguments from left to right, and the function.
+    // Writes a call: its arguments from left to right, and the function.
     #[cycle(expr)]
     fn call(&mut self, fun: FunId, args: &CArgs)
         requires { HasRoom self.old (args_code (arguments (args_trees args.now)) ++ Fun fun ∷ []) }
@@ -170,7 +170,7 @@ impl Emitter {
         }
     }
 
-    // Two instructions.
+    // Writes two instructions.
     fn both(&mut self, first: Instr, second: Instr)
         requires { HasRoom self.old (first ∷ second ∷ []) }
         ensures { WritesInstrs self.old (first ∷ second ∷ []) self.new }
@@ -197,7 +197,7 @@ impl Emitter {
         self.both(Instr::BTake(buffer), set);
     }
 
-    // A call whose result is dropped.
+    // Writes a call whose result is dropped.
     fn call_alone(&mut self, fun: FunId, args: &CArgs)
         requires { let call = args_code (arguments (args_trees args.now)) ++ Fun fun ∷ [] in
             HasRoom self.old (call ++ Drop ∷ []) }
@@ -208,7 +208,7 @@ impl Emitter {
         self.push(Instr::Drop);
     }
 
-    // A test, and a part that runs where it is true: else it goes on so many bytes behind the part.
+    // Writes a test, and a part that runs if it holds; else the run goes on `behind` bytes after the part.
     #[cycle(stmt)]
     fn guarded(&mut self, body: &CBlock, test: &CExpr, behind: u16)
         requires room { let test = expr_tree test.now in
@@ -223,7 +223,7 @@ impl Emitter {
         self.block(body);
     }
 
-    // A part that is passed by.
+    // Writes a part that is jumped over.
     #[cycle(stmt)]
     fn otherwise(&mut self, other: &CBlock)
         requires { HasRoom self.old (other_code (size_of_instrs self.old) (block_tree other.now)) }
@@ -277,7 +277,7 @@ impl Emitter {
         self.push(Instr::Back(test));
     }
 
-    // The first value of a `for`, and its test, whose place this is.
+    // Writes the first value of a `for`, and its test, whose place it returns.
     fn for_head(&mut self, head: &CForHead) -> u16
         requires { let from = expr_tree head.now.from in
             HasRoom self.old (head_code head.now.var from (expr_tree head.now.to) head.now.step) }
@@ -295,7 +295,7 @@ impl Emitter {
         test
     }
 
-    // The variable of a `for` takes its step.
+    // Adds the step of a `for` to its variable.
     fn step(&mut self, variable: CVar, step: Instr)
         requires { HasRoom self.old (get_code variable ∷ step ∷ Add ∷ set_code variable ∷ []) }
         ensures { WritesInstrs self.old (get_code variable ∷ step ∷ Add ∷ set_code variable ∷ []) self.new }

@@ -1,21 +1,21 @@
-//! How much a part of a script takes: bytes of code, and values on the stack.
+//! How much a part of a script takes: bytes of code, and places on the stack.
 
 ghost use Rattle.std.specs.Prelude.{◌≡◌, ◌+◌, ◌≤◌, max};
 ghost use Rattle.mate_num.specs.declared.bounds.TheConstants.{CODE_MAX};
 ghost use Rattle.mate_code.specs.Instr.{size_of};
-ghost use Rattle.ts_syntax.specs.Expression.{arguments};
-ghost use Rattle.ts_syntax.specs.TreeOf.{expr_tree, args_trees, stmt_tree, block_tree};
+ghost use Rattle.ts_checked.specs.Expression.{arguments};
+ghost use Rattle.ts_checked.specs.TreeOf.{expr_tree, args_trees, stmt_tree, block_tree};
 ghost use Rattle.ts_meaning.specs.Translation.{size_of_instrs, args_code, args_need, expr_size, expr_need, stmt_size, stmt_need};
 ghost use Rattle.ts_meaning.specs.Translation.{block_size, block_need, script_size, script_need, number_code};
 ghost use Rattle.ts_compiler.specs.Parts.{capped};
 
 use crate::words::number_size;
-use ts_syntax::{CArgs, CBlock, CExpr, CForHead, CStmt};
+use ts_checked::{CArgs, CBlock, CExpr, CForHead, CStmt};
 
-/// Where the numbers of an extent stop.
+/// The numbers of an extent stop here.
 pub(crate) const CAP: u32 = 1_000_000_000;
 
-/// The bytes that code takes, and the values that it needs room for on the stack.
+/// The bytes that code takes, and the number of values on the stack that it needs room for.
 #[derive(Clone, Copy)]
 pub(crate) struct Extent {
     pub(crate) size: u32,
@@ -37,7 +37,7 @@ impl Extent {
         Extent { size: 0, need: 0 }
     }
 
-    // Code of so many bytes that leaves one value.
+    // Code of `size` bytes that leaves one value.
     fn one(size: u32) -> Extent
         ensures size { result.size ≡ size }
         ensures need { result.need ≡ 1 }
@@ -45,7 +45,7 @@ impl Extent {
         Extent { size, need: 1 }
     }
 
-    // The other part follows this one.
+    // This part, and then the other.
     fn then(self, other: Extent) -> Extent
         ensures size { result.size ≡ capped (self.size + other.size) }
         ensures need { result.need ≡ max self.need other.need }
@@ -56,7 +56,7 @@ impl Extent {
         }
     }
 
-    // So many bytes follow that need no more room.
+    // This part, and then `bytes` bytes of code that need no more room.
     fn with(self, bytes: u32) -> Extent
         ensures size { result.size ≡ capped (self.size + bytes) }
         ensures need { result.need ≡ self.need }
@@ -67,7 +67,7 @@ impl Extent {
         }
     }
 
-    // The part works above so many values.
+    // The part, run above `values` others on the stack.
     fn above(self, values: u32) -> Extent
         ensures size { result.size ≡ self.size }
         ensures need { result.need ≡ capped (self.need + values) }
@@ -78,7 +78,7 @@ impl Extent {
         }
     }
 
-    // The part needs at least so many values.
+    // The part, with a need of at least `values`.
     fn at_least(self, values: u32) -> Extent
         ensures size { result.size ≡ self.size }
         ensures need { result.need ≡ max values self.need }
@@ -196,7 +196,7 @@ pub(crate) fn block_extent(block: &CBlock) -> Extent
     extent
 }
 
-/// The size of a block whose code has room in a machine.
+/// The size of a block whose code fits a machine.
 pub(crate) fn small_block_size(block: &CBlock) -> u16
     requires { block_size (block_tree block.now) ≤ CODE_MAX }
     ensures size { result ≡ block_size (block_tree block.now) }

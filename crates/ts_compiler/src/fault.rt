@@ -3,8 +3,8 @@
 /// Why a script has no code. Numbers stop at 1,000,000,000, which no source within the parser's limits reaches.
 #[derive(Clone, Copy)]
 pub enum CompileFault {
-    /// The script needs a stack of `need` values, and a machine has 16.
+    /// The script needs a stack of `need` values, but a machine has 16.
     StackDepth { need: u32 },
-    /// Its code takes `size` bytes, more than `CODE_MAX`. It comes after `StackDepth`.
+    /// Its code takes `size` bytes, more than `CODE_MAX`. It is tested after `StackDepth`.
     TooLong { size: u32 },
 }

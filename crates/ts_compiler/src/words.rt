@@ -5,9 +5,9 @@ ghost use Rattle.mate_code.specs.Instr.{size_of};
 ghost use Rattle.ts_meaning.specs.Translation.{number_code, get_code, set_code, operator_code, within_code};
 
 use mate_code::Instr;
-use ts_syntax::{BinOp, CVar};
+use ts_checked::{BinOp, CVar};
 
-/// Pushes a number: in one byte where it goes from 0 to 255, and else in two.
+/// Pushes a number: by one byte if it is from 0 to 255, else by two.
 pub(crate) fn number_instr(value: i16) -> Instr
     ensures { result ≡ number_code value }
 {
@@ -18,7 +18,7 @@ pub(crate) fn number_instr(value: i16) -> Instr
     }
 }
 
-/// How many bytes it takes to push a number.
+/// How many bytes the instruction takes that pushes a number.
 pub(crate) fn number_size(value: i16) -> u16
     ensures size { result ≡ size_of (number_code value) }
     ensures fits { result ≤ 3 }
@@ -64,7 +64,7 @@ pub(crate) fn operator_instr(op: BinOp) -> Instr
     }
 }
 
-/// Tests that the variable of a `for` isn't beyond its limit.
+/// Tests that the variable of a `for` isn't past its limit.
 pub(crate) fn within_instr(step: i16) -> Instr
     ensures { result ≡ within_code step }
 {

@@ -1,4 +1,4 @@
--- Reading expressions: the tokens that the states take, and where two states take the next token alike.
+-- Reading expressions: the tokens that the states take, and when two states take the next token alike.
 use Rattle.std.proofs.Common.{◌≡◌, ℕ, List, [], ◌∷◌, ◌++◌, Some, None, Result, Err, Bor, refl, sym, ◌∙◌, ap}
 use Rattle.std.specs.declared.alloc.Global.{Global}
 use Rattle.std.specs.declared.boxed.Box.{Box}

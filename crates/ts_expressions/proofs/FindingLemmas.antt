@@ -11,8 +11,8 @@ use Rattle.ts_syntax.specs.declared.halt.Halt.TheVariants as halt
 use Rattle.ts_syntax.specs.Machine.{Operand, in_product, Product, first_product, in_sum, Sum, sum_due, Inverse, inverse_due, in_compare, in_and, Conjunction, first_and, in_or, in_paren, in_item, in_message, Whole, State, sized, size_opened, size_named, want, want_inverse, expr_due, give, have_product, have_sum, have_inverse, have_and, have}
 use Rattle.ts_syntax.proofs.Parts.{starts_shorter}
 use Rattle.ts_syntax.proofs.Turns.{inverse_is_next}
-use Rattle.ts_syntax.specs.declared.bin_op.BinOp.{BinOp}
-use Rattle.ts_syntax.specs.declared.bin_op.BinOp.TheVariants as op
+use Rattle.ts_checked.specs.declared.bin_op.BinOp.{BinOp}
+use Rattle.ts_checked.specs.declared.bin_op.BinOp.TheVariants as op
 use Rattle.ts_syntax.specs.declared.expr.Expr.{Expr}
 use Rattle.ts_syntax.specs.declared.token.Token.{Token}
 use Rattle.ts_syntax.specs.declared.token.TokenKind.{TokenKind}

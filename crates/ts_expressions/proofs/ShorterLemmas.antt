@@ -1,4 +1,4 @@
--- A part begins with no more tokens than the whole, and tells nothing of what is left where it stops.
+-- A part begins with no more tokens than the whole, and says nothing of what is left if it stops.
 use Rattle.std.proofs.Common.{◌≡◌, ℕ, ◌+◌, ◌*◌, ◌<◌, ◌≤◌, Result, Ok, Err, IfOk, List, length, Bor, ◌∷◌, ap, lt_trans, lt_of_le_of_lt, le_of_lt, arith}
 use Rattle.std.specs.Result.{IsErrAnd}
 use Rattle.ts_syntax.specs.declared.token.Token.{Token}

@@ -1,4 +1,4 @@
--- Where the machine stops, as a part of the parser does: at a token that is missing, or for want of memory.
+-- When the machine stops, as a part of the parser does: at a token that is missing, or because memory ran out.
 use Rattle.std.proofs.Common.{◌≡◌, ℕ, List, None, Result, Ok, Err, Bor, refl, sym, subst}
 use Rattle.std.specs.Result.{IsErrAnd}
 use Rattle.ts_syntax.specs.declared.token.Token.{Token}

@@ -12,13 +12,15 @@ use crate::node::{
     buffer_size, call, inverse, item, message_item, message_size, negative, number, paren, variable,
 };
 use std::alloc::Global;
+use ts_checked::BinOp;
 use ts_syntax::expect::{
     after, after_comparison_sign, after_product_sign, after_sum_sign, ended, expect, name,
 };
-use ts_syntax::{Args, BinOp, Expr, Halt, Token, TokenKind, Word};
+use ts_syntax::{Args, Expr, Halt, Token, TokenKind, Word};
 
-/// Reads an expression, with all the operators that follow its parts: it, and the tokens behind it, of which the first is
-/// no `or`. It stops at the first token that doesn't fit, or behind all tokens where they end too early.
+/// Reads an expression, with all the operators that follow its parts: the expression, and the tokens after it, of
+/// which the first is no `or`. It stops at the first token that doesn't fit, or after all tokens if they end too
+/// early.
 pub fn expr<'a>(alloc: Global, tokens: &'a [Token]) -> Result<(Expr, &'a [Token]), Halt<'a>>
     ensures reads { Reads {K = Whole} tokens.now (λ k. expr_due k) (λ e k. have (tree_of e) k) result }
     ensures over { IfOk result (λ x. Lacks kind.Or x.1.now) }
@@ -44,8 +46,8 @@ fn disjunction<'a>(alloc: Global, tokens: &'a [Token]) -> Found<'a>
     Ok((left, rest))
 }
 
-/// Reads the arguments of a call, from behind its `(` up to and with its `)`: they, and the tokens behind them. It stops at
-/// the first token that doesn't fit, or behind all tokens where they end too early.
+/// Reads the arguments of a call, from after its `(` up to and including its `)`: the arguments, and the tokens after
+/// them. It stops at the first token that doesn't fit, or after all tokens if they end too early.
 #[cycle(expr)]
 pub fn arguments<'a>(alloc: Global, tokens: &'a [Token]) -> Result<(Args, &'a [Token]), Halt<'a>>
     ensures reads { Reads {K = Caller} tokens.now (λ k. called_open k) (λ es k. called k (trees_of es)) result }
@@ -141,7 +143,7 @@ fn product<'a>(alloc: Global, tokens: &'a [Token]) -> Found<'a>
     Ok((left, rest))
 }
 
-/// Reads what binds tightest, or `-` before it.
+/// Reads a literal, a name with what follows it, `size`, `msg` or parentheses, or `-` before one of these.
 #[cycle(expr)]
 fn operand<'a>(alloc: Global, tokens: &'a [Token]) -> Found<'a>
     ensures reads { Reads {K = Operand} tokens.now (λ k. want k) (λ e k. give k (boxed_tree e)) result }
@@ -170,7 +172,7 @@ fn operand<'a>(alloc: Global, tokens: &'a [Token]) -> Found<'a>
     }
 }
 
-/// Reads on behind a name: a call, a buffer's item, or a variable where neither follows.
+/// Reads on after a name: a call, a buffer's item, or a variable if neither follows.
 #[cycle(expr)]
 fn behind_name<'a>(alloc: Global, word: Word, tokens: &'a [Token]) -> Found<'a>
     ensures reads { Reads {K = Operand} tokens.now (λ k. named word k) (λ e k. give k (boxed_tree e)) result }
@@ -186,7 +188,7 @@ fn behind_name<'a>(alloc: Global, word: Word, tokens: &'a [Token]) -> Found<'a>
     made(variable(alloc, word), tokens)
 }
 
-/// Reads on behind a buffer's name and `[`: the item's index, and `]`.
+/// Reads on after a buffer's name and `[`: the item's index, and `]`.
 #[cycle(expr)]
 fn behind_open_box<'a>(alloc: Global, buffer: Word, tokens: &'a [Token]) -> Found<'a>
     ensures reads { Reads {K = Operand} tokens.now (λ k. expr_due (in_item buffer k)) (λ e k. give k (boxed_tree e)) result }
@@ -196,7 +198,7 @@ fn behind_open_box<'a>(alloc: Global, buffer: Word, tokens: &'a [Token]) -> Foun
     made(item(alloc, buffer, index), rest)
 }
 
-/// Reads on behind `msg`: an index in `[` and `]`.
+/// Reads on after `msg`: an index in `[` and `]`.
 #[cycle(expr)]
 fn behind_message<'a>(alloc: Global, tokens: &'a [Token]) -> Found<'a>
     ensures reads { Reads {K = Operand} tokens.now (λ k. message k) (λ e k. give k (boxed_tree e)) result }
@@ -207,7 +209,7 @@ fn behind_message<'a>(alloc: Global, tokens: &'a [Token]) -> Found<'a>
     made(message_item(alloc, index), rest)
 }
 
-/// Reads on behind `(`: an expression, and `)`.
+/// Reads on after `(`: an expression, and `)`.
 #[cycle(expr)]
 fn behind_open<'a>(alloc: Global, tokens: &'a [Token]) -> Found<'a>
     ensures reads { Reads {K = Operand} tokens.now (λ k. expr_due (in_paren k)) (λ e k. give k (boxed_tree e)) result }
@@ -217,7 +219,7 @@ fn behind_open<'a>(alloc: Global, tokens: &'a [Token]) -> Found<'a>
     made(paren(alloc, of), rest)
 }
 
-/// Reads on behind `size`: a buffer's name or `msg`, in parentheses.
+/// Reads on after `size`: a buffer's name or `msg`, in parentheses.
 fn size<'a>(alloc: Global, tokens: &'a [Token]) -> Found<'a>
     ensures reads { Reads {K = Operand} tokens.now (λ k. sized k) (λ e k. give k (boxed_tree e)) result }
     ensures shorter { IfOk result (λ x. length x.1.now < length tokens.now) }
@@ -226,7 +228,7 @@ fn size<'a>(alloc: Global, tokens: &'a [Token]) -> Found<'a>
     ended(size_of(alloc, rest), &TokenKind::Close)
 }
 
-/// Reads what `size` is asked of: a buffer's name, or `msg`.
+/// Reads what `size` is applied to: a buffer's name, or `msg`.
 fn size_of<'a>(alloc: Global, tokens: &'a [Token]) -> Found<'a>
     ensures reads { Reads {K = Operand} tokens.now (λ k. size_opened k) (λ e k. size_named (boxed_tree e) k) result }
     ensures shorter { IfOk result (λ x. length x.1.now < length tokens.now) }

@@ -1,16 +1,17 @@
-//! What a part of the parser found: as a new node, and beside another part.
+//! What a part of the parser found: as a new node, and together with another part.
 
 ghost use Rattle.ts_expressions.specs.Boxed.{boxed_tree};
 ghost use Rattle.ts_expressions.specs.Finding.{Made, Joined};
 
 use crate::node::two;
 use std::alloc::{AllocError, Global};
-use ts_syntax::{BinOp, Expr, Halt, Token};
+use ts_checked::BinOp;
+use ts_syntax::{Expr, Halt, Token};
 
-/// What a part of the parser found, and the tokens behind it. It is boxed at once, so that what recurs needs little stack.
+/// What a part of the parser found, and the tokens after it. It is boxed at once, so that recursive functions need little stack.
 pub type Found<'a> = Result<(Box<Expr>, &'a [Token]), Halt<'a>>;
 
-/// A node that was made, and the tokens behind it.
+/// A node that was made, and the tokens after it.
 pub fn made<'a>(node: Result<Box<Expr>, AllocError>, rest: &'a [Token]) -> Found<'a>
     ensures { Made node rest.now result }
 {

@@ -1,5 +1,5 @@
-//! The nodes of expressions, each made of its parts and boxed. They stay calls of their own: a node is large, and the parser
-//! that calls them recurs.
+//! The nodes of expressions, each made of its parts and boxed. They aren't inlined: a node is large, and the parser
+//! that calls them is recursive.
 
 ghost use Rattle.std.specs.Prelude.{◌≡◌, IfOk};
 ghost use Rattle.ts_expressions.specs.Boxed.{boxed_tree};
@@ -7,7 +7,8 @@ ghost use Rattle.ts_syntax.specs.Tree.{number, variable, size, message_size, cal
 ghost use Rattle.ts_syntax.specs.Seen.{trees_of};
 
 use std::alloc::{AllocError, Global};
-use ts_syntax::{Args, BinOp, Expr, Word};
+use ts_checked::BinOp;
+use ts_syntax::{Args, Expr, Word};
 
 #[inline(never)]
 pub fn number(alloc: Global, value: u16) -> Result<Box<Expr>, AllocError>

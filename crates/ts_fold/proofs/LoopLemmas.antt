@@ -2,26 +2,26 @@
 use Rattle.std.proofs.Common.{◌≡◌, ℕ, ◌+◌, ◌<◌, ◌≤◌, List, [], ◌∷◌, ◌++◌, length, map, drop, get_or, ℤ, Bool, true, false, Option, Some, None, Result, Ok, Err, refl, ap, sym, subst, ◌∙◌, append_assoc}
 use Rattle.std.specs.Prelude.{IfOk, OnOk}
 use Rattle.std.proofs.lemmas.List.{drop_all, append-nil}
-use Rattle.ts_syntax.specs.Expression.{Expression, Arguments, no_arguments, argument, arguments, Call, Neg, Not, Two}
-use Rattle.ts_syntax.specs.Statement.{Statement, Block, block, If, IfElse, For, While}
-use Rattle.ts_syntax.specs.TreeOf.{expr_step, args_step, expr_tree, args_trees, stmt_step, block_step, stmt_tree, block_trees, block_tree}
+use Rattle.ts_checked.specs.Expression.{Expression, Arguments, no_arguments, argument, arguments, Call, Neg, Not, Two}
+use Rattle.ts_checked.specs.Statement.{Statement, Block, block, If, IfElse, For, While}
+use Rattle.ts_checked.specs.TreeOf.{expr_step, args_step, expr_tree, args_trees, stmt_step, block_step, stmt_tree, block_trees, block_tree}
 use Rattle.std.specs.declared.alloc.Global.{Global}
 use Rattle.std.specs.declared.boxed.Box.{Box}
 use Rattle.mate_num.specs.declared.id.FunId.{FunId}
-use Rattle.ts_syntax.specs.declared.bin_op.BinOp.{BinOp}
-use Rattle.ts_syntax.specs.declared.checked_expr.CArgs.{CArgs}
-use Rattle.ts_syntax.specs.declared.checked_expr.CExpr.{CExpr}
-use Rattle.ts_syntax.specs.declared.checked_expr.CExpr.TheFolds.{fold-roll-CExpr}
-use Rattle.ts_syntax.specs.declared.checked_expr.CExpr.TheOpen.{CExpr-F}
-use Rattle.ts_syntax.specs.declared.checked_expr.CExpr.TheVariants as expr
-use Rattle.ts_syntax.specs.declared.checked_stmt.CBlock.{CBlock}
-use Rattle.ts_syntax.specs.declared.checked_stmt.CForHead.{CForHead}
-use Rattle.ts_syntax.specs.declared.checked_stmt.CVar.{CVar}
-use Rattle.ts_syntax.specs.declared.checked_stmt.CStmt.TheFolds.{fold-roll-CStmt}
-use Rattle.ts_syntax.specs.declared.checked_stmt.CStmt.TheOpen.{CStmt-F}
-use Rattle.ts_syntax.specs.declared.checked_stmt.CStmt.TheVariants as stmt
-use Rattle.ts_syntax.specs.declared.checked_stmt.CStmt.{CStmt}
-use Rattle.ts_syntax.proofs.ListLemmas.{drop_item}
+use Rattle.ts_checked.specs.declared.bin_op.BinOp.{BinOp}
+use Rattle.ts_checked.specs.declared.checked_expr.CArgs.{CArgs}
+use Rattle.ts_checked.specs.declared.checked_expr.CExpr.{CExpr}
+use Rattle.ts_checked.specs.declared.checked_expr.CExpr.TheFolds.{fold-roll-CExpr}
+use Rattle.ts_checked.specs.declared.checked_expr.CExpr.TheOpen.{CExpr-F}
+use Rattle.ts_checked.specs.declared.checked_expr.CExpr.TheVariants as expr
+use Rattle.ts_checked.specs.declared.checked_stmt.CBlock.{CBlock}
+use Rattle.ts_checked.specs.declared.checked_stmt.CForHead.{CForHead}
+use Rattle.ts_checked.specs.declared.checked_stmt.CVar.{CVar}
+use Rattle.ts_checked.specs.declared.checked_stmt.CStmt.TheFolds.{fold-roll-CStmt}
+use Rattle.ts_checked.specs.declared.checked_stmt.CStmt.TheOpen.{CStmt-F}
+use Rattle.ts_checked.specs.declared.checked_stmt.CStmt.TheVariants as stmt
+use Rattle.ts_checked.specs.declared.checked_stmt.CStmt.{CStmt}
+use Rattle.ts_checked.proofs.ListLemmas.{drop_item}
 use Rattle.ts_fold.specs.Folded.{negation, inverse, operation, decision, branch_left, if_left, if_else_left, folded_expr, folded_args, folded_stmt, folded_stmts}
 
 -- arguments behind others

@@ -4,11 +4,11 @@ use Rattle.std.specs.Option.{option_map, option_and_then}
 use Rattle.std.specs.Result.{result_ok}
 use Rattle.mate_num.specs.Number.{is_truth}
 use Rattle.mate_num.specs.Operators.{negative_of, not_of}
-use Rattle.ts_syntax.specs.Expression.{Expression, Arguments, no_arguments, argument, Num, Shared, Private, Item, Size, MsgItem, MsgSize}
-use Rattle.ts_syntax.specs.Expression.{Call, SendBuf, Neg, Not, Two}
-use Rattle.ts_syntax.specs.Statement.{Statement, Block, no_statements, statement, block, Set, SetItem, Append, Take, Clear, Do, DoSend, If}
-use Rattle.ts_syntax.specs.Statement.{IfElse, For, While}
-use Rattle.ts_syntax.specs.declared.bin_op.BinOp.{BinOp}
+use Rattle.ts_checked.specs.Expression.{Expression, Arguments, no_arguments, argument, Num, Shared, Private, Item, Size, MsgItem, MsgSize}
+use Rattle.ts_checked.specs.Expression.{Call, SendBuf, Neg, Not, Two}
+use Rattle.ts_checked.specs.Statement.{Statement, Block, no_statements, statement, block, Set, SetItem, Append, Take, Clear, Do, DoSend, If}
+use Rattle.ts_checked.specs.Statement.{IfElse, For, While}
+use Rattle.ts_checked.specs.declared.bin_op.BinOp.{BinOp}
 use Rattle.ts_meaning.specs.Meaning.{applied}
 
 -- the number that an expression is

@@ -1,14 +1,14 @@
 //! Expressions: an operation whose operands are numbers becomes its value.
 
 ghost use Rattle.std.specs.Prelude.{◌≡◌, IfOk};
-ghost use Rattle.ts_syntax.specs.Expression.{arguments};
-ghost use Rattle.ts_syntax.specs.TreeOf.{expr_tree, args_trees};
+ghost use Rattle.ts_checked.specs.Expression.{arguments};
+ghost use Rattle.ts_checked.specs.TreeOf.{expr_tree, args_trees};
 ghost use Rattle.ts_fold.specs.Folded.{literal_of, negated, inverted, operated, negation, inverse, operation, folded_expr, folded_args};
 
 use mate_num::{NoMemory, Num16};
 use std::alloc::Global;
+use ts_checked::{BinOp, CArgs, CExpr};
 use ts_meaning::apply;
-use ts_syntax::{BinOp, CArgs, CExpr};
 
 /// An expression, folded.
 #[cycle(expression)]
@@ -53,7 +53,7 @@ pub(crate) fn arguments(alloc: Global, args: &CArgs) -> Result<CArgs, NoMemory>
     Ok(folded)
 }
 
-/// The number that an expression is.
+/// The number that an expression is; None unless it is a number.
 pub(crate) fn number(expr: &CExpr) -> Option<i16>
     ensures { result ≡ literal_of (expr_tree expr.now) }
 {
@@ -73,7 +73,7 @@ pub(crate) fn number(expr: &CExpr) -> Option<i16>
     }
 }
 
-// `-e`, where `of` is folded.
+// `-e`, with `of` folded.
 fn negation(alloc: Global, of: CExpr) -> Result<CExpr, NoMemory>
     ensures { IfOk result (λ e. expr_tree e ≡ negation (expr_tree of)) }
 {
@@ -83,7 +83,7 @@ fn negation(alloc: Global, of: CExpr) -> Result<CExpr, NoMemory>
     }
 }
 
-// `not e`, where `of` is folded.
+// `not e`, with `of` folded.
 fn inverse(alloc: Global, of: CExpr) -> Result<CExpr, NoMemory>
     ensures { IfOk result (λ e. expr_tree e ≡ inverse (expr_tree of)) }
 {
@@ -93,7 +93,7 @@ fn inverse(alloc: Global, of: CExpr) -> Result<CExpr, NoMemory>
     }
 }
 
-// `left op right`, where both are folded.
+// `left op right`, with both folded.
 fn operation(alloc: Global, op: BinOp, left: CExpr, right: CExpr) -> Result<CExpr, NoMemory>
     ensures { IfOk result (λ e. expr_tree e ≡ operation op (expr_tree left) (expr_tree right)) }
 {
@@ -118,7 +118,7 @@ fn inverted(number: Option<i16>) -> Option<i16>
     Some(Num16(number?).not().0)
 }
 
-// The operator's value; none where it gives a fault.
+// The operator's value; None if an operand is no number or the operator faults.
 fn operated(op: BinOp, left: Option<i16>, right: Option<i16>) -> Option<i16>
     ensures { result ≡ operated op left right }
 {

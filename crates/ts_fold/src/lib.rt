@@ -1,4 +1,4 @@
-//! Folding a checked TinyScript script before it is compiled: what its numbers decide is decided once.
+//! Folding a checked TinyScript script before it is compiled: what depends only on its numbers is computed once.
 #![tactic(auto)]
 
 pub mod expressions;

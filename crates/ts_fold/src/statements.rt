@@ -1,15 +1,15 @@
-//! Statements: what is left of them goes into the block that they stand in.
+//! Statements: what is left of them goes into the block that they are in.
 
 ghost use Rattle.std.specs.Prelude.{◌≡◌, ◌++◌, OnOk, IfOk};
-ghost use Rattle.ts_syntax.specs.Expression.{arguments};
-ghost use Rattle.ts_syntax.specs.Statement.{Set, SetItem, Append, Do, If, For, While};
-ghost use Rattle.ts_syntax.specs.TreeOf.{expr_tree, args_trees, stmt_tree, block_trees, block_tree};
+ghost use Rattle.ts_checked.specs.Expression.{arguments};
+ghost use Rattle.ts_checked.specs.Statement.{Set, SetItem, Append, Do, If, For, While};
+ghost use Rattle.ts_checked.specs.TreeOf.{expr_tree, args_trees, stmt_tree, block_trees, block_tree};
 ghost use Rattle.ts_fold.specs.Folded.{decision, folded_expr, folded_stmt, folded_stmts};
 
 use crate::expressions::{arguments, expression, number};
 use mate_num::{BufId, FunId, NoMemory};
 use std::alloc::Global;
-use ts_syntax::{CArgs, CBlock, CExpr, CForHead, CStmt, CVar};
+use ts_checked::{CArgs, CBlock, CExpr, CForHead, CStmt, CVar};
 
 /// A block, folded.
 #[cycle(block)]
@@ -155,7 +155,7 @@ fn for_head(alloc: Global, head: &CForHead) -> Result<CForHead, NoMemory>
     })
 }
 
-// Whether a test holds, where it is a number.
+// Whether a test holds, if it is a number.
 fn decision(test: &CExpr) -> Option<bool>
     ensures { result ≡ decision (expr_tree test.now) }
 {

@@ -1,7 +1,7 @@
 -- Tokens that a script spells note as many places as the script keeps.
 use Rattle.std.proofs.Common.{◌≡◌, ℕ, suc, ◌+◌, Bool, true, false, List, [], ◌∷◌, ◌++◌, length, Option, Some, None, refl, sym, ◌∙◌, ap, subst, arith, length-append}
-use Rattle.ts_syntax.specs.declared.bin_op.BinOp.{BinOp}
-use Rattle.ts_syntax.specs.declared.bin_op.BinOp.TheVariants as op
+use Rattle.ts_checked.specs.declared.bin_op.BinOp.{BinOp}
+use Rattle.ts_checked.specs.declared.bin_op.BinOp.TheVariants as op
 use Rattle.ts_syntax.specs.declared.script.Decl.{Decl}
 use Rattle.ts_syntax.specs.declared.script.DeclKind.{DeclKind}
 use Rattle.ts_syntax.specs.declared.script.DeclKind.TheVariants as decl

@@ -1,4 +1,4 @@
--- What is printed of a script spells it, but for its places.
+-- What is printed of a script spells it, except for its places.
 use Rattle.std.proofs.Common.{◌≡◌, ℕ, List, length, None, sym, ◌∙◌, ap, subst}
 use Rattle.ts_syntax.specs.declared.token.TokenKind.{TokenKind}
 use Rattle.ts_syntax.specs.Tree.{Source}

@@ -19,7 +19,7 @@ pub fn tokens(alloc: Global, bytes: &[u8]) -> Result<Tokens, TokenFault>
     tokens_in(alloc, Dialect::Plain, bytes)
 }
 
-/// The tokens of a text in a dialect, or its first fault. Where a script may have procedures, `proc` and `do` are
+/// The tokens of a text in a dialect, or its first fault. If a script may have procedures, `proc` and `do` are
 /// keywords; all else is as in plain TinyScript. The text has at most 1,048,576 bytes.
 pub fn tokens_in(alloc: Global, dialect: Dialect, bytes: &[u8]) -> Result<Tokens, TokenFault>
     requires { length bytes.now ≤ FILE_MAX }
@@ -28,8 +28,8 @@ pub fn tokens_in(alloc: Global, dialect: Dialect, bytes: &[u8]) -> Result<Tokens
     Scanner::new(alloc, dialect, bytes).finish()
 }
 
-/// The first `count` tokens of a text in a dialect, or all where there are fewer, with what is left of it; or its first
-/// fault, where that stands among them. The text has at most 1,048,576 bytes.
+/// The first `count` tokens of a text in a dialect, or all if there are fewer, with what is left of the text; or its
+/// first fault, if that comes before the end of these tokens. The text has at most 1,048,576 bytes.
 pub fn first_tokens(
     alloc: Global,
     dialect: Dialect,

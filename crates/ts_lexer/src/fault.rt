@@ -3,9 +3,9 @@
 /// Why a text has no tokens. A place is counted in bytes from the start of the text.
 #[derive(Clone, Copy)]
 pub enum TokenFault {
-    /// The byte at `place` begins no token, is the 17th of a name, or is a letter or `_` directly behind a literal.
+    /// The byte at `place` begins no token, is the 17th of a name, or is a letter or `_` directly after a literal.
     BadByte { place: u32 },
-    /// The literal whose first digit stands at `place` has a value over 65535.
+    /// The literal whose first digit is at `place` has a value over 65535.
     BigLiteral { place: u32 },
     /// Memory was refused.
     NoMemory,

@@ -10,10 +10,10 @@ ghost use Rattle.ts_syntax.specs.Spelling.{source_spelled};
 ghost use Rattle.ts_syntax.specs.Text.{text_of};
 ghost use Rattle.ts_lexer.specs.Printed.{AreKinds, IsCutInto, IsTextOf, IsTextButPlaces};
 
-/// The law of printed text: tokens of kinds that some text is cut into, written with one space between two, are cut into
-/// tokens of the same kinds, and a line feed behind a text changes no token. So what `print` writes of a script that the
-/// grammar derives spells the same script but for its places, where its tokens are of such kinds and none lies too deep; and
-/// so does what it writes of a script that some text spells.
+/// The law of printed text: tokens of kinds that some text is cut into, written with one space between two, are cut
+/// into tokens of the same kinds, and a line feed after a text changes no token. So what `print` writes of a script
+/// that the grammar derives spells the same script except for its places, if its tokens are of such kinds and none is
+/// nested too deep; and so does what it writes of a script that some text spells.
 pub fn print_law()
     ensures kinds { (bytes : List ℕ) (ks : List TokenKind) → IsCutInto bytes ks → AreKinds ks }
     ensures tokens { (ks : List TokenKind) → AreKinds ks → IsCutInto (text_of ks) ks }

@@ -1,4 +1,4 @@
-//! What reads a text from the left, in one pass, and cuts it into tokens.
+//! The scanner, which reads a text from the left, in one pass, and cuts it into tokens.
 
 ghost use Rattle.std.specs.Prelude.{◌≡◌, ◌≤◌, ◌+◌, length};
 ghost use Rattle.mate_num.specs.declared.bounds.TheConstants.{FILE_MAX};
@@ -12,7 +12,7 @@ use mate_num::{Items, Name};
 use std::alloc::Global;
 use ts_syntax::{Dialect, Token, TokenKind, Tokens};
 
-// How many tokens are kept at most while a rest is only looked through.
+// How many tokens are kept at most if the rest is only tested.
 const KEPT: usize = 256;
 
 /// What is left of a text, and the tokens before it.
@@ -33,7 +33,7 @@ impl<'a> Scanner<'a> {
     ghost use Rattle.ts_lexer.specs.Spans.{BeginsWith, begins_sign};
     ghost use Rattle.ts_lexer.specs.Scanner.{due, TakesBytes, Appends, Moves, Steps, EndsScan, LooksThrough, Forgets};
 
-    /// The whole text, and no token yet.
+    /// Nothing read yet: the whole text is left.
     pub(crate) fn new(alloc: Global, dialect: Dialect, bytes: &'a [u8]) -> Scanner<'a>
         requires { length bytes.now ≤ FILE_MAX }
         ensures { due result ≡ cut_in dialect bytes.now }
@@ -46,7 +46,7 @@ impl<'a> Scanner<'a> {
         }
     }
 
-    /// The tokens that were read.
+    /// The tokens that were read so far.
     pub fn tokens(&self) -> &Tokens
         ensures { result.now ≡ self.now.tokens }
     {
@@ -71,7 +71,7 @@ impl<'a> Scanner<'a> {
         Ok(scanner.tokens)
     }
 
-    /// Looks for the first fault of what is left, and keeps few tokens of it at a time.
+    /// Looks for the first fault of what is left of the text, and keeps at most `KEPT` tokens of it at a time.
     pub fn look_through(self) -> Result<(), TokenFault>
         ensures { LooksThrough (due self.entry) result }
     {
@@ -83,7 +83,7 @@ impl<'a> Scanner<'a> {
         Ok(())
     }
 
-    /// Forgets the tokens, where there are many.
+    /// Forgets the tokens if there are many.
     fn forget(&mut self)
         ensures { Forgets self.old self.new }
     {
@@ -115,7 +115,7 @@ impl<'a> Scanner<'a> {
         self.sign()
     }
 
-    /// Passes over a blank.
+    /// Skips a blank.
     fn blank(&mut self)
         requires { BeginsWith is_blank self.old.rest.now }
         ensures { Moves self.old self.new }
@@ -123,7 +123,7 @@ impl<'a> Scanner<'a> {
         self.take(1);
     }
 
-    /// Passes over a comment. The LF behind it stays, as a blank.
+    /// Skips a comment. The LF after it stays, as a blank.
     fn comment(&mut self)
         requires { BeginsWith (λ b. b == 33) self.old.rest.now }
         ensures { Moves self.old self.new }
@@ -176,7 +176,7 @@ impl<'a> Scanner<'a> {
         self.push(kind, from)
     }
 
-    /// Takes so many bytes off the rest.
+    /// Takes `len` bytes off the rest.
     fn take(&mut self, len: usize) -> &'a [u8]
         requires { len ≤ length self.old.rest.now }
         ensures bytes { result.now ≡ take len self.old.rest.now }
@@ -188,7 +188,7 @@ impl<'a> Scanner<'a> {
         taken
     }
 
-    /// Appends the token that stands from `from` up to the rest, of a kind of the dialect.
+    /// Appends the token from `from` up to the rest, of a kind of the dialect.
     fn push(&mut self, kind: TokenKind, from: u32) -> Result<(), TokenFault>
         ensures { (plain : Kind) → kind ≡ kind_in self.old.dialect plain
             → MatchResult result (λ _. Appends self.old self.new (token plain from self.old.place)) (λ e. e ≡ TokenFault.NoMemory) }

@@ -8,14 +8,14 @@ ghost use Rattle.ts_lexer.specs.Spans.{begins, Passes, digits_value, sign_at};
 use mate_num::Name;
 use ts_syntax::{Dialect, TokenKind};
 
-/// Space, tab, CR and LF.
+/// Whether the byte is a space, a tab, CR or LF.
 pub fn is_blank(byte: u8) -> bool
     ensures { result ≡ is_blank byte }
 {
     matches!(byte, b' ' | b'\t' | b'\r' | b'\n')
 }
 
-/// A letter or `_`.
+/// Whether the byte is a letter or `_`.
 pub fn is_letter(byte: u8) -> bool
     ensures { result ≡ begins_name byte }
 {
@@ -38,7 +38,7 @@ pub fn begins_with_letter(bytes: &[u8]) -> bool
     }
 }
 
-/// How many of the first bytes can stand in a name.
+/// How many of the first bytes can be in a name.
 pub fn name_len(bytes: &[u8]) -> usize
     ensures { result ≡ prefix_len in_name bytes.now }
 {
@@ -48,7 +48,7 @@ pub fn name_len(bytes: &[u8]) -> usize
         .count()
 }
 
-/// Bytes that can stand in names, as a text. Each is ASCII, so nothing is tested when it runs.
+/// Bytes that can be in names, as a text. Each is ASCII, so nothing is tested when it runs.
 pub fn name_text(bytes: &[u8]) -> &str
     requires { Passes in_name bytes.now }
     ensures { result.now ≡ bytes.now }
@@ -63,14 +63,14 @@ pub fn digits_len(bytes: &[u8]) -> usize
     bytes.iter().take_while(|byte| is_digit(**byte)).count()
 }
 
-/// How many bytes stand before the first LF, or before the end where there is none.
+/// How many bytes come before the first LF, or before the end if there is none.
 pub fn line_len(bytes: &[u8]) -> usize
     ensures { result ≡ prefix_len (λ b. not (b == 10)) bytes.now }
 {
     bytes.iter().take_while(|byte| **byte != b'\n').count()
 }
 
-/// The value of digits; None exactly where it is over 65535.
+/// The value of digits; None exactly if it is over 65535.
 pub fn literal_value(digits: &[u8]) -> Option<u16>
     requires { Passes is_digit digits.now }
     ensures { result ≡ (if nat_lt 65535 (digits_value 0 digits.now) then None else Some (digits_value 0 digits.now)) }
@@ -82,7 +82,7 @@ pub fn literal_value(digits: &[u8]) -> Option<u16>
     Some(value)
 }
 
-/// The keyword of a dialect that a text spells, or else the name. A text is compared with the keywords of its length alone.
+/// The keyword of a dialect that a text spells, or else the name. A text is compared only with the keywords of its length.
 pub fn word(dialect: Dialect, text: &str) -> TokenKind
     requires { length text.now ≤ 16 }
     ensures { result ≡ kind_in dialect (word_kind text.now) }
@@ -186,7 +186,7 @@ fn long_word(dialect: Dialect, text: &str) -> TokenKind
     own_word(dialect, text)
 }
 
-/// What a text that is no keyword of plain TinyScript is in a dialect: where a script may have procedures, `proc` and
+/// What a text that is no keyword of plain TinyScript is in a dialect: if a script may have procedures, `proc` and
 /// `do` are keywords.
 fn own_word(dialect: Dialect, text: &str) -> TokenKind
     requires { length text.now ≤ 16 }
@@ -219,7 +219,7 @@ fn name(text: &str) -> TokenKind
     TokenKind::Name(name)
 }
 
-/// The sign that bytes begin with, and its length: the longest that fits.
+/// The sign that bytes begin with, and its length: the longest that fits. None if they begin with none.
 pub fn sign(bytes: &[u8]) -> Option<(TokenKind, usize)>
     ensures { result ≡ sign_at bytes.now }
 {
@@ -234,7 +234,7 @@ pub fn sign(bytes: &[u8]) -> Option<(TokenKind, usize)>
     }
 }
 
-/// The sign of one byte that no other byte lengthens.
+/// The sign of one byte that is no beginning of a longer one.
 fn short_sign(byte: u8) -> Option<TokenKind>
     ensures { result ≡ sign_of byte }
 {

@@ -16,14 +16,14 @@ use Rattle.mate_code.specs.Code.{code_bytes}
 use Rattle.mate_code.specs.Instr.{kind_of, size_of}
 use Rattle.mate_code.specs.Table.{Layout, table_of, IsInTable, AreInTable}
 use Rattle.mate_code.proofs.CodeLemmas.{length-code_bytes}
-use Rattle.ts_syntax.specs.Expression.{Expression, Arguments, no_arguments, argument, Num, Shared, Private, Item, Size, MsgItem, MsgSize, Call, SendBuf, Neg, Not, Two}
-use Rattle.ts_syntax.specs.Statement.{Statement, Block, no_statements, statement, Set, SetItem, Append, Take, Clear, Do, DoSend, If, IfElse, For, While}
+use Rattle.ts_checked.specs.Expression.{Expression, Arguments, no_arguments, argument, Num, Shared, Private, Item, Size, MsgItem, MsgSize, Call, SendBuf, Neg, Not, Two}
+use Rattle.ts_checked.specs.Statement.{Statement, Block, no_statements, statement, Set, SetItem, Append, Take, Clear, Do, DoSend, If, IfElse, For, While}
 use Rattle.mate_num.specs.Shapes.{is_shape}
-use Rattle.ts_syntax.specs.Right.{is_buffer, is_variable, takes, sends, is_call, is_send_of, is_right_expr, are_right, is_step, is_head, is_right_stmt, is_right_block, is_right, argument_count}
-use Rattle.ts_syntax.specs.declared.bin_op.BinOp.{BinOp}
-use Rattle.ts_syntax.specs.declared.bin_op.BinOp.TheVariants as op
-use Rattle.ts_syntax.specs.declared.checked_stmt.CVar.{CVar}
-use Rattle.ts_syntax.specs.declared.checked_stmt.CVar.TheVariants as variable
+use Rattle.ts_checked.specs.Right.{is_buffer, is_variable, takes, sends, is_call, is_send_of, is_right_expr, are_right, is_step, is_head, is_right_stmt, is_right_block, is_right, argument_count}
+use Rattle.ts_checked.specs.declared.bin_op.BinOp.{BinOp}
+use Rattle.ts_checked.specs.declared.bin_op.BinOp.TheVariants as op
+use Rattle.ts_checked.specs.declared.checked_stmt.CVar.{CVar}
+use Rattle.ts_checked.specs.declared.checked_stmt.CVar.TheVariants as variable
 use Rattle.ts_meaning.specs.Translation.{size_of_instrs, number_code, get_code, set_code, operator_code, expr_code, args_code, expr_size, stmt_size, block_size, within_code, while_body, else_begin, for_body, stmt_code, block_code, script_code, script_size}
 use Rattle.ts_meaning.specs.Laws.{IsEncodable}
 use Rattle.ts_meaning.proofs.PlaceLemmas.{bytes_of-append, bytes_of-block_code}

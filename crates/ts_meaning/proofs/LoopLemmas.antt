@@ -1,12 +1,12 @@
--- A loop is a round, and then, where it goes back, the loop again.
+-- A loop is a round, and then, if it goes back, the loop again.
 use Rattle.std.proofs.Common.{◌≡◌, ℕ, zero, suc, ◌≤◌, ◌<◌, ℤ, Bool, true, false, arith, refl, ap, ◌∙◌}
 use Rattle.std.specs.Prelude.{⊤}
 use Rattle.mate_num.specs.declared.call.End.{End}
 use Rattle.mate_num.specs.declared.call.End.TheVariants.{Fault}
 use Rattle.mate_num.specs.declared.call.FaultKind.TheVariants.{Overrun}
-use Rattle.ts_syntax.specs.Expression.{Expression}
-use Rattle.ts_syntax.specs.Statement.{Block}
-use Rattle.ts_syntax.specs.declared.checked_stmt.CVar.{CVar}
+use Rattle.ts_checked.specs.Expression.{Expression}
+use Rattle.ts_checked.specs.Statement.{Block}
+use Rattle.ts_checked.specs.declared.checked_stmt.CVar.{CVar}
 use Rattle.ts_meaning.specs.State.{ScriptState, Evaluation, Done, Over, then_do, go_back, with_turns, after_round, rounds, loop_does}
 use Rattle.ts_meaning.specs.Meaning.{value_of, run_block, while_round, for_round}
 use Rattle.ts_meaning.proofs.TurnLemmas.{turns_after, WinsNoTurn, while_round-falls, for_round-falls, value_wins_none, block_wins_none}

@@ -1,7 +1,7 @@
 -- How a part of a run that is done came about, and how many arguments a call gets.
 use Rattle.std.proofs.Common.{◌≡◌, suc, ℤ, List, [], ◌∷◌, length, refl, ap, ◌∙◌}
-use Rattle.ts_syntax.specs.Expression.{Arguments, no_arguments, argument}
-use Rattle.ts_syntax.specs.Right.{argument_count}
+use Rattle.ts_checked.specs.Expression.{Arguments, no_arguments, argument}
+use Rattle.ts_checked.specs.Right.{argument_count}
 use Rattle.ts_meaning.specs.State.{ScriptState, Evaluation, Done, Over, then_do}
 use Rattle.ts_meaning.specs.Meaning.{value_of, values_of}
 

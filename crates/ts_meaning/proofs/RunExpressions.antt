@@ -22,10 +22,10 @@ use Rattle.mate_code.specs.Effect.{Effect, Asks, asks, gives, args_in, args_of}
 use Rattle.mate_num.specs.Operators.{or_div_zero, truth_value, or_div_zero as quotient_or_fault}
 use Rattle.mate_code.specs.Instr.{size_of}
 use Rattle.mate_code.specs.Run.{Code, Run, asked as asked_of, executed, run_by}
-use Rattle.ts_syntax.specs.Expression.{Expression, Arguments, no_arguments, argument, Num, Shared, Private, Item, Size, MsgItem, MsgSize, Call, SendBuf, Neg, Not, Two}
-use Rattle.ts_syntax.specs.Right.{takes, is_buffer, is_call, argument_count, is_right_expr, are_right}
-use Rattle.ts_syntax.specs.declared.bin_op.BinOp.{BinOp}
-use Rattle.ts_syntax.specs.declared.bin_op.BinOp.TheVariants as op
+use Rattle.ts_checked.specs.Expression.{Expression, Arguments, no_arguments, argument, Num, Shared, Private, Item, Size, MsgItem, MsgSize, Call, SendBuf, Neg, Not, Two}
+use Rattle.ts_checked.specs.Right.{takes, is_buffer, is_call, argument_count, is_right_expr, are_right}
+use Rattle.ts_checked.specs.declared.bin_op.BinOp.{BinOp}
+use Rattle.ts_checked.specs.declared.bin_op.BinOp.TheVariants as op
 use Rattle.ts_meaning.specs.State.{ScriptState, Evaluation, Done, then_do, value_or_fault, call_answered, next_answer, first_ten}
 use Rattle.ts_meaning.specs.Meaning.{value_of, values_of, applied}
 use Rattle.ts_meaning.proofs.OutcomeLemmas.{values_of-length}

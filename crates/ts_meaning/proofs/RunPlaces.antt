@@ -1,4 +1,4 @@
--- Instructions that stand at a place of the code.
+-- Instructions at a place of the code.
 use Rattle.std.proofs.Common.{◌≡◌, ℕ, ◌+◌, ◌<◌, ◌++◌, List, [], ◌∷◌, Some, refl, arith, subst, eq-eqb, ne_eqb}
 use Rattle.std.specs.Prelude.{◌==◌, ⊤, false, true}
 use Rattle.mate_code.specs.declared.instr.Instr.{Instr}

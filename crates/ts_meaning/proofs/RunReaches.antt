@@ -1,4 +1,5 @@
--- A run of the code does what a part of the script does: from a place on it comes to where that part is done, or is over as the part is.
+-- A run of the code does what a part of the script does: from a place on it comes to where that part is done, or ends
+-- as the part does.
 use Rattle.std.proofs.Common.{◌≡◌, ℕ, ◌+◌, ℤ, List, Some, refl, sym, ap, ◌∙◌, subst}
 use Rattle.mate_num.specs.declared.call.End.{End}
 use Rattle.mate_num.specs.declared.shape.Shape.{Shape}

@@ -15,8 +15,8 @@ use Rattle.mate_code.specs.Run.{Code, Run, Status, Going, Over as IsOver, after,
 use Rattle.mate_code.proofs.BoundLemmas.{verified-EndsInTime}
 use Rattle.mate_code.proofs.RunLemmas.{one_end}
 use Rattle.mate_num.specs.Shapes.{is_shape}
-use Rattle.ts_syntax.specs.Right.{is_right_block, is_right}
-use Rattle.ts_syntax.specs.Statement.{Block}
+use Rattle.ts_checked.specs.Right.{is_right_block, is_right}
+use Rattle.ts_checked.specs.Statement.{Block}
 use Rattle.ts_meaning.specs.State.{ScriptState, Evaluation, Done, Over, then_do, begun_state}
 use Rattle.ts_meaning.specs.Meaning.{run_block, outcome_at, played, run_of}
 use Rattle.mate_num.specs.declared.outcome.Outcome.{Outcome}

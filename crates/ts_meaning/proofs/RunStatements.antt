@@ -14,11 +14,11 @@ use Rattle.mate_code.specs.declared.uses.Use.TheVariants.{Nothing, Changes}
 use Rattle.mate_code.specs.Effect.{Goes, changes, takes, at_place}
 use Rattle.mate_code.specs.Instr.{size_of}
 use Rattle.mate_code.specs.Run.{Code, Run, executed, run_by}
-use Rattle.ts_syntax.specs.Expression.{Expression, Call, SendBuf}
-use Rattle.ts_syntax.specs.Statement.{Statement, Block, no_statements, statement, Set, SetItem, Append, Take, Clear, Do, DoSend, If, IfElse, For, While}
-use Rattle.ts_syntax.specs.Right.{is_variable, is_buffer, is_step, is_head, is_right_expr, is_right_stmt, is_right_block}
-use Rattle.ts_syntax.specs.declared.checked_stmt.CVar.{CVar}
-use Rattle.ts_syntax.specs.declared.checked_stmt.CVar.TheVariants as variable
+use Rattle.ts_checked.specs.Expression.{Expression, Call, SendBuf}
+use Rattle.ts_checked.specs.Statement.{Statement, Block, no_statements, statement, Set, SetItem, Append, Take, Clear, Do, DoSend, If, IfElse, For, While}
+use Rattle.ts_checked.specs.Right.{is_variable, is_buffer, is_step, is_head, is_right_expr, is_right_stmt, is_right_block}
+use Rattle.ts_checked.specs.declared.checked_stmt.CVar.{CVar}
+use Rattle.ts_checked.specs.declared.checked_stmt.CVar.TheVariants as variable
 use Rattle.ts_meaning.specs.State.{ScriptState, Evaluation, Done, then_do, variable_at, with_variable, with_buffer, buffer_changed, moved, dropped, choose, round_if, loop_does}
 use Rattle.ts_meaning.specs.Meaning.{value_of, is_within, for_round, stepped, body_and_step, run_stmt, run_block}
 use Rattle.ts_meaning.proofs.LoopLemmas.{while_wins_none, for_wins_none}

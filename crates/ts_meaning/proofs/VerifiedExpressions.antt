@@ -14,10 +14,10 @@ use Rattle.mate_code.specs.declared.flow.Flow.TheVariants.{Next}
 use Rattle.mate_code.specs.Instr.{size_of}
 use Rattle.mate_code.specs.Run.{Code}
 use Rattle.mate_code.specs.Verification.{Depth, Marks}
-use Rattle.ts_syntax.specs.Expression.{Expression, Arguments, no_arguments, argument, Num, Shared, Private, Item, Size, MsgItem, MsgSize, Call, SendBuf, Neg, Not, Two}
-use Rattle.ts_syntax.specs.Right.{is_buffer, takes, sends, is_call, is_send_of, is_right_expr, are_right, argument_count}
-use Rattle.ts_syntax.specs.declared.bin_op.BinOp.{BinOp}
-use Rattle.ts_syntax.specs.declared.bin_op.BinOp.TheVariants as op
+use Rattle.ts_checked.specs.Expression.{Expression, Arguments, no_arguments, argument, Num, Shared, Private, Item, Size, MsgItem, MsgSize, Call, SendBuf, Neg, Not, Two}
+use Rattle.ts_checked.specs.Right.{is_buffer, takes, sends, is_call, is_send_of, is_right_expr, are_right, argument_count}
+use Rattle.ts_checked.specs.declared.bin_op.BinOp.{BinOp}
+use Rattle.ts_checked.specs.declared.bin_op.BinOp.TheVariants as op
 use Rattle.ts_meaning.specs.Translation.{size_of_instrs, number_code, operator_code, expr_code, args_code, expr_need, args_need, expr_size}
 use Rattle.ts_meaning.proofs.PlaceLemmas.{bytes_of-append, size_of-operator_code}
 use Rattle.ts_meaning.proofs.VerifiedPass.{Over, AreBlank, over_nothing, over_one, over_then, over_to, over_push, blank_less, blank_later, blank_takes}

@@ -10,12 +10,12 @@ use Rattle.mate_code.specs.Instr.{size_of}
 use Rattle.mate_code.specs.Run.{Code}
 use Rattle.mate_code.specs.Verification.{Refusal, DepthMark, Blank, Depth, Marks, first_marks, is_start, pass, halts, if_halts}
 use Rattle.mate_code.proofs.BytesVerificationLemmas.{placed-AreFrom}
-use Rattle.ts_syntax.specs.Expression.{Expression, Call, SendBuf}
-use Rattle.ts_syntax.specs.Statement.{Statement, Block, no_statements, statement, Set, SetItem, Append, Take, Clear, Do, DoSend, If, IfElse, For, While}
+use Rattle.ts_checked.specs.Expression.{Expression, Call, SendBuf}
+use Rattle.ts_checked.specs.Statement.{Statement, Block, no_statements, statement, Set, SetItem, Append, Take, Clear, Do, DoSend, If, IfElse, For, While}
 use Rattle.mate_num.specs.Shapes.{is_shape}
-use Rattle.ts_syntax.specs.Right.{is_buffer, is_variable, is_right_expr, is_step, is_head, is_right_stmt, is_right_block, is_right}
-use Rattle.ts_syntax.specs.declared.checked_stmt.CVar.{CVar}
-use Rattle.ts_syntax.specs.declared.checked_stmt.CVar.TheVariants as variable
+use Rattle.ts_checked.specs.Right.{is_buffer, is_variable, is_right_expr, is_step, is_head, is_right_stmt, is_right_block, is_right}
+use Rattle.ts_checked.specs.declared.checked_stmt.CVar.{CVar}
+use Rattle.ts_checked.specs.declared.checked_stmt.CVar.TheVariants as variable
 use Rattle.ts_meaning.specs.Laws.{IsVerifiedScript}
 use Rattle.ts_meaning.specs.Translation.{number_code, get_code, set_code, expr_code, expr_need, expr_size, stmt_size, block_size, within_code, for_test, step_code, stmt_code, block_code, stmt_need, block_need, script_code, script_need, code_of}
 use Rattle.ts_meaning.proofs.PlaceLemmas.{bytes_of-append, size_of-set_code, size_of-get_code, size_of-within_code, bytes_of-stmt_code, bytes_of-block_code}

@@ -8,7 +8,7 @@ use Rattle.mate_code.specs.Code.{code_bytes}
 use Rattle.mate_code.specs.Run.{code_run}
 use Rattle.mate_code.specs.Table.{AreInTable, table_of}
 use Rattle.mate_code.specs.Verification.{Marks, IsVerified}
-use Rattle.ts_syntax.specs.Statement.{Block}
+use Rattle.ts_checked.specs.Statement.{Block}
 use Rattle.ts_meaning.specs.Meaning.{run_of}
 use Rattle.ts_meaning.specs.Uses.{script_uses}
 use Rattle.ts_meaning.specs.Translation.{code_of, script_code, script_size}

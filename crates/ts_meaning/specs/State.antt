@@ -11,8 +11,8 @@ use Rattle.mate_num.specs.declared.call.FaultKind.{FaultKind}
 use Rattle.mate_num.specs.declared.call.FaultKind.TheVariants.{Overrun}
 use Rattle.mate_num.specs.declared.id.BufId.{BufId}
 use Rattle.mate_num.specs.declared.id.FunId.{FunId}
-use Rattle.ts_syntax.specs.declared.checked_stmt.CVar.{CVar}
-use Rattle.ts_syntax.specs.declared.checked_stmt.CVar.TheVariants.{Shared, Private}
+use Rattle.ts_checked.specs.declared.checked_stmt.CVar.{CVar}
+use Rattle.ts_checked.specs.declared.checked_stmt.CVar.TheVariants.{Shared, Private}
 
 -- the store, the private variables, the message, the answers that no call took yet, the calls that were
 -- answered, and the turns that are left

@@ -5,14 +5,14 @@ use Rattle.mate_code.specs.declared.instr.Instr.TheVariants as instr
 use Rattle.mate_code.specs.Code.{placed}
 use Rattle.mate_code.specs.Instr.{size_of}
 use Rattle.mate_code.specs.Run.{Code}
-use Rattle.ts_syntax.specs.Expression.{Expression, Arguments, no_arguments, argument, Num, Shared, Private, Item, Size, MsgItem, MsgSize}
-use Rattle.ts_syntax.specs.Expression.{Call, SendBuf, Neg, Not, Two}
-use Rattle.ts_syntax.specs.Statement.{Statement, Block, no_statements, statement, Set, SetItem, Append, Take, Clear, Do, DoSend, If, IfElse}
-use Rattle.ts_syntax.specs.Statement.{For, While}
-use Rattle.ts_syntax.specs.declared.bin_op.BinOp.{BinOp}
-use Rattle.ts_syntax.specs.declared.bin_op.BinOp.TheVariants as op
-use Rattle.ts_syntax.specs.declared.checked_stmt.CVar.{CVar}
-use Rattle.ts_syntax.specs.declared.checked_stmt.CVar.TheVariants as variable
+use Rattle.ts_checked.specs.Expression.{Expression, Arguments, no_arguments, argument, Num, Shared, Private, Item, Size, MsgItem, MsgSize}
+use Rattle.ts_checked.specs.Expression.{Call, SendBuf, Neg, Not, Two}
+use Rattle.ts_checked.specs.Statement.{Statement, Block, no_statements, statement, Set, SetItem, Append, Take, Clear, Do, DoSend, If, IfElse}
+use Rattle.ts_checked.specs.Statement.{For, While}
+use Rattle.ts_checked.specs.declared.bin_op.BinOp.{BinOp}
+use Rattle.ts_checked.specs.declared.bin_op.BinOp.TheVariants as op
+use Rattle.ts_checked.specs.declared.checked_stmt.CVar.{CVar}
+use Rattle.ts_checked.specs.declared.checked_stmt.CVar.TheVariants as variable
 
 -- how many bytes instructions take
 abbrev pub size_of_instrs : List Instr → ℕ

@@ -1,15 +1,15 @@
-//! The laws of the translation. Each is what a function promises that does nothing.
+//! The laws of the translation. Each is the contract of a function that does nothing.
 
 ghost use Rattle.std.specs.Prelude.{◌≡◌, ◌≤◌, IsTrue};
 ghost use Rattle.mate_num.specs.declared.bounds.TheConstants.{STACK_MAX};
 ghost use Rattle.mate_num.specs.declared.shape.Shape.{Shape};
-ghost use Rattle.ts_syntax.specs.Right.{is_right};
-ghost use Rattle.ts_syntax.specs.Statement.{Block};
+ghost use Rattle.ts_checked.specs.Right.{is_right};
+ghost use Rattle.ts_checked.specs.Statement.{Block};
 ghost use Rattle.ts_meaning.specs.Laws.{RunsAsItsScript, UsesAsItsScript, IsVerifiedScript, IsEncodable};
 ghost use Rattle.ts_meaning.specs.Translation.{script_need};
 
-/// The code of a script that is right for a machine, and that needs a stack of at most 16 values, runs as the script
-/// does: whatever the store, the message, the answers and the turns are, the end, the store and the calls are the same.
+/// The code of a script that is right for a machine and needs a stack of at most 16 values runs as the script does:
+/// whatever the store, the message, the answers and the turns are, the end, the store and the calls are the same.
 pub fn code_runs_as_its_script()
     ensures { (shape : Shape) (tree : Block) → IsTrue (is_right shape tree) → script_need tree ≤ STACK_MAX → RunsAsItsScript shape tree }
 {}
@@ -24,7 +24,7 @@ pub fn code_is_verified()
     ensures { (shape : Shape) (tree : Block) → IsTrue (is_right shape tree) → script_need tree ≤ STACK_MAX → IsVerifiedScript shape tree }
 {}
 
-/// The instructions of a right script are in the machine's table, and take as many bytes as the script's size.
+/// The instructions of a right script are in the machine's table, and take as many bytes as the script's size says.
 pub fn code_is_encodable()
     ensures { (shape : Shape) (tree : Block) → IsTrue (is_right shape tree) → IsEncodable shape tree }
 {}

@@ -1,4 +1,4 @@
-//! What a TinyScript script means and its code, as definitions, with the law that the code means the same; and what operators give.
+//! What a TinyScript script and its code mean, as definitions, with the law that both mean the same; and what operators give.
 #![tactic(auto)]
 
 pub mod laws;

@@ -5,7 +5,7 @@ ghost use Rattle.ts_meaning.specs.Meaning.{applied};
 ghost use Rattle.mate_num.specs.Operators.{or_div_zero as or_div_zero_of};
 
 use mate_num::{FaultKind, Num16};
-use ts_syntax::BinOp;
+use ts_checked::BinOp;
 
 /// What an operator gives for two numbers: `DivZero` exactly for `/` and `%` with 0 on the right.
 pub fn apply(op: BinOp, left: i16, right: i16) -> Result<i16, FaultKind>

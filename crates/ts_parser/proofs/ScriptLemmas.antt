@@ -1,4 +1,4 @@
--- Reading declarations, procedures and scripts: which token is taken in each state, and where none fits.
+-- Reading declarations, procedures and scripts: which token is taken in each state, and when none fits.
 use Rattle.std.proofs.Common.{◌≡◌, ℕ, Bool, true, false, List, [], ◌∷◌, ◌++◌, Some, None, Ok, Err, refl, sym, ◌∙◌, ap, subst, Result, Bor}
 use Rattle.ts_syntax.specs.declared.word.Word.{Word}
 use Rattle.ts_syntax.specs.declared.dialect.Dialect.{Dialect}

@@ -1,4 +1,4 @@
-//! The tokens of a source, with its faults as those of a source.
+//! The tokens of a source, with the faults of a source.
 
 ghost use Rattle.std.specs.Prelude.{◌≡◌, ◌≤◌, length};
 ghost use Rattle.mate_num.specs.declared.bounds.TheConstants.{FILE_MAX};
@@ -9,9 +9,9 @@ use std::alloc::Global;
 use ts_lexer::TokenFault;
 use ts_syntax::{Dialect, Tokens};
 
-/// The tokens of a source of at most 1,048,576 bytes: the longest sign is taken, and blanks and comments (from `!` to the
-/// end of its line) are passed over. `BadByte` and `BigLiteral` come exactly where one of them is the first in the text.
-/// `NoMemory` comes for want of memory only.
+/// The tokens of a source of at most 1,048,576 bytes: the longest sign is taken, and blanks and comments (from `!` to
+/// the end of its line) are skipped. `BadByte` and `BigLiteral` come exactly if one of them is the first fault in the
+/// text. `NoMemory` comes only if memory runs out.
 pub fn tokens(alloc: Global, bytes: &[u8]) -> Result<Tokens, SourceFault>
     requires { length bytes.now ≤ FILE_MAX }
     ensures { CutsScript bytes.now result }
@@ -19,7 +19,7 @@ pub fn tokens(alloc: Global, bytes: &[u8]) -> Result<Tokens, SourceFault>
     tokens_in(alloc, Dialect::Plain, bytes)
 }
 
-/// The tokens of a source in a dialect, by the same rules: where a script may have procedures, `proc` and `do` are
+/// The tokens of a source in a dialect, by the same rules: if a script may have procedures, `proc` and `do` are
 /// keywords.
 pub fn tokens_in(alloc: Global, dialect: Dialect, bytes: &[u8]) -> Result<Tokens, SourceFault>
     requires { length bytes.now ≤ FILE_MAX }
@@ -31,7 +31,7 @@ pub fn tokens_in(alloc: Global, dialect: Dialect, bytes: &[u8]) -> Result<Tokens
     }
 }
 
-/// A fault of the cut as one of a source.
+/// A fault of the tokens as a fault of the source.
 pub(crate) fn source_fault(fault: TokenFault) -> SourceFault
     ensures { result ≡ source_fault_of fault }
 {

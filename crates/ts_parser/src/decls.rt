@@ -22,7 +22,7 @@ fn kind_of(token: &TokenKind) -> Option<DeclKind>
     }
 }
 
-/// What a declaration makes of its names, and what stands behind its keyword; None where the tokens begin none.
+/// What a declaration makes of its names, and what comes after its keyword; None if the tokens begin no declaration.
 fn after_keyword(tokens: &[Token]) -> Option<(DeclKind, &[Token])>
     ensures { FindsDecl tokens.now result }
 {
@@ -31,7 +31,7 @@ fn after_keyword(tokens: &[Token]) -> Option<(DeclKind, &[Token])>
     Some((kind, rest))
 }
 
-/// Reads declarations up to the first token that begins none: they, and the tokens from that one on.
+/// Reads declarations up to the first token that begins none: the declarations, and the tokens from that one on.
 pub fn declarations<'a>(
     alloc: Global,
     tokens: &'a [Token],
@@ -49,7 +49,8 @@ pub fn declarations<'a>(
     Ok((all, rest))
 }
 
-/// Reads the names of a declaration and its `;`, from behind its keyword, and appends them: the tokens behind.
+/// Reads the names of a declaration and its `;`, from after its keyword, and appends them. The result is the tokens
+/// after the `;`.
 fn names<'a>(all: &mut Decls, kind: DeclKind, tokens: &'a [Token]) -> Result<&'a [Token], Halt<'a>>
     ensures reads { Gives result
         (λ rest. (d : Dialect) → reads tokens.now (decl_name d kind true all.old) ≡ reads rest.now (decls d all.new))

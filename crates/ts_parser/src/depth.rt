@@ -1,4 +1,4 @@
-//! How deep tokens lie: open blocks, and counted tokens since the last break.
+//! How deep tokens are nested: open blocks, and counted tokens since the last break.
 
 ghost use Rattle.std.specs.Prelude.{◌≡◌, ◌≤◌, ◌<◌, false, length, IfSome};
 ghost use Rattle.ts_parser.specs.Depths.{role_seen};
@@ -9,14 +9,14 @@ use crate::role::{Role, ends, role_of};
 use std::marker::Model;
 use ts_syntax::{Token, TokenKind};
 
-/// The depth before a token, which no token before it exceeds.
+/// The depth before a token. No token before it is too deep.
 #[derive(Drop)]
 struct Depth {
     /// The open blocks.
     blocks: u8,
     /// The counted tokens since the last break, or since the start.
     counted: u8,
-    /// Whether the token before it is `end`, behind which a keyword opens nothing.
+    /// Whether the token before it is `end`, after which a keyword opens nothing.
     ended: bool,
 }
 
@@ -49,7 +49,7 @@ impl Depth {
         }
     }
 
-    /// Whether a token of this role lies too deep.
+    /// Whether a token of this role is too deep.
     fn is_deep(&self, role: Role) -> bool
         ensures { result ≡ role_is_deep self.now (role_seen role) }
     {
@@ -62,7 +62,7 @@ impl Depth {
         }
     }
 
-    /// The open blocks behind a token that doesn't lie too deep.
+    /// The open blocks after a token that isn't too deep.
     fn blocks_after(&self, role: Role) -> u8
         requires { role_is_deep self.now (role_seen role) ≡ false }
         ensures value { result ≡ blocks_after self.now (role_seen role) }
@@ -83,7 +83,7 @@ impl Depth {
         }
     }
 
-    /// The counted tokens behind a token that doesn't lie too deep.
+    /// The counted tokens after a token that isn't too deep.
     fn counted_after(&self, role: Role) -> u8
         requires { role_is_deep self.now (role_seen role) ≡ false }
         ensures value { result ≡ counted_after self.now (role_seen role) }
@@ -98,7 +98,7 @@ impl Depth {
         }
     }
 
-    /// The depth behind a token that doesn't lie too deep.
+    /// The depth after a token that isn't too deep.
     fn after(&self, kind: &TokenKind) -> Depth
         requires { is_deep self.now kind.now ≡ false }
         ensures { result ≡ after self.now kind.now }
@@ -112,7 +112,7 @@ impl Depth {
     }
 }
 
-/// The index of the first token that lies too deep: a keyword that opens a block inside 32 open ones, or the 65th
+/// The index of the first token that is too deep: a keyword that opens a block inside 32 open ones, or the 65th
 /// counted token since the last `;`, `then`, `else`, `end`, `next` or the start.
 pub fn first_deep(tokens: &[Token]) -> Option<usize>
     ensures first { result ≡ first_deep (kinds tokens.now) }

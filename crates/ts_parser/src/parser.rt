@@ -18,8 +18,8 @@ use ts_syntax::{Dialect, Halt, ProcScript, Script, Token, Tokens};
 
 /// The script that the tokens of a source spell; `len` is the source's length in bytes.
 ///
-/// `Unexpected` comes exactly where a token doesn't fit before one that lies too deep, and `TooDeep` exactly where the
-/// tokens up to the first such one fit. `NoMemory` comes for want of memory only.
+/// `Unexpected` comes exactly if a token doesn't fit and none before it is too deep; `TooDeep` exactly if the tokens
+/// up to and including the first one that is too deep fit. `NoMemory` comes only if memory runs out.
 pub fn parse(alloc: Global, tokens: &Tokens, len: u32) -> Result<Script, SourceFault>
     ensures { Answers tokens.now len result }
 {
@@ -32,7 +32,7 @@ pub fn parse(alloc: Global, tokens: &Tokens, len: u32) -> Result<Script, SourceF
     }
 }
 
-/// The script with procedures that the tokens of a source spell, whatever its `do` call; refusals are those of `parse`,
+/// The script with procedures that the tokens of a source spell, whatever its `do` statements call; refusals are those of `parse`,
 /// by the grammar with `proc` and `do`.
 pub fn parse_procedures(alloc: Global, tokens: &Tokens, len: u32) -> Result<ProcScript, SourceFault>
     ensures { AnswersIn Procedures tokens.now len result }
@@ -69,7 +69,7 @@ fn script<'a>(alloc: Global, dialect: Dialect, tokens: &'a [Token]) -> Result<Pr
     Ok(ProcScript { decls, procs, body })
 }
 
-/// The answer where no token lies too deep.
+/// The answer if no token is too deep.
 fn shallow(
     alloc: Global,
     dialect: Dialect,
@@ -88,7 +88,7 @@ fn shallow(
     }
 }
 
-/// The fault where the token at `index` is the first that lies too deep: those up to it may stop before.
+/// The fault if the token at `index` is the first that is too deep: parsing may stop before it.
 fn deep(alloc: Global, dialect: Dialect, tokens: &[Token], index: usize, len: u32) -> SourceFault
     requires within { index < length tokens.now }
     requires first { first_deep (kinds tokens.now) ≡ Some index }
@@ -109,7 +109,7 @@ fn deep(alloc: Global, dialect: Dialect, tokens: &[Token], index: usize, len: u3
     }
 }
 
-/// The place of the token before which the last `count` tokens begin; `len` where there is none.
+/// The place of the token before which the last `count` tokens begin; `len` if there is none.
 fn place_before(tokens: &[Token], count: usize, len: u32) -> u32
     requires { count ≤ length tokens.now }
     ensures { result ≡ place_of len (drop (length tokens.now - count) tokens.now) }

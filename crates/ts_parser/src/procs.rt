@@ -14,8 +14,8 @@ use ts_blocks::block;
 use ts_syntax::expect::{after, ended, name};
 use ts_syntax::{Block, Dialect, Halt, Proc, Procs, Token, TokenKind, Words};
 
-/// Reads the procedures of a script in a dialect, behind its declarations: they, and the tokens from the first on that
-/// begins none.
+/// Reads the procedures of a script in a dialect, after its declarations: the procedures, and the tokens from the
+/// first one on that begins none.
 pub fn procedures_in<'a>(
     alloc: Global,
     dialect: Dialect,
@@ -45,7 +45,7 @@ fn procedures<'a>(alloc: Global, tokens: &'a [Token]) -> Result<(Procs, &'a [Tok
     Ok((procs, rest))
 }
 
-/// Reads a procedure, from behind `proc`.
+/// Reads a procedure, from after `proc`.
 fn procedure<'a>(alloc: Global, tokens: &'a [Token]) -> Result<(Proc, &'a [Token]), Halt<'a>>
     ensures reads { Reads {K = List Decl × List Procedure} tokens.now (λ k. proc_word k.0 k.1)
         (λ p k. procedures k.0 (k.1 ++ procedure_of p ∷ [])) result }
@@ -62,7 +62,7 @@ fn procedure<'a>(alloc: Global, tokens: &'a [Token]) -> Result<(Proc, &'a [Token
     Ok((procedure, rest))
 }
 
-/// Reads the parameters of a procedure, from behind its `(` up to and with its `)`.
+/// Reads the parameters of a procedure, from after its `(` up to and including its `)`.
 fn parameters<'a>(alloc: Global, tokens: &'a [Token]) -> Result<(Words, &'a [Token]), Halt<'a>>
     ensures reads { Reads {K = Header} tokens.now (λ k. params_due k) (λ ws k. header_read k ws) result }
     ensures shorter { IfOk result (λ x. length x.1.now < length tokens.now) }

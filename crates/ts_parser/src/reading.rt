@@ -14,12 +14,13 @@ use std::alloc::Global;
 use ts_lexer::{Scanner, first_tokens};
 use ts_syntax::{Dialect, ProcScript, Script};
 
-// How many tokens are parsed first. A source that they refuse isn't cut into more of them, so that it takes little memory.
+// How many tokens are parsed first. If they are refused, the rest is only tested for faults, so that a refused source
+// takes little memory.
 const FIRST: usize = 4096;
 
-/// The script that a source of at most 1,048,576 bytes spells, or the first refusal of it: of its tokens over the whole
-/// text, as `tokens` gives it, and then of its grammar and depth, as `parse` does. `NoMemory` comes for want of memory
-/// only.
+/// The script that a source of at most 1,048,576 bytes spells, or its first refusal: of its tokens over the whole
+/// text, as `tokens` gives it, and then of its grammar and depth, as `parse` does. `NoMemory` comes only if memory
+/// runs out.
 pub fn read(alloc: Global, bytes: &[u8]) -> Result<Script, SourceFault>
     requires { length bytes.now ≤ FILE_MAX }
     ensures { ReadsScript bytes.now result }
@@ -33,7 +34,7 @@ pub fn read(alloc: Global, bytes: &[u8]) -> Result<Script, SourceFault>
     }
 }
 
-/// The script with procedures that a source spells, whatever its `do` call; refusals are those of `read`, by the grammar
+/// The script with procedures that a source spells, whatever its `do` statements call; refusals are those of `read`, by the grammar
 /// with `proc` and `do`.
 pub fn read_procedures(alloc: Global, bytes: &[u8]) -> Result<ProcScript, SourceFault>
     requires { length bytes.now ≤ FILE_MAX }
@@ -56,7 +57,7 @@ fn read_in(alloc: Global, dialect: Dialect, bytes: &[u8]) -> Result<ProcScript, 
     }
 }
 
-/// The fault of the first tokens, where it is one whatever follows them; None also where nothing follows.
+/// The fault of the first tokens, if it is one whatever follows them; None also if nothing follows.
 fn first_fault(alloc: Global, dialect: Dialect, scanner: &Scanner) -> Option<SourceFault>
     ensures { IfSome result (Stays dialect scanner.now.tokens) }
 {
@@ -86,7 +87,7 @@ fn is_at_end(fault: SourceFault, end: u32) -> bool
     }
 }
 
-/// The first refusal of a source whose first tokens have this fault: one of the rest's bytes comes before it.
+/// The first refusal of a source whose first tokens have this fault: a fault of the rest's bytes comes before it.
 fn refusal(dialect: Dialect, bytes: &[u8], scanner: Scanner, fault: SourceFault) -> SourceFault
     requires due { due scanner ≡ cut_in dialect bytes.now }
     requires stays { Stays dialect scanner.tokens fault }

@@ -9,7 +9,7 @@ use ts_syntax::TokenKind;
 /// What a token does to the depth.
 #[derive(Clone, Copy)]
 pub enum Role {
-    /// It opens a block, except behind `end`.
+    /// It opens a block, except after `end`.
     Opener,
     /// It closes a block, and ends a part of a statement.
     Closer,

@@ -1,4 +1,4 @@
-//! Of tokens one thing is to be said, and one only.
+//! The law that of any tokens exactly one thing is so.
 
 ghost use Rattle.std.specs.Prelude.{◌≡◌, ℕ, List};
 ghost use Rattle.ts_parser.specs.Verdict.{Verdict, VerdictOf, IsSo, IsSoIn};
@@ -7,9 +7,9 @@ ghost use Rattle.ts_syntax.specs.Tree.{Source, ProcedureSource};
 ghost use Rattle.ts_syntax.specs.declared.dialect.Dialect.{Dialect};
 ghost use Rattle.ts_syntax.specs.declared.token.Token.{Token};
 
-/// The law of answers: tokens spell one script at most; and of any tokens exactly one thing is so: that they spell this
-/// script, that the first token that doesn't fit stands here, or that the first that lies too deep does. The same holds
-/// in each dialect.
+/// The law of answers: tokens spell one script at most; and of any tokens exactly one thing is so: that they spell
+/// this script, that the first token that doesn't fit is here, or that the first that is too deep is here. The same
+/// holds in each dialect.
 pub fn verdict_law()
     ensures one_tree { (tokens : List Token) (s t : Source) → Spells tokens s → Spells tokens t → s ≡ t }
     ensures one { (tokens : List Token) (len : ℕ) (v w : Verdict) → IsSo tokens len v → IsSo tokens len w → v ≡ w }

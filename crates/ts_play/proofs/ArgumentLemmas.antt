@@ -4,9 +4,9 @@ use Rattle.std.proofs.Math.Seq.{take-append_seam}
 use Rattle.std.proofs.lemmas.List.{append-nil, take_all, drop_more, drop_all}
 use Rattle.arrayvec.specs.ArrayVec.{ArrayVec}
 use Rattle.mate_num.specs.declared.call.End.{End}
-use Rattle.ts_syntax.specs.Expression.{Expression, Arguments, argument, arguments}
-use Rattle.ts_syntax.specs.TreeOf.{expr_tree}
-use Rattle.ts_syntax.specs.declared.checked_expr.CExpr.{CExpr}
+use Rattle.ts_checked.specs.Expression.{Expression, Arguments, argument, arguments}
+use Rattle.ts_checked.specs.TreeOf.{expr_tree}
+use Rattle.ts_checked.specs.declared.checked_expr.CExpr.{CExpr}
 use Rattle.ts_meaning.specs.State.{ScriptState, Evaluation, Done, Over, then_do, first_ten}
 use Rattle.ts_meaning.specs.Meaning.{value_of, values_of}
 

@@ -1,13 +1,13 @@
-//! What the evaluator holds, and how it reads and changes that.
+//! The state of the evaluator, and how it is read and changed.
 
 use crate::items::{append, item, set_item, take_last};
 use mate_num::{
     BufId, Call, Calls, End, FaultKind, FunId, Outcome, PRIVATES, Payload, Store, VarId, copy_of,
 };
 use std::alloc::Global;
-use ts_syntax::CVar;
+use ts_checked::CVar;
 
-/// A run on its way.
+/// A run that goes on.
 #[derive(Drop)]
 pub(crate) struct Evaluator<'a> {
     store: Store,
@@ -19,7 +19,7 @@ pub(crate) struct Evaluator<'a> {
     turns: u32,
 }
 
-/// Why a run goes no further.
+/// Why a run stops.
 #[derive(Drop)]
 pub(crate) enum Stop {
     Ended(End),
@@ -66,7 +66,7 @@ impl<'a> Evaluator<'a> {
         }
     }
 
-    /// What the run gives that ends here.
+    /// The outcome of a run that ends here.
     pub(crate) fn outcome(self, end: End) -> Outcome
         ensures { result ≡ outcome_at end (state_of self.entry) }
     {
@@ -114,7 +114,7 @@ impl<'a> Evaluator<'a> {
         }
     }
 
-    /// The value at an index of a buffer.
+    /// The value at an index of a buffer, from 0; the fault `Index` outside its values.
     pub(crate) fn item(&self, buffer: BufId, index: i16) -> Result<i16, Stop>
         ensures { let values = buffer_at self.now.store buffer.0 in
             FollowsMeaning (value_or_fault (item_of values index)) self.now result self.now }
@@ -122,7 +122,7 @@ impl<'a> Evaluator<'a> {
         Ok(item(self.buffer(buffer), index)?)
     }
 
-    /// The value at an index of the message.
+    /// The value at an index of the message, from 0; the fault `Index` outside its values.
     pub(crate) fn message_item(&self, index: i16) -> Result<i16, Stop>
         ensures { FollowsMeaning (value_or_fault (item_of self.now.msg.now.items index)) self.now result self.now }
     {
@@ -139,7 +139,7 @@ impl<'a> Evaluator<'a> {
         }
     }
 
-    /// A buffer's values, as a payload of their own.
+    /// A copy of a buffer's values.
     pub(crate) fn payload(&self, buffer: BufId) -> Payload
         ensures { result.items ≡ buffer_at self.now.store buffer.0 }
     {
@@ -191,6 +191,7 @@ impl<'a> Evaluator<'a> {
         self.set_buffer(buffer, Payload::new());
     }
 
+    /// Sets the value at an index of a buffer, from 0; the fault `Index` outside its values.
     pub(crate) fn set_item(&mut self, buffer: BufId, index: i16, value: i16) -> Result<(), Stop>
         ensures follows { let old = buffer_at self.old.store buffer.0 in
             FollowsMeaning (buffer_changed buffer (item_set old index value)) self.old result self.new }
@@ -202,6 +203,7 @@ impl<'a> Evaluator<'a> {
         Ok(())
     }
 
+    /// Appends a value to a buffer; the fault `BufferFull` if it holds 10.
     pub(crate) fn append(&mut self, buffer: BufId, value: i16) -> Result<(), Stop>
         ensures follows { let old = buffer_at self.old.store buffer.0 in
             FollowsMeaning (buffer_changed buffer (appended old value)) self.old result self.new }
@@ -226,7 +228,7 @@ impl<'a> Evaluator<'a> {
         Ok(())
     }
 
-    /// Calls a function: takes the next answer, or ends where there is none.
+    /// Calls a function: takes the next answer, or ends the run if there is none.
     pub(crate) fn ask(&mut self, fun: FunId, args: Payload) -> Result<i16, Stop>
         ensures follows { FollowsMeaning (next_answer fun args) self.old result self.new }
         ensures turns { self.new.turns ≡ self.old.turns }
@@ -244,7 +246,7 @@ impl<'a> Evaluator<'a> {
         Ok(result)
     }
 
-    /// Pays for going back.
+    /// Pays a turn for going back; the fault `Overrun` if none is left.
     pub(crate) fn pay(&mut self) -> Result<(), Stop>
         ensures follows { FollowsMeaning (go_back (Done tt)) self.old result self.new }
         ensures turns { OnOk result (self.new.turns < self.old.turns) }

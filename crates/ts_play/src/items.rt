@@ -5,7 +5,7 @@ ghost use Rattle.mate_num.specs.Store.{item_of, item_set, appended, last_of, wit
 
 use mate_num::{FaultKind, Payload};
 
-/// The value at an index.
+/// The value at an index, from 0; the fault `Index` outside the values.
 pub(crate) fn item(values: &[i16], index: i16) -> Result<i16, FaultKind>
     ensures { result ≡ item_of values.now index }
 {
@@ -18,7 +18,7 @@ pub(crate) fn item(values: &[i16], index: i16) -> Result<i16, FaultKind>
     }
 }
 
-/// The values with another one at an index.
+/// Replaces the value at an index, from 0; the fault `Index` outside the values.
 pub(crate) fn set_item(values: &mut Payload, index: i16, value: i16) -> Result<(), FaultKind>
     ensures { let outcome = item_set values.old.items index value in
         MatchResult result (λ _. outcome ≡ Ok values.new.items) (λ kind. outcome ≡ Err kind) }
@@ -30,7 +30,7 @@ pub(crate) fn set_item(values: &mut Payload, index: i16, value: i16) -> Result<(
     Ok(())
 }
 
-/// The values and one more.
+/// Appends a value; the fault `BufferFull` if there are 10.
 pub(crate) fn append(values: &mut Payload, value: i16) -> Result<(), FaultKind>
     ensures { let outcome = appended values.old.items value in
         MatchResult result (λ _. outcome ≡ Ok values.new.items) (λ kind. outcome ≡ Err kind) }
@@ -42,7 +42,7 @@ pub(crate) fn append(values: &mut Payload, value: i16) -> Result<(), FaultKind>
     Ok(())
 }
 
-/// Takes the last value.
+/// Takes the last value; the fault `BufferEmpty` if there is none.
 pub(crate) fn take_last(values: &mut Payload) -> Result<i16, FaultKind>
     ensures taken { last_of values.old.items ≡ result }
     ensures rest { OnOk result (values.new.items ≡ without_last values.old.items) }

@@ -1,20 +1,20 @@
 //! The run of a whole script.
 
 ghost use Rattle.std.specs.Prelude.{◌≡◌, IfOk};
-ghost use Rattle.ts_syntax.specs.Checked.{checked_shape, tree_of};
+ghost use Rattle.ts_checked.specs.Checked.{checked_shape, checked_tree};
 ghost use Rattle.ts_meaning.specs.Meaning.{run_of};
 ghost use Rattle.ts_meaning.specs.Uses.{IsSameOutside, block_writes};
 
 use crate::evaluator::{Evaluator, Stop};
 use mate_num::{End, NoMemory, Outcome, Payload, Store};
 use std::alloc::Global;
-use ts_syntax::Checked;
+use ts_checked::Checked;
 
-/// What a run leaves: its end, its store and its calls in their order.
+/// What a run leaves: its end, its store, and its calls in their order.
 pub type Played = Outcome;
 
-/// Runs `script` on `store`, with the message `msg`, with `answers` to its calls in their order, and with
-/// `turns` goings back of its loops. `NoMemory` comes only where memory for the list of calls is refused.
+/// Runs `script` on `store`, with the message `msg`, with `answers` to its calls in their order, and with `turns`
+/// turns: how often its loops may go back. `NoMemory` comes only if memory for the list of calls is refused.
 pub fn play(
     alloc: Global,
     script: &Checked,
@@ -23,11 +23,11 @@ pub fn play(
     answers: &[i16],
     turns: u32,
 ) -> Result<Played, NoMemory>
-    ensures gives { let run = run_of (tree_of script.now) store.now msg.now answers.now turns in
+    ensures gives { let run = run_of (checked_tree script.now) store.now msg.now answers.now turns in
         IfOk result (λ outcome. outcome ≡ run) }
 
     // What the script doesn't write stays as it was.
-    ensures outside { let written = block_writes (checked_shape script.now) (tree_of script.now) in
+    ensures outside { let written = block_writes (checked_shape script.now) (checked_tree script.now) in
         IfOk result (λ outcome. IsSameOutside written store.now outcome.store) }
 {
     let mut evaluator = Evaluator::new(alloc, store.copy(), msg, answers, turns);

@@ -2,16 +2,16 @@
 
 ghost use Rattle.std.specs.Prelude.{◌≡◌, ◌≤◌};
 ghost use Rattle.mate_num.specs.Number.{is_truth};
-ghost use Rattle.ts_syntax.specs.Expression.{arguments};
-ghost use Rattle.ts_syntax.specs.Statement.{Set, SetItem, Append, Do, DoSend, For, While};
-ghost use Rattle.ts_syntax.specs.TreeOf.{expr_tree, args_trees, stmt_tree, block_tree};
+ghost use Rattle.ts_checked.specs.Expression.{arguments};
+ghost use Rattle.ts_checked.specs.Statement.{Set, SetItem, Append, Do, DoSend, For, While};
+ghost use Rattle.ts_checked.specs.TreeOf.{expr_tree, args_trees, stmt_tree, block_tree};
 ghost use Rattle.ts_meaning.specs.State.{loop_does};
 ghost use Rattle.ts_meaning.specs.Meaning.{value_of, run_stmt, run_block, while_round, for_round, is_within};
 ghost use Rattle.ts_play.specs.Follows.{FollowsMeaning};
 
 use crate::evaluator::{Evaluator, Stop};
 use mate_num::{BufId, FunId, Num16};
-use ts_syntax::{CArgs, CBlock, CExpr, CForHead, CStmt, CVar};
+use ts_checked::{CArgs, CBlock, CExpr, CForHead, CStmt, CVar};
 
 fn is_true(value: i16) -> bool
     ensures { result ≡ is_truth value }

@@ -1,18 +1,18 @@
-//! Expressions: their parts are evaluated from left to right, all of them.
+//! Expressions: all their parts are evaluated, from left to right.
 
 ghost use Rattle.std.specs.Prelude.{◌≡◌, ◌≤◌, [], ◌∷◌, ◌++◌, length};
-ghost use Rattle.ts_syntax.specs.Expression.{arguments, Call};
-ghost use Rattle.ts_syntax.specs.TreeOf.{expr_tree, args_trees};
+ghost use Rattle.ts_checked.specs.Expression.{arguments, Call};
+ghost use Rattle.ts_checked.specs.TreeOf.{expr_tree, args_trees};
 ghost use Rattle.ts_meaning.specs.State.{then_do, first_ten, Done};
 ghost use Rattle.ts_meaning.specs.Meaning.{value_of, values_of};
 ghost use Rattle.ts_play.specs.Follows.{FollowsMeaning};
 
 use crate::evaluator::{Evaluator, Stop};
 use mate_num::{BufId, FunId, Num16, Payload};
+use ts_checked::{CArgs, CExpr};
 use ts_meaning::apply;
-use ts_syntax::{CArgs, CExpr};
 
-// One more argument; one past the tenth has no room.
+// One argument more; there is no room for one past the tenth.
 #[tactic(auto, using(crate::proofs::ArgumentLemmas::full))]
 fn push_within_ten(values: &mut Payload, value: i16)
     ensures values { values.new ≡ first_ten (values.old.items ++ value ∷ []) }

@@ -11,7 +11,8 @@ ghost use Rattle.ts_syntax.specs.Spelling.{act_spelled, acts_spelled, decls_spel
 ghost use Rattle.ts_syntax.specs.Text.{space, token_text, text_of};
 
 use mate_files::{Pen, Sink, SinkFault};
-use ts_syntax::{Args, BinOp, Block, Decl, DeclKind, Expr, ForHead, Script, Step, Stmt, Word};
+use ts_checked::BinOp;
+use ts_syntax::{Args, Block, Decl, DeclKind, Expr, ForHead, Script, Step, Stmt, Word};
 
 /// Prints tokens with one space between two.
 #[derive(Drop)]
@@ -21,14 +22,14 @@ struct Printer {
     begun: bool,
 }
 
-/// What stands before a token: a space where another one stands before it.
+/// What comes before a token: a space if another token is before it.
 fn gap(begun: bool) -> &'static str
     ensures { result.now ≡ space begun }
 {
     if begun { " " } else { "" }
 }
 
-/// A token with what stands before it, where `spaced` has a space before the token.
+/// A token with what comes before it; `spaced` is the token with a space before it.
 fn with_gap(begun: bool, spaced: &[u8]) -> &[u8]
     ensures { (text : List ℕ) → spaced.now ≡ 32 ∷ text → result.now ≡ space begun ++ text }
 {
@@ -73,14 +74,14 @@ fn keyword_text(kind: DeclKind) -> &'static str
     }
 }
 
-/// Whether a declaration ends before a name: one stands before it, and the name is the first of another.
+/// Whether a declaration ends before a name: another name is before it, and this one is the first of a declaration.
 fn ends(behind: bool, first: bool) -> bool
     ensures { result ≡ (behind && first) }
 {
     behind && first
 }
 
-/// What stands before a declared name, with a space before it.
+/// What comes before a declared name, with a space before it.
 fn start_text(first: bool, kind: DeclKind) -> &'static str
     ensures { result.now ≡ 32 ∷ token_text (decl_start first kind) }
 {
@@ -256,7 +257,7 @@ impl Printer {
         self.token(out, " ;");
     }
 
-    /// Prints what stands behind a buffer that is appended to or taken from.
+    /// Prints what comes after a buffer that is appended to or taken from.
     fn boxes<S: Sink>(&mut self, out: &mut S)
         ensures { PrintsTokens (S.written out.old) (S.faults out.old) self.old
             (S.written out.new) (S.faults out.new) self.new (kind.OpenBox ∷ kind.CloseBox ∷ []) }
@@ -369,7 +370,7 @@ impl Printer {
         }
     }
 
-    /// Prints the `;` of a declaration that is open, where the next name begins another one.
+    /// Prints the `;` of a declaration that is open, if the next name begins another one.
     fn close<S: Sink>(&mut self, out: &mut S, behind: bool)
         ensures { PrintsTokens (S.written out.old) (S.faults out.old) self.old
             (S.written out.new) (S.faults out.new) self.new (closing behind) }
@@ -379,7 +380,7 @@ impl Printer {
         }
     }
 
-    /// Prints a declared name; `behind` says whether another one stands before it.
+    /// Prints a declared name; `behind` says whether another one is before it.
     fn decl<S: Sink>(&mut self, out: &mut S, behind: bool, decl: &Decl)
         ensures { PrintsTokens (S.written out.old) (S.faults out.old) self.old
             (S.written out.new) (S.faults out.new) self.new (closing (behind && decl.now.first)

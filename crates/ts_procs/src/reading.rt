@@ -8,8 +8,8 @@ use proc_names::{PScript, ProcFault};
 use std::alloc::Global;
 use ts_parser::{SourceFault, read_procedures};
 
-/// The script with procedures of a source of at most 1,048,576 bytes, or the first refusal of it: of its tokens over the whole
-/// text, then of its grammar and depth, then of its names. `NoMemory` may come in place of any answer.
+/// The script with procedures of a source of at most 1,048,576 bytes, or its first refusal: of its tokens over the
+/// whole text, then of its grammar and depth, then of its names. `NoMemory` may come instead of any answer.
 pub fn read(alloc: Global, bytes: &[u8]) -> Result<PScript, ProcFault>
     requires { length bytes.now ≤ FILE_MAX }
     ensures { ReadsProcedures bytes.now result }

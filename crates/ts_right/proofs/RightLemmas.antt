@@ -1,7 +1,7 @@
 -- The arguments of a call are counted as the list is long.
 use Rattle.std.proofs.Common.{◌≡◌, suc, List, [], ◌∷◌, length, refl, ap}
-use Rattle.ts_syntax.specs.Expression.{Expression, arguments}
-use Rattle.ts_syntax.specs.Right.{argument_count}
+use Rattle.ts_checked.specs.Expression.{Expression, arguments}
+use Rattle.ts_checked.specs.Right.{argument_count}
 
 pub argument_count-arguments : (es : List Expression) → argument_count (arguments es) ≡ length es
 argument_count-arguments [] = refl

@@ -1,16 +1,16 @@
 //! The test that a body is right for a shape.
 
 ghost use Rattle.std.specs.Prelude.{◌≡◌, ◌&&◌};
-ghost use Rattle.ts_syntax.specs.Expression.{arguments};
-ghost use Rattle.ts_syntax.specs.Right.{is_right as is_right_for, argument_count, is_shared, is_buffer, is_variable, is_call, is_send_of, is_step, is_head, is_right_expr, are_right, is_right_stmt, is_right_block};
-ghost use Rattle.ts_syntax.specs.TreeOf.{expr_tree, args_trees, stmt_tree, block_tree};
+ghost use Rattle.ts_checked.specs.Expression.{arguments};
+ghost use Rattle.ts_checked.specs.Right.{is_right as is_right_for, argument_count, is_shared, is_buffer, is_variable, is_call, is_send_of, is_step, is_head, is_right_expr, are_right, is_right_stmt, is_right_block};
+ghost use Rattle.ts_checked.specs.TreeOf.{expr_tree, args_trees, stmt_tree, block_tree};
 
 use crate::shape::shape_is_right;
 use mate_num::{BufId, FunId, Shape, VarId};
-use ts_syntax::{CArgs, CBlock, CExpr, CForHead, CStmt, CVar};
+use ts_checked::{CArgs, CBlock, CExpr, CForHead, CStmt, CVar};
 
 /// Whether a body is right for a shape: the shape is within the limits of a machine, each name is in
-/// range, each call has its function's arguments, no call stands in the limit of a `for`, and each step is
+/// range, each call has its function's arguments, no call is in the limit of a `for`, and each step is
 /// from -32767 to 32767 and not 0.
 pub fn is_right(shape: &Shape, body: &CBlock) -> bool
     ensures { result ≡ is_right_for shape.now (block_tree body.now) }

@@ -7,7 +7,7 @@ ghost use Rattle.mate_num.specs.Shapes.{is_device, is_fun_shape, is_shape};
 use mate_num::{BUFFERS_MAX, DEVICES_MAX, DeviceId, FunShape, SHARED_MAX, Shape};
 
 /// Whether the shape is one that a machine can have: within the limits on variables and buffers, with functions
-/// that take at most 4 values, none where they send a buffer, and speak to one of a machine's devices if to any.
+/// that take at most 4 values, or none if they send a buffer, and use one of a machine's devices or none.
 pub fn shape_is_right(shape: &Shape) -> bool
     ensures { result ≡ is_shape shape.now }
 {

@@ -1,7 +1,7 @@
 -- Declarations, one after another.
 use Rattle.std.proofs.Common.{◌≡◌, ℕ, ◌+◌, ◌<◌, List, length, drop, get_or, Ok, Err, ap, ◌∙◌}
 use Rattle.ts_syntax.specs.declared.script.Decl.{Decl}
-use Rattle.ts_syntax.proofs.ListLemmas.{drop_item}
+use Rattle.ts_checked.proofs.ListLemmas.{drop_item}
 use Rattle.ts_scope.specs.declared.fault.CheckFault.{CheckFault}
 use Rattle.ts_scope.specs.Refusal.{◌>>=◌}
 use Rattle.ts_scope.specs.Names.{ScriptNames, declare, declare_all}

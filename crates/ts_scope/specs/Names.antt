@@ -10,8 +10,8 @@ use Rattle.ts_syntax.specs.declared.word.Word.{Word}
 use Rattle.ts_syntax.specs.declared.script.Decl.{Decl}
 use Rattle.ts_syntax.specs.declared.script.DeclKind.{DeclKind}
 use Rattle.ts_syntax.specs.declared.script.DeclKind.TheVariants as of
-use Rattle.ts_syntax.specs.declared.checked_stmt.CVar.{CVar}
-use Rattle.ts_syntax.specs.declared.checked_stmt.CVar.TheVariants as var
+use Rattle.ts_checked.specs.declared.checked_stmt.CVar.{CVar}
+use Rattle.ts_checked.specs.declared.checked_stmt.CVar.TheVariants as var
 use Rattle.ts_scope.specs.declared.scope.Symbol.{Symbol}
 use Rattle.ts_scope.specs.declared.scope.Symbol.TheVariants.{Variable, Buffer}
 use Rattle.ts_scope.specs.declared.scope.Entry.{Entry}

@@ -3,7 +3,7 @@ use Rattle.std.specs.Prelude.{◌≤◌, ℕ, Bool, true, List, map, bytes_eq, I
 use Rattle.std.specs.List.{IsDistinct, list_all}
 use Rattle.vm_desc.specs.Names.{stands_in}
 use Rattle.vm_desc.specs.declared.description.Description.{Description}
-use Rattle.ts_syntax.specs.declared.checked_stmt.CVar.TheVariants.{Shared, Private}
+use Rattle.ts_checked.specs.declared.checked_stmt.CVar.TheVariants.{Shared, Private}
 use Rattle.ts_scope.specs.declared.scope.Symbol.{Symbol}
 use Rattle.ts_scope.specs.declared.scope.Symbol.TheVariants.{Variable, Buffer}
 use Rattle.ts_scope.specs.declared.scope.Entry.{Entry}

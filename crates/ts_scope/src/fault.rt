@@ -8,17 +8,16 @@ use std::alloc::AllocFailed;
 /// first byte in the source.
 #[derive(Drop)]
 pub enum CheckFault {
-    /// The name at `place`, of a variable or a buffer, isn't declared; or it stands behind `do`, and a machine has no
-    /// procedures.
+    /// The name at `place`, of a variable or a buffer, isn't declared; or it comes after `do`, and a machine has no procedures.
     Undeclared { name: Name, place: u32 },
     /// The machine has no shared variable, no buffer or no function of this name.
     NotInVm { name: Name },
     /// The name is declared twice.
     Twice { name: Name },
-    /// The word at `place` is of another kind than is wanted there: a buffer's name where a number is
-    /// wanted, a number's name where a buffer is; the function of a call in the limit of a `for`, or of a
-    /// call whose one argument has to be a name alone; a step of 0 or over 32,767; the name after `next`
-    /// where it isn't its `for`'s variable.
+    /// The word at `place` is of another kind than is wanted there: a buffer's name where a number is wanted, or a
+    /// number's name where a buffer is; the function of a call in the limit of a `for`, or of a call whose one
+    /// argument has to be a name alone; a step of 0 or over 32,767; the name after `next` if it isn't its `for`'s
+    /// variable.
     Kind { place: u32 },
     /// The function at `place` takes another number of arguments. It comes after the function's other
     /// refusals, and before those of its arguments.

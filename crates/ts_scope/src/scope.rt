@@ -1,4 +1,4 @@
-//! The names of a script, and what they stand for.
+//! The names of a script, and what they name.
 
 ghost use Rattle.std.specs.Prelude.{◌≡◌, ◌<◌, ◌≤◌, length, position, bytes_eq, IfSome};
 ghost use Rattle.ts_scope.specs.Names.{listed, symbol_of, function_from};
@@ -6,10 +6,11 @@ ghost use Rattle.ts_scope.specs.Names.{listed, symbol_of, function_from};
 use crate::fault::CheckFault;
 use arrayvec::ArrayVec;
 use mate_num::{BufId, FunId, Name, VarId};
-use ts_syntax::{CVar, Decl, DeclKind, Word};
+use ts_checked::CVar;
+use ts_syntax::{Decl, DeclKind, Word};
 use vm_desc::{Description, FunKind, Function};
 
-/// What a declared name stands for.
+/// What a declared name names.
 #[derive(Clone, Copy)]
 pub enum Symbol {
     Variable(CVar),
@@ -31,14 +32,14 @@ impl Symbol {
     }
 }
 
-// What stands in the free places of a list of names.
+// What is in the free places of a list of names.
 impl Default for Symbol {
     fn default() -> Symbol {
         Symbol::Variable(CVar::Private(0))
     }
 }
 
-/// A declared name, and what it stands for.
+/// A declared name, and what it names.
 #[derive(Default, Drop)]
 pub struct Entry {
     pub name: Name,
@@ -49,7 +50,7 @@ pub struct Entry {
 #[derive(Drop)]
 pub struct Scope<'a> {
     desc: &'a Description,
-    // No name stands twice, so the machine's 16 shared variables and 8 buffers and the 8 private ones fit.
+    // No name is there twice, so the machine's 16 shared variables and 8 buffers and the 8 private ones fit.
     names: ArrayVec<Entry, 32>,
 }
 
@@ -100,7 +101,7 @@ impl<'a> Scope<'a> {
     ghost use Rattle.ts_scope.specs.Names.{function, closes_for};
     ghost use Rattle.ts_scope.specs.Seen.{scope_names};
 
-    /// The names that the declarations make known, from left to right, or the first refusal of them. It takes no memory.
+    /// The names that the declarations declare, from left to right, or the first refusal of them. It takes no memory.
     pub fn of(desc: &'a Description, decls: &[Decl]) -> Result<Scope<'a>, CheckFault>
         ensures { let names = declare_all (names_before desc.now) decls.now in
             MatchResult result (λ scope. names ≡ Ok (scope_names scope)) (λ fault. names ≡ Err fault) }
@@ -115,7 +116,7 @@ impl<'a> Scope<'a> {
         Ok(scope)
     }
 
-    // Makes a declared name known.
+    // Adds a declared name, or refuses it.
     fn declare(&mut self, decl: &Decl) -> Result<(), CheckFault>
         requires { IsFit self.old.desc.now self.old.names.items }
         ensures value { let names = declare (scope_names self.old) decl.now in
@@ -132,7 +133,7 @@ impl<'a> Scope<'a> {
         Ok(())
     }
 
-    // What a declaration makes of its name.
+    // What a declaration makes of its name, or its refusal.
     fn made(&self, kind: DeclKind, name: &Name) -> Result<Symbol, CheckFault>
         ensures { result ≡ made (scope_names self.now) kind name.now }
     {
@@ -172,7 +173,7 @@ impl<'a> Scope<'a> {
         symbol_among(self.names.as_slice(), name)
     }
 
-    // What a name stands for that has to be declared.
+    // What a name names that has to be declared.
     fn found(&self, word: &Word) -> Result<Symbol, CheckFault>
         ensures { result ≡ found_symbol (scope_names self.now) word.now }
     {
@@ -185,7 +186,7 @@ impl<'a> Scope<'a> {
         }
     }
 
-    /// The variable of a name.
+    /// The variable of a name; `Undeclared` if it isn't declared, `Kind` if it is a buffer's.
     pub fn variable(&self, word: &Word) -> Result<CVar, CheckFault>
         ensures { result ≡ variable (scope_names self.now) word.now }
     {
@@ -195,7 +196,7 @@ impl<'a> Scope<'a> {
         }
     }
 
-    /// The buffer of a name.
+    /// The buffer of a name; `Undeclared` if it isn't declared, `Kind` if it is no buffer's.
     pub fn buffer(&self, word: &Word) -> Result<BufId, CheckFault>
         ensures { result ≡ buffer (scope_names self.now) word.now }
     {
@@ -205,7 +206,7 @@ impl<'a> Scope<'a> {
         }
     }
 
-    /// The function of a name.
+    /// The function of a name; `NotInVm` if the machine has none.
     pub fn function(&self, word: &Word) -> Result<(FunId, FunKind), CheckFault>
         ensures { result ≡ function (scope_names self.now) word.now }
     {
@@ -217,7 +218,7 @@ impl<'a> Scope<'a> {
         }
     }
 
-    /// Whether the name after `next` is that of its `for`.
+    /// `Kind` if the name after `next` isn't that of its `for`.
     pub fn closes(&self, variable: &Word, next: &Word) -> Result<(), CheckFault>
         ensures { result ≡ closes_for (scope_names self.now) variable.now next.now }
     {

@@ -1,4 +1,4 @@
--- A part with a token behind it is read from where the part is due to what the token leads to.
+-- A part with a token after it is read from where the part is due to what the token leads to.
 use Rattle.std.proofs.Common.{◌≡◌, ◌<◌, ◌≤◌, ℕ, length, List, Result, Ok, Err, Bor, refl, sym, ◌∙◌, ap, lt_of_lt_of_le}
 use Rattle.std.specs.Prelude.{IfOk}
 use Rattle.std.specs.Result.{IsErrAnd}

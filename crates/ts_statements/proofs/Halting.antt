@@ -1,4 +1,4 @@
--- A part stops where one of its parts does, or where a token is missing.
+-- A part stops if one of its parts does, or if a token is missing.
 use Rattle.std.proofs.Common.{◌≡◌, List, Result, Ok, Err, Bor, refl, sym, subst}
 use Rattle.std.specs.Result.{IsErrAnd}
 use Rattle.ts_syntax.specs.declared.stmt.Stmt.{Stmt}

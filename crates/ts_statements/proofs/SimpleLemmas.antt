@@ -1,4 +1,4 @@
--- Reading a statement that holds no block, and the head of a `for`: which token is taken in each state, and where none fits.
+-- Reading a statement that holds no block, and the head of a `for`: which token is taken in each state, and when none fits.
 use Rattle.std.proofs.Common.{◌≡◌, ℕ, List, Some, None, Err, refl, sym, ◌∙◌, ap}
 use Rattle.ts_syntax.specs.declared.word.Word.{Word}
 use Rattle.ts_syntax.specs.declared.token.Token.{Token}

@@ -1,4 +1,4 @@
--- Behind `x =`: a buffer's name and `[]`, whose last value is taken, or an expression, which may begin alike.
+-- After `x =`: a buffer's name and `[]`, whose last value is taken, or an expression, which may begin alike.
 use Rattle.std.proofs.Common.{◌≡◌, ℕ, List, Some, None, Result, Ok, Err, Bor, refl, sym, ◌∙◌, ap}
 use Rattle.std.specs.Result.{IsErrAnd, result_ok}
 use Rattle.ts_syntax.specs.declared.word.Word.{Word}

@@ -13,7 +13,7 @@ use ts_expressions::expr;
 use ts_syntax::expect::{after, ended, name};
 use ts_syntax::{Expr, ForHead, Halt, Step, Token, TokenKind};
 
-/// Reads the head of a `for` behind that keyword.
+/// Reads the head of a `for` after that keyword.
 #[inline(never)]
 pub fn for_head<'a>(alloc: Global, tokens: &'a [Token]) -> Result<(ForHead, &'a [Token]), Halt<'a>>
     ensures reads { Reads {K = Acts × Frame} tokens.now (λ k. for_word k.0 k.1) (λ h k. head_read k h) result }
@@ -31,7 +31,7 @@ pub fn for_head<'a>(alloc: Global, tokens: &'a [Token]) -> Result<(ForHead, &'a 
     Ok((head, rest))
 }
 
-/// Reads on behind `to`: the limit, and the step if there is one.
+/// Reads on after `to`: the limit, and the step if there is one.
 fn limit<'a>(
     alloc: Global,
     tokens: &'a [Token],
@@ -44,7 +44,7 @@ fn limit<'a>(
     Ok(((to, step), rest))
 }
 
-/// Reads `step` and its literal; None where another token than `step` follows.
+/// Reads `step` and its literal; None if another token than `step` follows.
 fn step<'a>(tokens: &'a [Token]) -> Result<(Option<Step>, &'a [Token]), Halt<'a>>
     requires { Lacks kind.Or tokens.now }
     ensures reads { Reads {K = Limit} tokens.now (λ k. limit_read k.bound k.to) (λ s k. limited k.bound k.to s) result }
@@ -58,7 +58,7 @@ fn step<'a>(tokens: &'a [Token]) -> Result<(Option<Step>, &'a [Token]), Halt<'a>
     Ok((Some(Step { minus, size, place }), rest))
 }
 
-/// Whether the tokens begin with `-`, and the tokens behind it.
+/// Whether the tokens begin with `-`, and the tokens after it.
 fn sign(tokens: &[Token]) -> (bool, &[Token])
     ensures { FindsMinus tokens.now result.0 result.1.now }
 {

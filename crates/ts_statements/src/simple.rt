@@ -1,4 +1,4 @@
-//! Statements that hold no block. They stay calls of their own: what calls them recurs, and they need more stack than it.
+//! Statements that hold no block. They aren't inlined: what calls them is recursive, and they need more stack than it.
 
 ghost use Rattle.std.specs.Prelude.{◌<◌, length, IfOk, IfSome};
 ghost use Rattle.ts_syntax.specs.Machine.{stmt_named, set_to, boxed, cleared, do_word};
@@ -11,7 +11,7 @@ use ts_expressions::{arguments, expr};
 use ts_syntax::expect::{after, ended, expect, name};
 use ts_syntax::{Expr, Halt, Stmt, Token, TokenKind, Word};
 
-/// Reads on behind the first name of a statement.
+/// Reads on after the first name of a statement.
 #[inline(never)]
 pub fn behind_name<'a>(
     alloc: Global,
@@ -32,7 +32,7 @@ pub fn behind_name<'a>(
     Ok((Stmt::Do(word, args), rest))
 }
 
-/// Reads on behind `x =`: a buffer and `[];`, or an expression and `;`.
+/// Reads on after `x =`: a buffer and `[];`, or an expression and `;`.
 fn setting<'a>(
     alloc: Global,
     word: Word,
@@ -49,7 +49,7 @@ fn setting<'a>(
     Ok((Stmt::Set(word, value), rest))
 }
 
-/// A buffer's name and what stands behind its `[]`; None where the tokens don't begin with these three.
+/// A buffer's name and what comes after its `[]`; None if the tokens don't begin with these three.
 fn after_taken(tokens: &[Token]) -> Option<(Word, &[Token])>
     ensures finds { FindsTaken tokens.now result }
     ensures shorter { IfSome result (λ x. length x.1.now < length tokens.now) }
@@ -58,7 +58,7 @@ fn after_taken(tokens: &[Token]) -> Option<(Word, &[Token])>
     ended(boxed, &TokenKind::CloseBox).ok()
 }
 
-/// Reads on behind `p [`: `] = e;`, or `i] = e;`.
+/// Reads on after `p [`: `] = e;`, or `i] = e;`.
 fn item_setting<'a>(
     alloc: Global,
     buffer: Word,
@@ -85,7 +85,7 @@ fn value<'a>(alloc: Global, tokens: &'a [Token]) -> Result<(Expr, &'a [Token]), 
     ended(expr(alloc, rest), &TokenKind::Semi)
 }
 
-/// Reads on behind `clear`.
+/// Reads on after `clear`.
 #[inline(never)]
 pub fn clearing<'a>(tokens: &'a [Token]) -> Result<(Stmt, &'a [Token]), Halt<'a>>
     ensures reads { ReadsStmt tokens.now cleared result }
@@ -97,7 +97,7 @@ pub fn clearing<'a>(tokens: &'a [Token]) -> Result<(Stmt, &'a [Token]), Halt<'a>
     Ok((Stmt::Clear(buffer), rest))
 }
 
-/// Reads on behind `do`.
+/// Reads on after `do`.
 #[inline(never)]
 pub fn running<'a>(alloc: Global, tokens: &'a [Token]) -> Result<(Stmt, &'a [Token]), Halt<'a>>
     ensures reads { ReadsStmt tokens.now do_word result }

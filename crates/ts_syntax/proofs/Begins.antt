@@ -1,4 +1,4 @@
--- Tokens begin a part exactly where some tokens after them make it whole.
+-- Tokens begin a part exactly if some tokens after them make it whole.
 use Rattle.std.proofs.Common.{◌≡◌, List, [], ◌∷◌, ◌++◌, refl, sym, ◌∙◌, ap, subst, append_assoc, append-nil}
 use Rattle.ts_syntax.specs.declared.token.TokenKind.{TokenKind}
 use Rattle.ts_syntax.specs.declared.token.TokenKind.TheVariants as kind

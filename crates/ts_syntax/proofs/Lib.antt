@@ -1,11 +1,7 @@
-pub mod ArgsLemmas
 pub mod Begins
-pub mod BlockLemmas
 pub mod Examples
-pub mod FailureLemmas
 pub mod FromTree
 pub mod GrammarLemmas
-pub mod ListLemmas
 pub mod SeenLemmas
 pub mod ToTree
 pub mod CodeLemmas

@@ -1,4 +1,4 @@
--- Where one kind of token alone would be taken: what the tokens that lack it begin with, and that no other kind is taken.
+-- If only one kind of token would be taken: what the tokens that lack it begin with, and that no other kind is taken.
 use Rattle.std.proofs.Common.{◌≡◌, ℕ, List, ◌∷◌, None, refl, subst}
 use Rattle.ts_syntax.specs.declared.token.Token.{Token}
 use Rattle.ts_syntax.specs.declared.token.TokenKind.{TokenKind}

@@ -1,4 +1,4 @@
--- A tree with other places: those of a list, in the order in which they stand.
+-- A tree with other places: those of a list, in their order.
 use Rattle.std.proofs.Common.{ℕ, List, [], ◌∷◌, Option, Some, None}
 use Rattle.ts_syntax.specs.declared.word.Word.{Word}
 use Rattle.ts_syntax.specs.declared.stmt.Step.{Step}

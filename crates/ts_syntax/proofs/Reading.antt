@@ -1,4 +1,4 @@
--- How the machine reads tokens with their places: one token taken, or none where two states take the next alike.
+-- How the machine reads tokens with their places: one token taken, or none if two states take the next alike.
 use Rattle.std.proofs.Common.{◌≡◌, ℕ, Bool, false, List, [], ◌∷◌, ◌++◌, Option, Some, None, Err, refl, ◌∙◌, ap}
 use Rattle.ts_syntax.specs.declared.token.Token.{Token}
 use Rattle.ts_syntax.specs.declared.token.TokenKind.{TokenKind}

@@ -1,6 +1,6 @@
--- Where the machine falls from one level of an expression to a looser one, and where an expression begins.
+-- When the machine goes from one level of an expression to a looser one, and where an expression begins.
 use Rattle.std.proofs.Common.{◌≡◌, ℕ, Bool, true, false, List, [], ◌∷◌, Option, Some, None, refl, sym, ◌∙◌, ap}
-use Rattle.ts_syntax.specs.declared.bin_op.BinOp.TheVariants as op
+use Rattle.ts_checked.specs.declared.bin_op.BinOp.TheVariants as op
 use Rattle.ts_syntax.specs.declared.word.Word.{Word}
 use Rattle.ts_syntax.specs.declared.token.TokenKind.{TokenKind}
 use Rattle.ts_syntax.specs.declared.token.TokenKind.TheVariants as kind

@@ -1,7 +1,7 @@
 -- The grammar of each dialect as a machine that reads one token after another. A continuation says where a part is.
 use Rattle.std.specs.Prelude.{ℕ, Bool, true, false, List, [], ◌∷◌, ◌++◌, Option, Some, None, Result, Ok, Err}
-use Rattle.ts_syntax.specs.declared.bin_op.BinOp.{BinOp}
-use Rattle.ts_syntax.specs.declared.bin_op.BinOp.TheVariants as op
+use Rattle.ts_checked.specs.declared.bin_op.BinOp.{BinOp}
+use Rattle.ts_checked.specs.declared.bin_op.BinOp.TheVariants as op
 use Rattle.ts_syntax.specs.declared.dialect.Dialect.{Dialect}
 use Rattle.ts_syntax.specs.declared.dialect.Dialect.TheVariants as dialect
 use Rattle.ts_syntax.specs.declared.word.Word.{Word}

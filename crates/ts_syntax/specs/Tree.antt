@@ -1,6 +1,6 @@
 -- Trees without pointers: what definitions and laws see of a script.
 use Rattle.std.specs.Prelude.{ℕ, List, [], Option}
-use Rattle.ts_syntax.specs.declared.bin_op.BinOp.{BinOp}
+use Rattle.ts_checked.specs.declared.bin_op.BinOp.{BinOp}
 use Rattle.ts_syntax.specs.declared.word.Word.{Word}
 use Rattle.ts_syntax.specs.declared.stmt.Step.{Step}
 use Rattle.ts_syntax.specs.declared.script.Decl.{Decl}

@@ -21,7 +21,7 @@ pub fn expect<'a>(tokens: &'a [Token], kind: &TokenKind) -> Result<&'a [Token], 
     Ok(rest)
 }
 
-/// What was read, with the sign or keyword taken that ends it.
+/// What was read, if the sign or keyword that ends it comes next; that is taken, too.
 pub fn ended<'a, T: Drop>(
     read: Result<(T, &'a [Token]), Halt<'a>>,
     kind: &TokenKind,
@@ -33,7 +33,7 @@ pub fn ended<'a, T: Drop>(
     Ok((value, rest))
 }
 
-/// What stands behind a sign or a keyword; None where the tokens begin with another one.
+/// What comes after a sign or a keyword; None if the tokens don't begin with it.
 pub fn after<'a>(tokens: &'a [Token], kind: &TokenKind) -> Option<&'a [Token]>
     ensures { Finds kind.now tokens.now result }
 {
@@ -45,7 +45,7 @@ pub fn after<'a>(tokens: &'a [Token], kind: &TokenKind) -> Option<&'a [Token]>
     Some(rest)
 }
 
-/// Takes a name, with its place.
+/// Takes a name, and gives it with its place.
 pub fn name<'a>(tokens: &'a [Token]) -> Result<(Word, &'a [Token]), Halt<'a>>
     ensures { TakesName tokens.now result }
 {
@@ -99,7 +99,7 @@ fn comparison_operator(kind: &TokenKind) -> Option<BinOp>
     }
 }
 
-/// The operator of a product, and what stands behind it.
+/// The operator of a product, and what comes after it; None if none comes first.
 pub fn after_product_sign(tokens: &[Token]) -> Option<(BinOp, &[Token])>
     ensures { FindsOperator product_sign tokens.now result }
 {
@@ -108,7 +108,7 @@ pub fn after_product_sign(tokens: &[Token]) -> Option<(BinOp, &[Token])>
     Some((op, rest))
 }
 
-/// The operator of a sum, and what stands behind it.
+/// The operator of a sum, and what comes after it; None if none comes first.
 pub fn after_sum_sign(tokens: &[Token]) -> Option<(BinOp, &[Token])>
     ensures { FindsOperator sum_sign tokens.now result }
 {
@@ -117,7 +117,7 @@ pub fn after_sum_sign(tokens: &[Token]) -> Option<(BinOp, &[Token])>
     Some((op, rest))
 }
 
-/// The operator of a comparison, and what stands behind it.
+/// The operator of a comparison, and what comes after it; None if none comes first.
 pub fn after_comparison_sign(tokens: &[Token]) -> Option<(BinOp, &[Token])>
     ensures { FindsOperator comparison_sign tokens.now result }
 {

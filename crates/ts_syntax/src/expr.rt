@@ -1,8 +1,8 @@
 //! Expressions.
 
-use crate::bin_op::BinOp;
 use crate::word::Word;
 use mate_num::Items;
+use ts_checked::BinOp;
 
 /// An expression, as it is written: parentheses are kept.
 #[derive(Drop)]

@@ -1,4 +1,4 @@
-//! The grammar and the trees agree.
+//! The law that the grammar and the trees agree.
 
 ghost use Rattle.std.specs.Prelude.{List, ◌↔◌};
 ghost use Rattle.ts_syntax.specs.declared.token.TokenKind.{TokenKind};
@@ -6,9 +6,9 @@ ghost use Rattle.ts_syntax.specs.declared.dialect.Dialect.TheVariants.{Procedure
 ghost use Rattle.ts_syntax.specs.Grammar.{rule, script, pscript, Whole, BeginsPart};
 ghost use Rattle.ts_syntax.specs.Script.{IsScript, BeginsScript, IsProcedureScript, BeginsScriptIn};
 
-/// The law of the grammar: the tokens that it derives a whole script from are those that some derived tree
-/// spells, and the tokens that begin a script by its cases are those that some tokens after them complete. Scripts with
-/// procedures likewise.
+/// The law of the grammar: the tokens that it derives a whole script from are those that some derived tree spells,
+/// and its cases say that tokens begin a script exactly if some tokens after them complete one. The same holds for
+/// scripts with procedures.
 pub fn grammar_law()
     ensures whole { (ms : List TokenKind) → Whole (rule script) ms ↔ IsScript ms }
     ensures begins { (ms : List TokenKind) → BeginsPart (rule script) ms ↔ BeginsScript ms }

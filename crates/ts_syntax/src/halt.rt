@@ -6,8 +6,8 @@ use crate::Token;
 use mate_num::NoMemory;
 use std::alloc::AllocError;
 
-/// Why parsing stopped: for want of memory, or at the first of these tokens, which doesn't fit. Where there
-/// is none, the text ends too early.
+/// Why parsing stopped: memory ran out, or the first of these tokens doesn't fit. If there is no token left, the text
+/// ends too early.
 #[derive(Drop)]
 pub enum Halt<'a> {
     Memory,

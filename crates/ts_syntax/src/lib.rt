@@ -1,10 +1,6 @@
-//! TinyScript's syntax: tokens, trees, the grammar that both follow, the machine that reads tokens by it, and checked trees.
+//! TinyScript's syntax: tokens, trees, the grammar that both follow, and the machine that reads tokens by it.
 #![tactic(auto)]
 
-pub mod bin_op;
-pub mod checked;
-pub mod checked_expr;
-pub mod checked_stmt;
 pub mod code;
 pub mod dialect;
 pub mod expect;
@@ -18,10 +14,6 @@ pub mod stmt;
 pub mod token;
 pub mod word;
 
-pub use bin_op::BinOp;
-pub use checked::Checked;
-pub use checked_expr::{CArgs, CExpr};
-pub use checked_stmt::{CBlock, CForHead, CStmt, CVar};
 pub use dialect::Dialect;
 pub use expr::{Args, Expr};
 pub use grammar::grammar_law;
@@ -31,4 +23,5 @@ pub use procedure::{PBlock, PStmt, Proc, ProcScript, Procs, Words};
 pub use script::{Decl, DeclKind, Decls, Script};
 pub use stmt::{Block, ForHead, Step, Stmt};
 pub use token::{Token, TokenKind, Tokens};
+pub use ts_checked::{BinOp, CArgs, CBlock, CExpr, CForHead, CStmt, CVar, Checked};
 pub use word::Word;

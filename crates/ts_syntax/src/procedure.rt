@@ -5,10 +5,10 @@ use crate::stmt::{Block, Stmt};
 use crate::word::Word;
 use mate_num::Items;
 
-/// A statement where a script may have procedures: each of `Stmt`'s forms.
+/// A statement in a script that may have procedures: each of `Stmt`'s forms.
 pub type PStmt = Stmt;
 
-/// Statements in order, where a script may have procedures.
+/// Statements in order, in a script that may have procedures.
 pub type PBlock = Block;
 
 /// Names in order. Contracts see a list of Word.
@@ -25,8 +25,8 @@ pub struct Proc {
 /// The procedures of a script, in order. Contracts see a list of Proc.
 pub type Procs = Items<Proc>;
 
-/// A script with procedures as it is written: its declarations, its procedures, then its statements. Which names
-/// a `do` may call and how many arguments it takes is no matter of it.
+/// A script with procedures as it is written: its declarations, its procedures, then its statements. It doesn't say
+/// whether each `do` calls a procedure that exists, or with the right number of arguments.
 #[derive(Drop)]
 pub struct ProcScript {
     pub decls: Decls,

@@ -17,7 +17,7 @@ pub enum DeclKind {
 pub struct Decl {
     pub kind: DeclKind,
     pub word: Word,
-    /// Whether the keyword stands before the name; a comma does otherwise.
+    /// Whether the keyword is before the name; else a comma is.
     pub first: bool,
 }
 
@@ -30,7 +30,7 @@ pub struct Script {
     pub body: Block,
 }
 
-/// What is to be dropped of it is dropped in one function, and so by one call wherever a script ends.
+/// All that has to be dropped is dropped in one function, so each place at which a script ends has one call.
 impl Drop for Script {
     fn drop(self) {
         let Script {

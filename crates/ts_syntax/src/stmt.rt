@@ -7,7 +7,7 @@ use mate_num::Items;
 /// The literal after `step`.
 #[derive(Clone, Copy)]
 pub struct Step {
-    /// Whether `-` stands before the literal.
+    /// Whether `-` is before the literal.
     pub minus: bool,
     /// The literal's value, from 0 to 65535.
     pub size: u16,

@@ -23,7 +23,7 @@ pub enum TokenKind {
     Size,
     Clear,
     Msg,
-    /// A keyword where a script may have procedures, and a plain name elsewhere; `Do` likewise.
+    /// A keyword if a script may have procedures, else a plain name; `Do` likewise.
     Proc,
     Do,
     /// `;`

@@ -1,8 +1,8 @@
-//! A name where it stands.
+//! A name and its place.
 
 use mate_num::Name;
 
-/// A name as it stands in a source.
+/// A name as it is in a source.
 #[derive(Drop)]
 pub struct Word {
     pub name: Name,

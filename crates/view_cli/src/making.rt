@@ -12,8 +12,8 @@ use view_tables::{Form, write_calls, write_events, write_spread, write_stats};
 use vm_desc::Description;
 use world_programs::world_of;
 
-/// Makes a view of the report that `reader` gives. Files are read first, then the report. Rows are written as they are read; all else
-/// once the report is read whole, so that nothing is written of one with a bad line.
+/// Makes a view of the report that `reader` gives. Files are read first, then the report. Rows are written as they
+/// are read; everything else once the report is read whole, so that nothing is written for a report with a bad line.
 pub fn view<F: Files, R: Read, S: Sink>(
     alloc: Global,
     request: &Request<'_>,

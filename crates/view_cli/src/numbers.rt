@@ -2,7 +2,7 @@
 
 use report_fields::numbers::{below, unsigned};
 
-/// The number in a word, below 2^64, with no sign and no 0 before it; where there is no word, the one that stands for it.
+/// The number in a word, below 2^64, with no sign and no 0 before it; `none` if there is no word.
 pub fn number_or(word: Option<&str>, none: u64) -> Option<u64> {
     match word {
         Some(word) => unsigned(word.as_bytes()),
@@ -10,7 +10,7 @@ pub fn number_or(word: Option<&str>, none: u64) -> Option<u64> {
     }
 }
 
-/// The nodes of a list as `0,3,8-15`, a bit each.
+/// The nodes of a list such as `0,3,8-15`, a bit for each; None if the word is no such list.
 pub fn nodes_of(word: &str) -> Option<u64> {
     let mut nodes = 0u64;
     for part in word.split(',') {
@@ -25,7 +25,7 @@ fn node_of(word: &str) -> Option<u64> {
     below(word.as_bytes(), 64)
 }
 
-/// The nodes from one to another, a bit each.
+/// The nodes from `first` to `last`, a bit for each.
 fn nodes_between(first: u64, last: u64) -> u64 {
     let mut nodes = 0u64;
     for node in 0..64u64 {

@@ -10,7 +10,7 @@ use std::alloc::{AllocError, Global};
 use view_pictures::{Window, all_nodes};
 use view_tables::Form;
 
-/// Reads the words, which don't hold the program's own name.
+/// Reads the words, without the program's own name.
 #[inline(never)]
 pub fn read<'a>(alloc: Global, words: &'a [String]) -> Result<Request<'a>, Refusal> {
     let command = match command(alloc) {
@@ -35,7 +35,7 @@ fn refusal_of(error: &Error) -> Refusal {
     }
 }
 
-/// The one command that the program has.
+/// The one command that `clap` knows: flags, options and words.
 fn command<'a>(alloc: Global) -> Result<Command<'a>, AllocError> {
     Command::new(alloc, "mate-view")
         .no_binary_name(true)
@@ -63,7 +63,7 @@ fn word<'a>(alloc: Global, name: &'a str) -> Arg<'a> {
     Arg::new(alloc, name).action(ArgAction::Set)
 }
 
-/// What the words ask for; None where a view doesn't take them.
+/// What the words ask for; None if a view doesn't take them.
 fn request_of<'a>(matches: &ArgMatches<'a>) -> Option<Request<'a>> {
     Some(Request {
         view: view_of(matches)?,
@@ -93,7 +93,7 @@ fn view_of<'a>(matches: &ArgMatches<'a>) -> Option<View<'a>> {
     }
 }
 
-/// Whether the flag stands among the words.
+/// Whether the flag is among the words.
 fn is_given(matches: &ArgMatches<'_>, flag: &str) -> bool {
     match matches.value_source(flag) {
         Some(ValueSource::CommandLine) => true,

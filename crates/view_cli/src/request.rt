@@ -8,23 +8,23 @@ use view_tables::Form;
 pub enum View<'a> {
     /// The timeline of its nodes.
     Timeline(Window),
-    /// How versions spread, with the bounds of the world of a script where its file is given.
+    /// How versions spread, with the bounds of the world of a script if its file is given.
     Spread {
         world: Option<&'a str>,
         window: Window,
     },
-    /// Rows.
+    /// Rows of a table.
     Csv {
         rows: Rows,
         form: Form,
     },
-    /// Sums.
+    /// The sums of a run.
     Stats {
         json: bool,
     },
 }
 
-/// What a row is.
+/// What each row is about.
 #[derive(Clone, Copy)]
 pub enum Rows {
     /// A record.

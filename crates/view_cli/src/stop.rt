@@ -1,4 +1,4 @@
-//! Why a view isn't made, as the program tells it.
+//! Why a view isn't made, as the program says it.
 
 use mate_files::{Pen, Sink};
 use mate_refusals::{Refusal, Status};
@@ -7,7 +7,7 @@ use view_records::ViewFault;
 /// Why a view isn't made.
 #[derive(Drop)]
 pub enum Stop {
-    /// For a cause that `mate` has, too.
+    /// For a refusal that `mate` has, too.
     Refused(Refusal),
     /// The report's first line, counted from 1, that doesn't fit after the lines before it.
     BadReport { line: u64 },
@@ -33,8 +33,8 @@ impl From<ViewFault> for Stop {
 }
 
 impl Stop {
-    /// Writes the line that tells why, and answers the status: 11 for a bad line of a report, and else that of `mate`. `report` is the
-    /// name of the report's file.
+    /// Writes the line that says why, and returns the status: 11 for a bad line of a report, else that of `mate`.
+    /// `report` is the name of the report's file.
     pub fn tell<E: Sink>(&self, report: &str, err: &mut E) -> Status {
         match self {
             Stop::Refused(refusal) => refusal.refuse(err),

@@ -1,11 +1,12 @@
-//! By when each node is to hold a version: three longest intervals a hop after it was injected.
+//! The bounds of a world: the time by which each node has to hold a version, three longest intervals for each hop
+//! from where it was injected.
 
 use std::alloc::Global;
 use view_records::ViewFault;
 use vm_desc::Description;
 use world_script::{Link, What, World};
 
-/// By when a node is to hold a version.
+/// The time by which a node has to hold a version.
 #[derive(Clone, Copy)]
 pub struct Bound {
     pub node: u8,
@@ -17,7 +18,7 @@ pub struct Bound {
     pub by: u64,
 }
 
-/// The bounds of all injections of a world, and whether the world is one for which they are promised.
+/// The bounds of all injections of a world, and whether they are promised for this world.
 #[derive(Drop)]
 pub struct Bounds {
     pub bounds: Vec<Bound>,
@@ -28,7 +29,7 @@ pub struct Bounds {
 }
 
 impl Bounds {
-    /// The bounds of a world. A later injection for the same handler ends those that it comes before.
+    /// The bounds of a world. A later injection for the same handler replaces those bounds that end after it.
     pub fn of(alloc: Global, desc: &Description, world: &World) -> Result<Bounds, ViewFault> {
         let around = Around::of(world.links.as_slice());
         let hop = hop_of(desc);
@@ -58,7 +59,7 @@ impl Bounds {
         Ok(bounds)
     }
 
-    /// Forgets the bounds of the handler's older versions that end later.
+    /// Drops the bounds of the handler's older versions that end later.
     fn forget(&mut self, injected: &Bound) {
         let (handler, by) = (injected.handler, injected.by);
         self.bounds
@@ -101,12 +102,12 @@ fn has_loss(links: &[Link]) -> bool {
     false
 }
 
-/// The bit of a node.
+/// The word with the bit of a node.
 fn bit(node: u8) -> u64 {
     if node < 64 { 1 << node } else { 0 }
 }
 
-/// For each node, a bit a node to which it has a link.
+/// For each node, a word with a bit for each node to which it has a link.
 #[derive(Clone, Copy)]
 struct Around {
     to: [u64; 64],
@@ -130,7 +131,7 @@ impl Around {
         from < 64 && to < 64 && self.to[from] & bit(b) != 0 && self.to[to] & bit(a) != 0
     }
 
-    /// The nodes that have links both ways with some of these.
+    /// The nodes that have links both ways with at least one of these.
     fn next(&self, nodes: u64) -> u64 {
         let mut next = 0u64;
         for node in 0..64u8 {

@@ -8,7 +8,7 @@ use view_records::ViewFault;
 /// The most installs that a picture has.
 const INSTALLS_MAX: usize = 10_000;
 
-/// A version that comes to a node.
+/// A version that a node gets.
 #[derive(Clone, Copy)]
 pub struct Install {
     pub node: u8,
@@ -21,9 +21,9 @@ pub struct Install {
 #[derive(Drop)]
 pub struct Installs {
     pub installs: Vec<Install>,
-    /// Where they were too many.
+    /// When the installs became too many, if they did.
     pub full: Option<Stamp>,
-    /// The last record.
+    /// The stamp of the last record.
     pub last: Stamp,
 }
 
@@ -37,7 +37,7 @@ impl Installs {
         }
     }
 
-    /// Takes what a line tells.
+    /// Takes what a line records.
     pub fn take(&mut self, line: &Line) -> Result<(), ViewFault> {
         self.last = line.stamp;
         let Told::Installed {
@@ -85,7 +85,7 @@ pub fn first_newer(installs: &[Install], install: &Install) -> Option<Stamp> {
     None
 }
 
-/// When the next version of the same handler comes to the same node, if it does.
+/// When the same node gets the next version of the same handler, if it does.
 pub fn next_of(installs: &[Install], install: &Install) -> Option<Stamp> {
     for other in installs {
         let same = other.handler == install.handler && other.node == install.node;
@@ -108,7 +108,7 @@ impl Held {
         Held { versions: [0; 64] }
     }
 
-    /// A version comes to a node.
+    /// A node gets a version.
     pub fn take(&mut self, install: &Install) {
         let node = usize::from(install.node);
         if node < 64 {
@@ -125,7 +125,7 @@ impl Held {
         newest
     }
 
-    /// How many nodes hold it.
+    /// How many nodes hold the newest version.
     pub fn holders(&self) -> u64 {
         let newest = self.newest();
         let mut count = 0u64;

@@ -25,7 +25,7 @@ pub struct Lane {
     pub node: u8,
     /// The top of its own lane, in pixels.
     pub top: u64,
-    /// A bit a context that has a lane.
+    /// A bit for each context that has a lane.
     pub contexts: u64,
 }
 
@@ -57,7 +57,7 @@ impl Lane {
         context < 64 && (self.contexts >> context) & 1 == 1
     }
 
-    /// How many of the contexts before this one have a lane.
+    /// How many of the contexts before this one have a lane, too.
     fn rank(&self, context: u8) -> u64 {
         let mut count = 0u64;
         for before in 0..context {
@@ -73,12 +73,12 @@ impl Lane {
 #[derive(Drop)]
 pub struct Lanes {
     pub lanes: Vec<Lane>,
-    /// The bottom of the last one.
+    /// The bottom of the last lane, in pixels.
     pub bottom: u64,
 }
 
 impl Lanes {
-    /// The lanes of so many nodes, as far as the window has them: one for each context that has a mark.
+    /// The lanes of `nodes` nodes, as far as the window has them: one for each context that has a mark.
     pub fn of(
         alloc: Global,
         window: &Window,

@@ -12,7 +12,7 @@ use vm_desc::Description;
 /// How high the legend of a timeline is, in pixels.
 pub const LEGEND: u64 = 66;
 
-/// Writes the legend from this height on.
+/// Writes the legend from this height on, in pixels.
 pub fn write_legend<S: Sink>(desc: &Description, top: u64, ink: &mut Ink<S>) {
     let y = top.saturating_add(16);
     write_bars(y, ink);
@@ -48,7 +48,7 @@ fn bar<S: Sink>(ink: &mut Ink<S>, class: &str, x: u64, y: u64, height: u64) {
     ink.text("/>\n");
 }
 
-/// A cross, up to its end.
+/// Writes a cross, up to its end.
 pub fn write_cross<S: Sink>(x: u64, y: u64, ink: &mut Ink<S>) {
     begin(ink, "path", "x");
     begin_path(ink, x, y, "m-4-4l8 8m0-8l-8 8");

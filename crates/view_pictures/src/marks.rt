@@ -7,7 +7,7 @@ use report_reader::{Line, Told};
 use std::alloc::Global;
 use view_records::{Flight, Flights, Nodes, Stretch, ViewFault};
 
-/// The most marks that a picture has, beside those of invocations that live at its end.
+/// The most marks that a picture has, not counting those of invocations that are live at its end.
 const MARKS_MAX: usize = 10_000;
 
 /// What a mark shows.
@@ -15,7 +15,7 @@ const MARKS_MAX: usize = 10_000;
 pub enum What {
     /// What an invocation did.
     Stretch(Stretch),
-    /// A version came to the node.
+    /// The node got a version.
     Installed {
         handler: HandlerId,
         version: u32,
@@ -27,12 +27,12 @@ pub enum What {
     },
     /// The node was reset.
     Reset,
-    /// A packet of the node came to another one.
+    /// A packet of the node arrived at another one.
     Came {
         number: u32,
         to: u8,
     },
-    /// A packet of the node didn't come to another one.
+    /// A packet of the node was lost on its way to another one.
     Lost {
         number: u32,
         to: u8,
@@ -56,9 +56,9 @@ pub struct Marks {
     nodes: Nodes,
     flights: Flights,
     ended: Vec<Stretch>,
-    /// Where the marks were too many.
+    /// When the marks became too many, if they did.
     pub full: Option<Stamp>,
-    /// The last record.
+    /// The stamp of the last record.
     pub last: Stamp,
 }
 
@@ -76,7 +76,7 @@ impl Marks {
         })
     }
 
-    /// Marks what a line tells.
+    /// Marks what a line records.
     pub fn take(&mut self, line: &Line) -> Result<(), ViewFault> {
         self.last = line.stamp;
         if self.full.is_some() {
@@ -106,7 +106,7 @@ impl Marks {
         }
     }
 
-    /// Marks what the invocations do that live at the end.
+    /// Marks what the invocations do that are live at the end.
     pub fn finish(&mut self) -> Result<(), ViewFault> {
         self.nodes.finish(&mut self.ended)?;
         self.mark_ended()
@@ -195,7 +195,7 @@ impl Marks {
         }
     }
 
-    /// A packet came; it is a mark where both nodes are seen.
+    /// A packet arrived; it is a mark if both nodes are seen.
     fn came(
         &mut self,
         number: u32,

@@ -41,7 +41,7 @@ impl Scale {
         (LEFT * 10).saturating_add(across)
     }
 
-    /// The step of the scale: 1, 2 or 5 times a power of ten, so that there are few.
+    /// The step of the scale: 1, 2 or 5 times a power of ten, so that there are at most `STEPS` steps.
     pub fn step(&self) -> u64 {
         let span = self.span();
         let mut power = 1u64;

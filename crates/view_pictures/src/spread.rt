@@ -38,7 +38,7 @@ const GAP: u64 = 24;
 /// How high the legend is, in pixels.
 const LEGEND: u64 = 34;
 
-/// Draws how versions spread, once the report is read whole. Of a world's script it takes the bounds.
+/// Draws how versions spread, once the report is read whole. If the script of a world is given, its bounds are drawn, too.
 pub fn draw_spread<R: Read, S: Sink>(
     alloc: Global,
     desc: &Description,
@@ -126,7 +126,7 @@ impl Part {
         u64::from(node) < self.last.nodes && self.window.has_node(node)
     }
 
-    /// How high what is told of a handler is, in pixels.
+    /// How high the part of a handler is, in pixels.
     fn height(&self) -> u64 {
         (TITLE + CURVE + GAP).saturating_add(self.rows().saturating_mul(ROW))
     }
@@ -227,7 +227,7 @@ fn write_title<S: Sink>(
     end_text(ink);
 }
 
-/// The versions that nodes hold behind all installs.
+/// The versions that nodes hold after all installs.
 fn held_at_end(installs: &[Install], handler: HandlerId) -> Held {
     let mut held = Held::new();
     for install in installs {
@@ -295,7 +295,7 @@ fn share_line<S: Sink>(share: &str, y: u64, ink: &mut Ink<S>) {
     write_text(ink, "e s", LEFT * 10 - 60, y.saturating_add(3), share);
 }
 
-/// The height of a node's row.
+/// The height at which a node's row is, in pixels.
 fn row_of(part: &Part, node: u8, rows: u64) -> u64 {
     let mut y = rows;
     for before in 0..node {
@@ -388,7 +388,7 @@ fn draw_bar<S: Sink>(
     ink.text("</title></rect>\n");
 }
 
-/// Draws by when each node is to hold a version.
+/// Draws the time by which each node has to hold a version.
 fn draw_bounds<S: Sink>(
     part: &Part,
     bounds: &Bounds,

@@ -3,7 +3,7 @@
 use mate_files::Sink;
 use view_records::Ink;
 
-/// A number with a digit behind the point, from tenths.
+/// A number with a digit after the point, given in tenths.
 pub fn write_tenths<S: Sink>(ink: &mut Ink<S>, tenths: u64) {
     ink.number(tenths / 10);
     if tenths % 10 != 0 {
@@ -30,7 +30,7 @@ pub fn attribute_in_tenths<S: Sink>(ink: &mut Ink<S>, name: &str, tenths: u64) {
     ink.text("\"");
 }
 
-/// The beginning of an element of a class, and its number among the classes where it has one.
+/// The beginning of an element of a class; `class` may be followed by a number.
 pub fn begin<S: Sink>(ink: &mut Ink<S>, element: &str, class: &str) {
     ink.text("<");
     ink.text(element);
@@ -39,7 +39,7 @@ pub fn begin<S: Sink>(ink: &mut Ink<S>, element: &str, class: &str) {
     ink.text("\"");
 }
 
-/// The same of a thing of a handler, whose colour has a class of its own.
+/// The same for a thing of a handler, whose colour has a class of its own.
 pub fn begin_of<S: Sink>(ink: &mut Ink<S>, element: &str, class: &str, handler: u8) {
     ink.text("<");
     ink.text(element);
@@ -86,8 +86,8 @@ pub fn write_text<S: Sink>(ink: &mut Ink<S>, class: &str, x: u64, y: u64, text: 
     end_text(ink);
 }
 
-/// The signs of a path round a place: `pieces` are offsets from it in pixels, a move and then lines, each `(across, down)` from the
-/// last one.
+/// The beginning of a path round a place: `lines` are offsets from it in pixels, a move and then lines, each
+/// `(across, down)` from the last one.
 pub fn begin_path<S: Sink>(ink: &mut Ink<S>, x: u64, y: u64, lines: &str) {
     ink.text(" d=\"M");
     write_tenths(ink, x);

@@ -1,4 +1,4 @@
-//! The timeline of a report: a lane a node, and below it one a context.
+//! The timeline of a report: a lane for each node, and below it one for each of its contexts.
 
 use crate::lanes::{CONTEXT_LANE, GAP, HEAD, Lane, Lanes};
 use crate::legend::{LEGEND, write_cross, write_legend};
@@ -20,8 +20,8 @@ use view_records::words::handler_name;
 use view_records::{Ink, Phase, Source, Stretch, StretchEnd, ViewFault};
 use vm_desc::Description;
 
-/// Draws the timeline of a report, once it is read whole. Where it has too many marks, those up to a time are drawn, and the picture
-/// says so.
+/// Draws the timeline of a report, once it is read whole. If it has too many marks, those up to a time are drawn, and
+/// the picture says so.
 pub fn draw_timeline<R: Read, S: Sink>(
     alloc: Global,
     desc: &Description,
@@ -101,7 +101,7 @@ fn draw<S: Sink>(
     end_picture(ink);
 }
 
-/// Says which part is drawn.
+/// Writes which part is drawn.
 fn write_part<S: Sink>(seen: &Seen, count: usize, ink: &mut Ink<S>) {
     begin_text(ink, "t", 100, 38);
     ink.number(count as u64);
@@ -204,7 +204,7 @@ fn draw_came<S: Sink>(
     end_mark(desc, mark, "line", ink);
 }
 
-/// Draws a short end towards the receiver.
+/// Draws a short line towards the receiver, with a bar across its end.
 fn draw_lost<S: Sink>(
     desc: &Description,
     seen: &Seen,
@@ -278,7 +278,7 @@ fn draw_stretch<S: Sink>(
     end_mark(desc, mark, "rect", ink);
 }
 
-/// Draws how an invocation ended, where it did not halt.
+/// Draws how an invocation ended, if it didn't halt.
 fn draw_end<S: Sink>(seen: &Seen, stretch: &Stretch, top: u64, ink: &mut Ink<S>) {
     let x = seen.scale.tenths(seen.window.place(stretch.to));
     match stretch.end {
@@ -318,7 +318,7 @@ fn draw_signs<S: Sink>(
     }
 }
 
-/// Draws a sign. `free` is from where on its lane has room for a text; the answer is that behind the sign.
+/// Draws a sign. `free` is where its lane begins to have room for a text; the result is where it does after the sign.
 fn draw_sign<S: Sink>(
     desc: &Description,
     seen: &Seen,
@@ -364,7 +364,7 @@ fn draw_install<S: Sink>(
     end_mark(desc, mark, "path", ink);
 }
 
-/// Writes the handler and the version beside an install, where there is room for them. The answer is where there is room again.
+/// Writes the handler and the version beside an install, if there is room for them. The result is where there is room again.
 fn write_version<S: Sink>(
     desc: &Description,
     lane: &Lane,

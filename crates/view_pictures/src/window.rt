@@ -5,16 +5,16 @@ use mate_num::Stamp;
 /// Which part of a report is drawn.
 #[derive(Clone, Copy)]
 pub struct Window {
-    /// The first and the last place: times in ms, or numbers of events where `by_events` says so.
+    /// The first and the last place: times in ms, or numbers of events if `by_events` says so.
     pub from: u64,
     pub to: u64,
-    /// A bit a node.
+    /// A bit for each node that is drawn.
     pub nodes: u64,
     /// Whether places are numbers of events.
     pub by_events: bool,
 }
 
-/// A bit for each node that a report may have.
+/// The word with a bit for each node that a report may have.
 pub fn all_nodes() -> u64 {
     u64::MAX
 }
@@ -29,7 +29,7 @@ impl Window {
         }
     }
 
-    /// Where something is on the scale.
+    /// The place on the scale: a time in ms or the number of an event.
     pub fn place(&self, stamp: Stamp) -> u64 {
         if self.by_events {
             stamp.event
@@ -38,7 +38,7 @@ impl Window {
         }
     }
 
-    /// Whether what lasts so long is seen.
+    /// Whether something that lasts from one stamp to another is seen.
     pub fn has_span(&self, from: Stamp, to: Stamp) -> bool {
         self.place(from) <= self.to && self.from <= self.place(to)
     }

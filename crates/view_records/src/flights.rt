@@ -30,14 +30,14 @@ impl Flights {
         }
     }
 
-    /// A packet is sent. Those that no longer are on their way are forgotten.
+    /// A packet is sent. Those that are no longer on their way are forgotten.
     pub fn send(&mut self, flight: Flight) -> Result<(), ViewFault> {
         self.forget(flight.sent.time);
         self.flights.push_back(flight)?;
         Ok(())
     }
 
-    /// Forgets what was sent too long ago to come to anyone now.
+    /// Forgets what was sent too long ago to arrive now.
     fn forget(&mut self, now: u32) {
         for _ in 0..self.flights.len() {
             match self.flights.front() {
@@ -48,7 +48,7 @@ impl Flights {
         }
     }
 
-    /// The packet of this number, where it may still be on its way.
+    /// The packet of this number, if it may still be on its way.
     pub fn find(&self, number: u32) -> Option<Flight> {
         for flight in self.flights.iter().rev() {
             if flight.number == number {

@@ -3,7 +3,7 @@
 use crate::fault::ViewFault;
 use mate_files::{Pen, Sink, SinkFault};
 
-/// A sink and the pen that prints into it. After the first fault nothing more is printed; `check` tells of it.
+/// A sink and the pen that prints into it. After the first fault nothing more is printed; `check` returns it.
 #[derive(Drop)]
 pub struct Ink<S> {
     sink: S,
@@ -34,7 +34,7 @@ impl<S: Sink> Ink<S> {
         self.pen.number(&mut self.sink, number);
     }
 
-    /// Prints a value in decimal digits, with a `-` before them where it is negative.
+    /// Prints a value in decimal digits, with a `-` before them if it is negative.
     pub fn value(&mut self, value: i16) {
         self.pen.signed(&mut self.sink, value);
     }
@@ -44,7 +44,7 @@ impl<S: Sink> Ink<S> {
         self.pen.hex(&mut self.sink, bytes);
     }
 
-    /// Whether all that was printed was taken.
+    /// The first fault, if there was one.
     pub fn check(&self) -> Result<(), ViewFault> {
         match self.pen.result {
             Ok(()) => Ok(()),

@@ -17,18 +17,18 @@ const LINE_MAX: usize = 65_536;
 pub enum Next {
     /// A line: how many bytes it has, without the line feed that ends it.
     Line { length: usize },
-    /// Bytes that no line feed ends, or too many before one.
+    /// Bytes without a line feed at the end, or too many before one.
     Broken,
     /// Nothing.
     End,
 }
 
-/// Lines that are read from `reader` piece by piece, in room for one line and one piece.
+/// Lines that are read from `reader` piece by piece, with room for one line and one piece.
 #[derive(Drop)]
 pub struct Lines<R> {
     reader: R,
     held: Vec<u8>,
-    /// How many bytes of those that are held were taken.
+    /// How many of the bytes that are held were taken.
     taken: usize,
     over: bool,
     ghost within: { taken ≤ length held.items },
@@ -45,7 +45,7 @@ impl<R: Read> Lines<R> {
         }
     }
 
-    /// The bytes that are held and weren't taken.
+    /// The bytes that are held and not yet taken.
     fn rest(&self) -> &[u8] {
         self.held.as_slice().split_at(self.taken).1
     }
@@ -75,7 +75,7 @@ impl<R: Read> Lines<R> {
         rest.split_at(length.min(rest.len())).0
     }
 
-    /// Takes a line of this length and the line feed behind it.
+    /// Takes a line of this length and the line feed after it.
     pub fn take(&mut self, length: usize) {
         if length < self.held.len() - self.taken {
             self.taken += length + 1;
@@ -108,7 +108,7 @@ impl<R: Read> Lines<R> {
     }
 }
 
-/// How many bytes stand before the first line feed, or before the end where there is none.
+/// How many bytes come before the first line feed, or before the end if there is none.
 fn line_len(bytes: &[u8]) -> usize
     ensures { result ≤ length bytes.now }
 {

@@ -10,12 +10,12 @@ use std::alloc::Global;
 /// The most nodes that a report has.
 pub const NODES_MAX: u8 = 64;
 
-/// The invocations that live, by node and context, and the versions that nodes hold.
+/// The live invocations, by node and context, and the versions that nodes hold.
 #[derive(Drop)]
 pub struct Nodes {
     live: Vec<Option<Live>>,
     versions: Vec<u32>,
-    /// When the last line was.
+    /// The stamp of the last line.
     pub now: Stamp,
 }
 
@@ -37,7 +37,7 @@ impl Nodes {
         })
     }
 
-    /// The place of a node's invocation that lives.
+    /// The place of a node's live invocation.
     fn place_of(&self, node: u8, inv: u32) -> Option<usize> {
         let first = usize::from(node) * CONTEXTS_MAX;
         for place in first..first + CONTEXTS_MAX {
@@ -50,7 +50,7 @@ impl Nodes {
         None
     }
 
-    /// A node's invocation, where it lives.
+    /// A node's invocation, if it is live.
     pub fn live(&self, node: u8, inv: u32) -> Option<Live> {
         let place = self.place_of(node, inv)?;
         self.at(place)
@@ -105,7 +105,7 @@ impl Nodes {
         count
     }
 
-    /// Follows the next line. The stretches that end there are put behind those in `ended`.
+    /// Follows the next line. The stretches that end there are appended to `ended`.
     pub fn follow(&mut self, line: &Line, ended: &mut Vec<Stretch>) -> Result<(), ViewFault> {
         self.now = line.stamp;
         match &line.told {
@@ -174,7 +174,7 @@ impl Nodes {
         }
     }
 
-    /// An invocation begins; one that has its context still is cut.
+    /// An invocation begins; one that is still in its context is cut.
     fn open(&mut self, node: u8, live: Live, ended: &mut Vec<Stretch>) -> Result<(), ViewFault> {
         let ctx = usize::from(live.ctx.0);
         if ctx >= CONTEXTS_MAX {
@@ -234,7 +234,7 @@ impl Nodes {
         }
     }
 
-    /// What lives at a place ends.
+    /// What is live at a place ends.
     fn end_at(
         &mut self,
         place: usize,
@@ -255,7 +255,7 @@ impl Nodes {
         Ok(())
     }
 
-    /// All that lives on a node ends.
+    /// All that is live on a node ends.
     fn cut(
         &mut self,
         node: u8,
@@ -270,7 +270,7 @@ impl Nodes {
         Ok(())
     }
 
-    /// The report ends: all that lives is put behind the stretches in `ended`.
+    /// The report ends: the stretches of all that is live are appended to `ended`.
     pub fn finish(&mut self, ended: &mut Vec<Stretch>) -> Result<(), ViewFault> {
         let now = self.now;
         for node in 0..NODES_MAX {

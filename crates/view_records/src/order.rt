@@ -27,14 +27,14 @@ impl Order {
         }
     }
 
-    /// The line so many behind those that were read is bad.
+    /// The fault that the line is bad that comes `behind` lines after those that were read.
     pub fn bad_line(&self, behind: u64) -> ViewFault {
         ViewFault::BadLine {
             line: self.count.saturating_add(behind),
         }
     }
 
-    /// Takes the next line; it is bad where it doesn't fit after those before it.
+    /// Takes the next line; it is bad if it doesn't fit after those before it.
     pub fn take(&mut self, line: &LightLine, bulk: &Bulk) -> Result<(), ViewFault> {
         if !admits_next(&self.place, line, bulk) {
             return Err(self.bad_line(1));
@@ -46,7 +46,7 @@ impl Order {
         Ok(())
     }
 
-    /// Takes the last line; it is bad where it doesn't count those before it.
+    /// Takes the last line; it is bad if it doesn't count those before it.
     pub fn end(&self, last: &LastLine) -> Result<(), ViewFault> {
         let fits = last.records == self.count
             && 1 <= last.nodes

@@ -27,8 +27,8 @@ impl<R: Read> Source<R> {
         }
     }
 
-    /// The next line; None once the last line was read, behind which nothing stands. `BadLine` names the first line that is none of
-    /// a report, at its number.
+    /// The next line; None once the last line was read and nothing comes after it. `BadLine` has the number of the
+    /// first line that isn't one of a report.
     pub fn next(&mut self, desc: &Description) -> Result<Option<Line>, ViewFault> {
         if self.last.is_some() {
             return Ok(None);

@@ -1,4 +1,4 @@
-//! What an invocation does between two records of it.
+//! What an invocation does between two of its records.
 
 use mate_num::{ContextId, FaultKind, FunId, HandlerId, Stamp};
 
@@ -7,13 +7,13 @@ use mate_num::{ContextId, FaultKind, FunId, HandlerId, Stamp};
 pub enum Phase {
     /// It was posted, and waits for its locks.
     Waiting,
-    /// It has its locks, and no call that waits.
+    /// It has its locks, and waits for no answer.
     Running,
     /// It waits for the answer of this function.
     Asking(FunId),
 }
 
-/// An invocation that has not ended, and since when it does what it is doing.
+/// An invocation that hasn't ended, and since when it does what it is doing.
 #[derive(Clone, Copy)]
 pub struct Live {
     pub inv: u32,
@@ -26,7 +26,7 @@ pub struct Live {
 /// What ended a stretch.
 #[derive(Clone, Copy)]
 pub enum StretchEnd {
-    /// The invocation was granted its locks, or it asked a function.
+    /// The invocation was granted its locks, or it called a function.
     Next,
     /// A call was answered by this value.
     Answered(i16),
@@ -36,7 +36,7 @@ pub enum StretchEnd {
     Faulted(FaultKind),
     /// An install or a reset cut the invocation.
     Cut,
-    /// The report ends before.
+    /// The report ended first.
     Open,
 }
 

@@ -1,4 +1,4 @@
-//! Names and words of what a report tells.
+//! Names and words of a report's records.
 
 use mate_journal::VoidCause;
 use mate_num::{FunId, HandlerId};

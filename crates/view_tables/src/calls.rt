@@ -12,7 +12,7 @@ use vm_desc::Description;
 const COLUMNS: &str =
     "node,invocation,handler,context,function,asked_event,asked_time,ended_event,ended_time,wait,end,value";
 
-/// Writes a row a call, as they end: by an answer, by an install or a reset that cuts them, or by the report's end.
+/// Writes a row for each call, when it ends: by an answer, by an install or a reset that cuts it, or by the report's end.
 pub fn write_calls<R: Read, S: Sink>(
     alloc: Global,
     desc: &Description,

@@ -16,13 +16,13 @@ pub struct Cells<'a> {
     pub handler: Option<HandlerId>,
     pub ctx: Option<ContextId>,
     pub fun: Option<FunId>,
-    /// The version that is installed, or the one that a node holds already.
+    /// The version that is installed, or that a node already holds.
     pub version: Option<u32>,
     /// Why, by the report's word; empty for no cause.
     pub cause: &'a str,
     /// The number of a packet.
     pub packet: Option<u32>,
-    /// The other node: whom a packet doesn't reach, or who sent it.
+    /// The other node: the one that a packet doesn't reach, or the sender.
     pub other: Option<u8>,
     /// The length of an interval, in ms.
     pub length: Option<u32>,
@@ -54,7 +54,7 @@ impl<'a> Cells<'a> {
         }
     }
 
-    /// A record of an invocation, which has its handler and its context where it lives.
+    /// A record of an invocation, which has its handler and its context if it is live.
     fn of_invocation(record: &'a str, inv: u32, live: Option<Live>) -> Cells<'a> {
         let cells = Cells {
             inv: Some(inv),
@@ -175,7 +175,7 @@ impl<'a> Cells<'a> {
     }
 }
 
-/// The version that a node holds already.
+/// The version that a node already holds.
 fn held_version(cause: VoidCause) -> Option<u32> {
     match cause {
         VoidCause::NotNewer { held } => Some(held),

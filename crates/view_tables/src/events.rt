@@ -14,7 +14,7 @@ use vm_desc::Description;
 const COLUMNS: &str =
     "line,event,time,node,record,invocation,handler,context,function,version,cause,packet,other,length,values,value,store,bytes";
 
-/// Writes a row a record, as they are read. A bad line ends it behind the rows of the lines before it.
+/// Writes a row for each record, when it is read. A bad line ends the table after the rows of the lines before it.
 pub fn write_events<R: Read, S: Sink>(
     alloc: Global,
     desc: &Description,

@@ -6,13 +6,13 @@ use view_records::Ink;
 /// How rows are written.
 #[derive(Clone, Copy)]
 pub enum Form {
-    /// Cells between commas, below a line with the names of the columns. What a row doesn't have is an empty cell.
+    /// Cells with commas between them, below a line with the names of the columns. What a row doesn't have is an empty cell.
     Csv,
-    /// An object of JSON a line. What a row doesn't have isn't in it.
+    /// One object of JSON on each line. What a row doesn't have isn't in it.
     Json,
 }
 
-/// Writes the names of the columns, where the form has a line of them.
+/// Writes the names of the columns, if the form has a line of them.
 pub fn write_head<S: Sink>(ink: &mut Ink<S>, form: Form, columns: &str) {
     match form {
         Form::Csv => {
@@ -40,7 +40,7 @@ impl Row {
         Row { form, begun: false }
     }
 
-    /// What stands before a cell that has something.
+    /// What comes before a cell that has something.
     fn name<S: Sink>(&mut self, ink: &mut Ink<S>, column: &str) {
         if self.begun {
             ink.text(",");
@@ -69,7 +69,7 @@ impl Row {
         }
     }
 
-    /// What stands round a text.
+    /// What comes before and after a text.
     fn quote<S: Sink>(&self, ink: &mut Ink<S>) {
         match self.form {
             Form::Csv => {}
@@ -83,7 +83,7 @@ impl Row {
         ink.number(number);
     }
 
-    /// A number, where there is one.
+    /// A number, if there is one.
     pub fn number_or_none<S: Sink>(&mut self, ink: &mut Ink<S>, column: &str, number: Option<u32>) {
         match number {
             Some(number) => self.number(ink, column, u64::from(number)),
@@ -91,7 +91,7 @@ impl Row {
         }
     }
 
-    /// A small number, where there is one.
+    /// A small number, if there is one.
     pub fn small_or_none<S: Sink>(&mut self, ink: &mut Ink<S>, column: &str, number: Option<u8>) {
         match number {
             Some(number) => self.number(ink, column, u64::from(number)),
@@ -99,7 +99,7 @@ impl Row {
         }
     }
 
-    /// A value, where there is one.
+    /// A value, if there is one.
     pub fn value_or_none<S: Sink>(&mut self, ink: &mut Ink<S>, column: &str, value: Option<i16>) {
         match value {
             Some(value) => {
@@ -110,7 +110,7 @@ impl Row {
         }
     }
 
-    /// A word of letters, digits and `_`; an empty one is none.
+    /// A word of letters, digits and `_`; an empty one is a cell with nothing.
     pub fn word<S: Sink>(&mut self, ink: &mut Ink<S>, column: &str, word: &str) {
         if word.is_empty() {
             self.none(ink);
@@ -122,7 +122,7 @@ impl Row {
         self.quote(ink);
     }
 
-    /// Bytes in hexadecimal digits, where there are some.
+    /// Bytes in hexadecimal digits, if there are any.
     pub fn hex<S: Sink>(&mut self, ink: &mut Ink<S>, column: &str, bytes: &[u8]) {
         if bytes.is_empty() {
             self.none(ink);
@@ -134,7 +134,7 @@ impl Row {
         self.quote(ink);
     }
 
-    /// Values: between spaces in a cell, a list in JSON.
+    /// Values: with spaces between them in a cell, as a list in JSON.
     pub fn values<S: Sink>(&mut self, ink: &mut Ink<S>, column: &str, values: &[i16]) {
         if values.is_empty() {
             self.none(ink);

@@ -12,8 +12,8 @@ use vm_desc::Description;
 
 const COLUMNS: &str = "event,time,node,handler,version,newest,holders,nodes";
 
-/// Writes a row an install: the newest version of the handler that any node holds by then, how many nodes hold it, and how many
-/// nodes the report has named so far.
+/// Writes a row for each install: the newest version of the handler that any node holds by then, how many nodes hold
+/// it, and how many nodes the report has named so far.
 pub fn write_spread<R: Read, S: Sink>(
     alloc: Global,
     desc: &Description,
@@ -49,7 +49,7 @@ pub fn write_spread<R: Read, S: Sink>(
     ink.check()
 }
 
-/// A version that comes to a node.
+/// A version that a node gets.
 #[derive(Clone, Copy)]
 struct Install {
     stamp: Stamp,

@@ -11,11 +11,11 @@ use view_records::words::{function_name, handler_name};
 use view_records::{Ink, Nodes, Source, ViewFault};
 use vm_desc::Description;
 
-/// How wide the first column is, in signs.
+/// How wide the first column is, in characters.
 const FIRST: usize = 16;
 
-/// Writes how long the run was, and the tables of nodes, handlers and functions: as columns for the eye, or as objects of JSON, a row
-/// each. Nothing is written of a report with a bad line.
+/// Writes how long the run was, and the tables of nodes, handlers and functions: as columns to read, or as objects of
+/// JSON, one a row. Nothing is written for a report with a bad line.
 pub fn write_stats<R: Read, S: Sink>(
     alloc: Global,
     desc: &Description,
@@ -51,7 +51,7 @@ pub fn write_stats<R: Read, S: Sink>(
     ink.check()
 }
 
-/// What a report tells of its run as a whole.
+/// What a report says of its run as a whole.
 #[derive(Clone, Copy)]
 struct Run {
     last: LastLine,
@@ -143,7 +143,7 @@ fn write_functions<S: Sink>(desc: &Description, json: bool, grid: &Grid, ink: &m
     }
 }
 
-/// The head of a table for the eye.
+/// The head of a table of columns to read.
 fn write_columns<S: Sink>(json: bool, first: &str, columns: &[&str], ink: &mut Ink<S>) {
     if json {
         return;
@@ -158,7 +158,7 @@ fn write_columns<S: Sink>(json: bool, first: &str, columns: &[&str], ink: &mut I
     ink.text("\n");
 }
 
-/// Of what a row tells. Nodes have no name.
+/// What a row is about. Nodes have no name.
 #[derive(Clone, Copy)]
 struct RowName<'a> {
     table: &'a str,
@@ -210,7 +210,7 @@ fn write_object<S: Sink>(name: &RowName<'_>, columns: &[&str], grid: &Grid, ink:
     row.end(ink);
 }
 
-/// How wide a column is, in signs: that of its name and a space, and at least 9.
+/// How wide a column is, in characters: its name and a space, but at least 9.
 fn width_of(column: &str) -> usize {
     column.len().saturating_add(1).max(9)
 }

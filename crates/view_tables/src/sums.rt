@@ -51,7 +51,7 @@ pub struct Grid {
 }
 
 impl Grid {
-    /// So many rows of this width, each number 0.
+    /// `rows` rows of this width, each number 0.
     fn new(alloc: Global, rows: usize, width: usize) -> Result<Grid, ViewFault> {
         let mut cells = Vec::new(alloc);
         for _ in 0..rows {
@@ -68,7 +68,7 @@ impl Grid {
             .saturating_add(column)
     }
 
-    /// The number in a row and a column; 0 outside.
+    /// The number in a row and a column; 0 outside the grid.
     pub fn get(&self, row: u8, column: usize) -> u64 {
         match self.cells.get(self.place(row, column)) {
             Some(number) => *number,
@@ -93,7 +93,7 @@ impl Grid {
         self.set(row, column, most);
     }
 
-    /// How long a stretch took, in the four columns from this one on.
+    /// Adds how long a stretch took to the four columns from this one on.
     fn add_wait(&mut self, row: u8, column: usize, stretch: &Stretch) {
         self.add(row, column, stretch.ms());
         self.raise(row, column.saturating_add(1), stretch.ms());
@@ -111,7 +111,7 @@ pub struct Sums {
 }
 
 impl Sums {
-    /// Nothing.
+    /// Nothing counted yet.
     pub fn new(alloc: Global) -> Result<Sums, ViewFault> {
         Ok(Sums {
             nodes: Grid::new(alloc, usize::from(NODES_MAX), NODE_COLUMNS.len())?,
@@ -120,7 +120,7 @@ impl Sums {
         })
     }
 
-    /// Counts what a line tells.
+    /// Counts what a line records.
     pub fn count_line(&mut self, line: &Line) {
         match &line.told {
             Told::OnAir(air) => {

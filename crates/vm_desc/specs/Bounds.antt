@@ -1,7 +1,7 @@
 -- The lengths and ranges that every description keeps, each by its name.
 use Rattle.std.specs.Prelude.{◌≡◌, ◌≤◌, ◌%◌, length, IsTrue, None}
 use Rattle.std.specs.List.{list_all}
-use Rattle.mate_num.specs.declared.bounds.TheConstants.{HOUR}
+use Rattle.mate_num.specs.declared.bounds.TheConstants.{SHARED_MAX, BUFFERS_MAX, DEVICES_MAX, HANDLERS_MAX, CONTEXTS_MAX, HOUR}
 use Rattle.vm_desc.specs.Names.{is_name}
 use Rattle.vm_desc.specs.Limits.{is_handler, is_function, longest, round_time, duplicate_of}
 use Rattle.vm_desc.specs.Whole.{parts_of, context_count}
@@ -10,13 +10,13 @@ use Rattle.vm_desc.specs.declared.description.Description.{Description}
 pub record HasBounds (d : Description) : Type 0 where
   pub vm_id : d.vm_id ≤ 4294967295
   pub handlers_low : 1 ≤ length d.handlers.items
-  pub handlers_high : length d.handlers.items ≤ 8
+  pub handlers_high : length d.handlers.items ≤ HANDLERS_MAX
   pub contexts_low : 1 ≤ context_count d
-  pub contexts_high : context_count d ≤ 16
+  pub contexts_high : context_count d ≤ CONTEXTS_MAX
   pub functions_high : length d.functions.items ≤ 32
-  pub shared_high : length d.shared.items ≤ 16
-  pub buffers_high : length d.buffers.items ≤ 8
-  pub devices_high : length d.devices.items ≤ 8
+  pub shared_high : length d.shared.items ≤ SHARED_MAX
+  pub buffers_high : length d.buffers.items ≤ BUFFERS_MAX
+  pub devices_high : length d.devices.items ≤ DEVICES_MAX
   pub turns_high : d.turns ≤ 1000000
   pub quantum_low : 1 ≤ d.quantum
   pub quantum_high : d.quantum ≤ 10000

@@ -1,7 +1,7 @@
 -- What a description holds, and its lengths, ranges and rules.
 use Rattle.std.specs.Prelude.{ℕ, List, length, map, Bool, true, ◌&&◌, ◌+◌, ◌*◌, ◌%◌, ◌^◌, ◌==◌, nat_le, Option, Some, None, is_none, ◌++◌, sum_by}
 use Rattle.std.specs.List.{list_all}
-use Rattle.mate_num.specs.declared.bounds.TheConstants.{HOUR}
+use Rattle.mate_num.specs.declared.bounds.TheConstants.{SHARED_MAX, BUFFERS_MAX, DEVICES_MAX, HANDLERS_MAX, CONTEXTS_MAX, FRAGMENTS_MAX, HOUR}
 use Rattle.vm_desc.specs.Names.{between, is_name, first_repeat}
 use Rattle.vm_desc.specs.declared.handler.Handler.{Handler}
 use Rattle.vm_desc.specs.declared.handler.HandlerKind.{HandlerKind}
@@ -58,9 +58,10 @@ is_trickle t = ((between 2 60000 t.imin && t.imin % 2 == 0) && (nat_le t.doublin
 abbrev pub is_radio : RadioSet → Bool
 is_radio r = between 1 10000 r.delay && between 1 10000 r.gap
 
--- the time, in ms, that one round of all handlers' packets takes at most: a capsule has up to 22 fragments
+-- the time, in ms, that one round of all handlers' packets takes at most: a capsule has up to FRAGMENTS_MAX
+-- fragments, each in a packet of its own
 abbrev pub round_time : ℕ → RadioSet → ℕ
-round_time handlers r = handlers * 22 * r.gap + 3 * r.delay
+round_time handlers r = handlers * FRAGMENTS_MAX * r.gap + 3 * r.delay
 
 abbrev pub context_sum : List Handler → ℕ
 context_sum handlers = sum_by (λ h. h.contexts) handlers
@@ -80,9 +81,9 @@ duplicate_among shared buffers devices handlers functions =
 abbrev pub duplicate_of : Parts → Option (List ℕ)
 duplicate_of p = duplicate_among p.shared p.buffers p.devices p.handlers p.functions
 
--- 1 to 8 handlers with at most 16 contexts in all
+-- at least one handler, and not too many, with not too many contexts in all
 abbrev pub are_handlers : List Handler → Bool
-are_handlers hs = (between 1 8 (length hs) && list_all is_handler hs) && nat_le (context_sum hs) 16
+are_handlers hs = (between 1 HANDLERS_MAX (length hs) && list_all is_handler hs) && nat_le (context_sum hs) CONTEXTS_MAX
 
 -- at most 32 functions
 abbrev pub are_functions : ℕ → List Function → Bool
@@ -93,7 +94,7 @@ abbrev pub are_names : ℕ → List (List ℕ) → Bool
 are_names most names = nat_le (length names) most && list_all is_name names
 
 abbrev pub are_variables : Parts → Bool
-are_variables p = (are_names 16 p.shared && are_names 8 p.buffers) && are_names 8 p.devices
+are_variables p = (are_names SHARED_MAX p.shared && are_names BUFFERS_MAX p.buffers) && are_names DEVICES_MAX p.devices
 
 abbrev pub are_settings : Parts → Bool
 are_settings p =

@@ -1,14 +1,15 @@
 -- The rules on the parts of a description together, each with its refusal.
 use Rattle.std.specs.Prelude.{ℕ, List, nat_lt, if◌then◌else◌, Option, Some, None, Result, Ok, Err}
+use Rattle.mate_num.specs.declared.bounds.TheConstants.{CONTEXTS_MAX}
 use Rattle.vm_desc.specs.Limits.{context_sum}
 use Rattle.vm_desc.specs.declared.key.Key.TheVariants as key
 use Rattle.vm_desc.specs.declared.fault.DescFault.{DescFault}
 use Rattle.vm_desc.specs.declared.fault.DescFault.TheVariants.{OverLimit, Duplicate, SlowImax}
 use Rattle.vm_desc.specs.declared.handler.Handler.{Handler}
 
--- at most 16 contexts in all
+-- at most CONTEXTS_MAX contexts in all
 abbrev pub few_contexts : List Handler → Result (Unit {0}) DescFault
-few_contexts handlers = if nat_lt 16 (context_sum handlers) then Err (OverLimit key.HandlerContexts) else Ok tt
+few_contexts handlers = if nat_lt CONTEXTS_MAX (context_sum handlers) then Err (OverLimit key.HandlerContexts) else Ok tt
 
 -- no name is twice in its list
 abbrev pub no_repeat : Option (List ℕ) → Result (Unit {0}) DescFault

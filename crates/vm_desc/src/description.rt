@@ -9,17 +9,17 @@ use crate::settings::{RadioSet, TrickleSet};
 use arrayvec::ArrayVec;
 use mate_num::{ContextId, HandlerId, Name};
 
-/// The handlers, functions, variables and settings of a machine. A number of one of its parts is
+/// The handlers, functions, variables and settings of a machine. The number of one of its parts is
 /// the position in its list.
 ///
-/// Every description keeps the rules of its text: the lengths of its lists, the ranges of its
+/// Every description keeps the rules of a description's text: the lengths of its lists, the ranges of its
 /// numbers, the form of its names, no name twice in a list (shared variables and buffers count as
-/// one list), and the longest Trickle interval is long enough for a round of all handlers' packets.
+/// one list), and a longest Trickle interval that is long enough for a round of all handlers' packets.
 #[derive(Drop)]
 pub struct Description {
     /// The machine's number, which its capsules and packets have.
     pub vm_id: u32,
-    /// 1 to 8 handlers, with at most 16 contexts in all.
+    /// 1 to 8 handlers, with at most `CONTEXTS_MAX` contexts in all.
     pub handlers: ArrayVec<Handler, 8>,
     pub functions: ArrayVec<Function, 32>,
     pub shared: ArrayVec<Name, 16>,
@@ -47,14 +47,15 @@ pub struct Description {
 
 impl Description {
     ghost use Rattle.std.specs.Prelude.{◌<◌, ◌≤◌, length};
+    ghost use Rattle.mate_num.specs.declared.bounds.TheConstants.{CONTEXTS_MAX};
     ghost use Rattle.vm_desc.specs.Contexts.{first_context, handler_of};
     ghost use Rattle.vm_desc.specs.Whole.{context_count};
 
-    /// How many contexts the machine has: 1 to 16.
+    /// How many contexts the machine has: 1 to `CONTEXTS_MAX`.
     pub fn contexts(&self) -> u8
         ensures value { result ≡ context_count self.now }
         ensures low { 1 ≤ result }
-        ensures high { result ≤ 16 }
+        ensures high { result ≤ CONTEXTS_MAX }
     {
         self.contexts_before(self.handlers.len())
     }

@@ -27,14 +27,14 @@ pub enum FunKind {
 pub struct Function {
     pub name: Name,
     pub kind: FunKind,
-    /// The device that it speaks to, which one invocation holds at a time.
+    /// The device that it uses, which one invocation holds at a time.
     pub device: Option<DeviceId>,
     /// The time from a call to its answer in a simulated world, in ms: 1 to 60,000.
     pub latency: u32,
 }
 
 impl Function {
-    /// The same function again. It takes no memory.
+    /// A copy of the function. It takes no memory.
     pub fn copy(&self) -> Function
         ensures { result ≡ self.now }
     {

@@ -23,12 +23,12 @@ pub enum HandlerKind {
 pub struct Handler {
     pub name: Name,
     pub kind: HandlerKind,
-    /// How many invocations of it may stand at once: 1 to 4.
+    /// How many invocations of it may be live at once: 1 to 4.
     pub contexts: u8,
 }
 
 impl Handler {
-    /// The same handler again. It takes no memory.
+    /// A copy of the handler. It takes no memory.
     pub fn copy(&self) -> Handler
         ensures { result ≡ self.now }
     {

@@ -2,7 +2,7 @@
 
 ghost use Rattle.std.specs.Prelude.{◌≡◌};
 
-/// A key of a description, in the order in which keys are judged. `Unknown` stands for every other.
+/// A key of a description, in the order in which keys are judged. `Unknown` is every other.
 #[derive(Clone, Copy)]
 pub enum Key {
     Vm,
@@ -33,7 +33,7 @@ pub enum Key {
 impl Key {
     ghost use Rattle.vm_desc.specs.Keys.{word_of};
 
-    /// The key as a text names it, with the table that it stands in.
+    /// The key as a text names it, with the table that it is in.
     pub fn word(self) -> &'static str
         ensures { result.now ≡ word_of self }
     {

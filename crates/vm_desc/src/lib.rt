@@ -1,4 +1,4 @@
-//! The description of a Maté machine: its handlers, functions, variables and settings, and why a text has none.
+//! The description of a Maté machine: its handlers, functions, variables and settings, and why a text is none.
 #![tactic(auto)]
 
 pub mod built_in;

@@ -1,4 +1,4 @@
-//! The form of names, and names that stand twice.
+//! The form of names, and names that are in a list twice.
 
 ghost use Rattle.std.specs.Prelude.{◌≡◌, IfSome, IsTrue};
 ghost use Rattle.std.specs.List.{list_all};
@@ -6,7 +6,7 @@ ghost use Rattle.vm_desc.specs.Names.{begins_name, continues_name, is_keyword, h
 
 use mate_num::Name;
 
-/// The name that reads `text`; None where it has no name's form.
+/// The name that reads `text`; None if it doesn't have a name's form.
 pub fn name_of(text: &str) -> Option<Name>
     ensures value { result ≡ name_of text.now }
     ensures form { IfSome result (λ name. IsTrue (is_name name)) }
@@ -82,7 +82,7 @@ fn stands_in(names: &[Name], name: &Name) -> bool
     names.iter().any(|other| name == other)
 }
 
-/// The first name that stands earlier in the list.
+/// The first name that comes earlier in the list, too; None if each is there once.
 pub fn first_repeat(names: &[Name]) -> Option<Name>
     ensures { result ≡ first_repeat names.now }
 {

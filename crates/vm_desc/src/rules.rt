@@ -1,6 +1,7 @@
 //! The rules on the parts of a description together.
 
 ghost use Rattle.std.specs.Prelude.{◌≡◌, ◌≤◌, ◌++◌, length, map, None, OnOk, IsTrue};
+ghost use Rattle.mate_num.specs.declared.bounds.TheConstants.{SHARED_MAX, BUFFERS_MAX, HANDLERS_MAX, CONTEXTS_MAX};
 ghost use Rattle.vm_desc.specs.Names.{first_repeat};
 ghost use Rattle.vm_desc.specs.Limits.{context_sum, is_trickle, is_radio, duplicate_among, round_time, longest};
 ghost use Rattle.vm_desc.specs.Rules.{few_contexts, no_repeat, in_time};
@@ -10,15 +11,15 @@ use crate::key::Key;
 use crate::names::first_repeat;
 use crate::{Function, Handler, RadioSet, TrickleSet};
 use arrayvec::ArrayVec;
-use mate_num::Name;
+use mate_num::{CONTEXTS_MAX, FRAGMENTS_MAX, Name};
 
-/// Whether the handlers have at most 16 contexts in all.
+/// `OverLimit` at `Key::HandlerContexts` if the handlers have more than `CONTEXTS_MAX` contexts in all.
 pub fn few_contexts(handlers: &ArrayVec<Handler, 8>) -> Result<(), DescFault>
     ensures value { result ≡ few_contexts handlers.now.items }
-    ensures few { OnOk result (context_sum handlers.now.items ≤ 16) }
+    ensures few { OnOk result (context_sum handlers.now.items ≤ CONTEXTS_MAX) }
 {
     let contexts: u32 = handlers.iter().map(|h| u32::from(h.contexts)).sum();
-    if contexts > 16 {
+    if contexts > CONTEXTS_MAX as u32 {
         return Err(DescFault::OverLimit {
             key: Key::HandlerContexts,
         });
@@ -26,7 +27,7 @@ pub fn few_contexts(handlers: &ArrayVec<Handler, 8>) -> Result<(), DescFault>
     Ok(())
 }
 
-/// Whether no name stands twice in its list.
+/// `Duplicate` if a name is in its list twice.
 pub fn no_repeat(
     shared: &ArrayVec<Name, 16>,
     buffers: &ArrayVec<Name, 8>,
@@ -34,8 +35,10 @@ pub fn no_repeat(
     handlers: &ArrayVec<Handler, 8>,
     functions: &ArrayVec<Function, 32>,
 ) -> Result<(), DescFault>
-    ensures value { result ≡ no_repeat (duplicate_among shared.now.items buffers.now.items devices.now.items handlers.now.items functions.now.items) }
-    ensures none { OnOk result (duplicate_among shared.now.items buffers.now.items devices.now.items handlers.now.items functions.now.items ≡ None) }
+    ensures value { result ≡ no_repeat (duplicate_among shared.now.items buffers.now.items devices.now.items
+        handlers.now.items functions.now.items) }
+    ensures none { OnOk result (duplicate_among shared.now.items buffers.now.items devices.now.items
+        handlers.now.items functions.now.items ≡ None) }
 {
     only_once(variable_names(shared.as_slice(), buffers.as_slice()).as_slice())?;
     only_once(devices.as_slice())?;
@@ -53,8 +56,8 @@ fn only_once(names: &[Name]) -> Result<(), DescFault>
 }
 
 fn variable_names(shared: &[Name], buffers: &[Name]) -> ArrayVec<Name, 24>
-    requires shared { length shared.now ≤ 16 }
-    requires buffers { length buffers.now ≤ 8 }
+    requires shared { length shared.now ≤ SHARED_MAX }
+    requires buffers { length buffers.now ≤ BUFFERS_MAX }
     ensures { result.items ≡ shared.now ++ buffers.now }
 {
     let mut names: ArrayVec<Name, 24> = ArrayVec::new();
@@ -87,15 +90,17 @@ fn function_names(functions: &ArrayVec<Function, 32>) -> ArrayVec<Name, 32>
     names
 }
 
-/// Whether the longest interval has the time that a round of all handlers' packets needs.
+/// `SlowImax` if the longest interval is shorter than the time that a round of all handlers' packets needs: for each
+/// handler `FRAGMENTS_MAX` fragments, `gap` ms apart, and three times the delay.
 pub fn in_time(handlers: usize, trickle: TrickleSet, radio: RadioSet) -> Result<(), DescFault>
-    requires handlers { handlers ≤ 8 }
+    requires handlers { handlers ≤ HANDLERS_MAX }
     requires trickle { IsTrue (is_trickle trickle) }
     requires radio { IsTrue (is_radio radio) }
     ensures value { result ≡ in_time (round_time handlers radio) (longest trickle) }
     ensures timely { OnOk result (round_time handlers radio ≤ longest trickle) }
 {
-    let need = handlers as u64 * 22 * u64::from(radio.gap) + 3 * u64::from(radio.delay);
+    let need = handlers as u64 * FRAGMENTS_MAX as u64 * u64::from(radio.gap)
+        + 3 * u64::from(radio.delay);
     let have = u64::from(trickle.longest());
     if need > have {
         return Err(DescFault::SlowImax { need, have });

@@ -11,14 +11,14 @@ pub struct TrickleSet {
     /// How often the shortest interval doubles before it stays, up to 16: the longest interval has
     /// `imin * 2^doublings` ms, at most 3,600,000.
     pub doublings: u8,
-    /// How many consistent packets heard in an interval keep a node silent: 1 to 255.
+    /// How many consistent packets received in an interval keep a node silent: 1 to 255.
     pub k: u8,
 }
 
 /// The settings of the radio.
 #[derive(Clone, Copy)]
 pub struct RadioSet {
-    /// The time from a packet's sending to its hearing, in ms: 1 to 10,000.
+    /// The time from a packet's sending to its arrival, in ms: 1 to 10,000.
     pub delay: u32,
     /// The time between two packets that a node sends, in ms: 1 to 10,000.
     pub gap: u32,
@@ -27,7 +27,7 @@ pub struct RadioSet {
 impl TrickleSet {
     ghost use Rattle.vm_desc.specs.Limits.{longest, is_trickle};
 
-    /// The longest interval, in ms: `imin` doubled `doublings` times.
+    /// The longest interval, in ms: `imin`, doubled `doublings` times.
     pub fn longest(&self) -> u32
         requires { IsTrue (is_trickle self.now) }
         ensures value { result ≡ longest self.now }

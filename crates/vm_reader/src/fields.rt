@@ -31,7 +31,7 @@ pub fn within<'a>(table: Option<&'a Table>, word: &str) -> Option<&'a Value>
     }
 }
 
-/// `value`, or `BadField`.
+/// `value`; `BadField` if there is none.
 pub fn taken<T>(key: Key, value: Option<T>) -> Result<T, DescFault>
     ensures { result ≡ taken key value }
 {
@@ -41,7 +41,7 @@ pub fn taken<T>(key: Key, value: Option<T>) -> Result<T, DescFault>
     }
 }
 
-/// The whole number at a key, from `low` to `high`; where it is absent, `default`.
+/// The whole number at a key, from `low` to `high`; if it is absent, `default`. Any other value is a `BadField`.
 pub fn number(
     key: Key,
     low: u32,
@@ -76,7 +76,7 @@ fn whole_from(low: u32, high: u32, value: &Value) -> Option<u32>
     }
 }
 
-/// The name at a key, which has to be there.
+/// The name at a key; `BadField` if it is absent or no name.
 pub fn name(key: Key, value: Option<&Value>) -> Result<Name, DescFault>
     ensures value { result ≡ field key name None (seen value.entry) }
     ensures form { IfOk result (λ name. IsTrue (is_name name)) }
@@ -97,7 +97,7 @@ fn name_in(value: &Value) -> Option<Name>
     }
 }
 
-/// The list at a key, of at most `N` names; where it is absent, the empty one.
+/// The list at a key, of at most `N` names; if it is absent, the empty one.
 pub fn names<const N: usize>(
     key: Key,
     value: Option<&Value>,
@@ -176,7 +176,7 @@ pub fn section<'a>(key: Key, value: Option<&'a Value>) -> Result<Option<&'a Tabl
     }
 }
 
-/// `BadField` where what the value of `key` must meet does not hold.
+/// `BadField` if what the value of `key` must meet doesn't hold.
 pub fn allowed(key: Key, holds: bool) -> Result<(), DescFault>
     ensures { result ≡ allowed key holds }
 {

@@ -1,4 +1,4 @@
-//! Which keys stand where in a description.
+//! Which keys may be where in a description.
 
 ghost use Rattle.std.specs.Prelude.{◌≡◌};
 ghost use Rattle.toml.specs.View.{view, array_view, table_view};
@@ -23,7 +23,7 @@ impl Place {
     ghost use Rattle.vm_desc.specs.Names.{stands_in};
     ghost use Rattle.vm_reader.specs.Places.{known_words, table_below, known_below};
 
-    /// The place of what stands under `word`; None where no description has that key here.
+    /// The place of what is under `word`; None if no description has that key here.
     pub fn below(self, word: &str) -> Option<Place>
         ensures { result ≡ known_below self word.now }
     {
@@ -34,7 +34,7 @@ impl Place {
         }
     }
 
-    // The place of a table that stands under `word`.
+    // The place of a table that is under `word`.
     fn table(self, word: &str) -> Option<Place>
         ensures { result ≡ table_below self word.now }
     {

@@ -3,7 +3,7 @@
 use arrayvec::ArrayVec;
 use mate_num::Name;
 
-/// What the keys before the handlers give.
+/// The values of the keys before the handlers.
 #[derive(Drop)]
 pub struct Opening {
     pub vm_id: u32,

@@ -48,7 +48,7 @@ fn each_handler(items: &Array) -> Result<ArrayVec<Handler, 8>, DescFault>
     Ok(handlers)
 }
 
-/// The functions in `value`: at most 32, and none where it is absent.
+/// The functions in `value`: at most 32, and none if it is absent.
 #[tactic(auto, unfolding(crate::specs::Reading::functions_at))]
 pub fn functions_in(
     devices: &ArrayVec<Name, 8>,

@@ -18,8 +18,8 @@ use toml::Table;
 use vm_desc::rules::{few_contexts, in_time, no_repeat};
 use vm_desc::{DescFault, Description, Key, RadioSet, TrickleSet};
 
-/// The description in `bytes`, a TOML document. `DescFault` says when each refusal comes; of
-/// several the first in its order is given, and `NoMemory` may come in place of any answer.
+/// The description in `bytes`, a TOML document. `DescFault` says when each refusal comes; of several, the first in
+/// its order is given. `NoMemory` may come instead of any answer.
 pub fn read(alloc: Global, bytes: &[u8]) -> Result<Description, DescFault>
     ensures { ReadsDescription result (description_of bytes.now) }
 {

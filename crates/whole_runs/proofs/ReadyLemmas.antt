@@ -25,8 +25,8 @@ use Rattle.capsule_codec.specs.Reading.{GivesCapsule, capsule_in}
 use Rattle.capsule_codec.specs.declared.capsule.Capsule.{Capsule}
 use Rattle.capsule_codec.specs.declared.decoding.CapsuleFault.{CapsuleFault}
 use Rattle.capsule_codec.proofs.ImageLemmas.{capsule_again}
-use Rattle.ts_syntax.specs.Checked.{tree_of}
-use Rattle.ts_syntax.specs.declared.checked.Checked.{Checked}
+use Rattle.ts_checked.specs.Checked.{checked_tree}
+use Rattle.ts_checked.specs.declared.checked.Checked.{Checked}
 use Rattle.ts_meaning.specs.Meaning.{run_of}
 use Rattle.vm_desc.specs.Shapes.{shape_of}
 use Rattle.vm_desc.specs.declared.description.Description.{Description}
@@ -90,7 +90,7 @@ locks-kept d v locks is are = let P : Shape → Type 0 = λ shape. AreLocksOf sh
 
 -- the run of the source is that of the code
 pub source-run : (shape : Shape) (code : Code) (o : Option Checked) (source : Checked) (store : Store) (payload : ArrayVec ℤ) (answers : List ℤ) (turns : ℕ) → IfSome o (IsSourceOf shape code) → o ≡ Some source
-    → run_of (tree_of source) store payload answers turns ≡ code_run shape code store payload answers turns
+    → run_of (checked_tree source) store payload answers turns ≡ code_run shape code store payload answers turns
 source-run shape code None source store payload answers turns of_source is = cc
 source-run shape code (Some s) source store payload answers turns of_source is =
     let same : s ≡ source = cc in

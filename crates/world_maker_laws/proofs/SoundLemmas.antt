@@ -16,16 +16,16 @@ use Rattle.vm_desc.proofs.DescriptionLemmas.{bounds_of, items_of}
 use Rattle.mate_code.specs.declared.instr.Instr.{Instr}
 use Rattle.mate_code.specs.declared.instr.Instr.TheVariants as instr
 use Rattle.mate_code.specs.Instr.{size_of}
-use Rattle.ts_syntax.specs.declared.bin_op.BinOp.TheVariants as op
+use Rattle.ts_checked.specs.declared.bin_op.BinOp.TheVariants as op
 use Rattle.ts_syntax.specs.declared.word.Word.{Word}
 use Rattle.ts_syntax.specs.declared.script.Decl.{Decl}
 use Rattle.ts_syntax.specs.declared.script.DeclKind.TheVariants as decl
 use Rattle.ts_syntax.specs.declared.token.Token.{Token}
 use Rattle.ts_syntax.specs.declared.token.TokenKind.TheVariants as kind
-use Rattle.ts_syntax.specs.declared.checked_stmt.CVar.TheVariants as var
+use Rattle.ts_checked.specs.declared.checked_stmt.CVar.TheVariants as var
 use Rattle.ts_syntax.specs.Tree.{Tree, number, variable, call, two, no_trees, set, act_then, no_acts, Source}
-use Rattle.ts_syntax.specs.Expression.{Expression, no_arguments, Num, Shared, Call, Two}
-use Rattle.ts_syntax.specs.Statement.{Block, no_statements, statement, Set}
+use Rattle.ts_checked.specs.Expression.{Expression, no_arguments, Num, Shared, Call, Two}
+use Rattle.ts_checked.specs.Statement.{Block, no_statements, statement, Set}
 use Rattle.ts_syntax.specs.Cut.{cut, cut_from, between}
 use Rattle.ts_syntax.specs.Faults.{Spells}
 use Rattle.ts_scope.specs.Names.{function_from}

@@ -2,7 +2,7 @@
 use Rattle.std.specs.Prelude.{ℕ, ◌≤◌, List}
 use Rattle.mate_num.specs.declared.bounds.TheConstants.{CODE_MAX, STACK_MAX}
 use Rattle.vm_desc.specs.declared.description.Description.{Description}
-use Rattle.ts_syntax.specs.Statement.{Block}
+use Rattle.ts_checked.specs.Statement.{Block}
 use Rattle.ts_checker.specs.Accepted.{IsAccepted}
 use Rattle.ts_meaning.specs.Translation.{script_need, script_size}
 

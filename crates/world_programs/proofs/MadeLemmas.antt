@@ -33,7 +33,7 @@ use Rattle.ts_fold.specs.Folded.{folded}
 use Rattle.ts_fold.specs.Laws.{TakesNoMore}
 use Rattle.ts_fold.proofs.StatementLemmas.{TakesNoMore-folded}
 use Rattle.ts_meaning.specs.Translation.{script_need, script_size}
-use Rattle.ts_syntax.specs.Statement.{Block}
+use Rattle.ts_checked.specs.Statement.{Block}
 use Rattle.vm_desc.specs.Shapes.{shape_of}
 use Rattle.vm_desc.specs.declared.description.Description.{Description}
 use Rattle.world_maker.specs.Made as maker

@@ -2,7 +2,8 @@
 use Rattle.std.proofs.Common.{◌≡◌, ◌≤◌, ◌<◌, ℕ, suc, false, List, [], ◌∷◌, ◌++◌, map, length, Option, Some, None, Result, Ok, Err, sym, ap, ◌∙◌, subst, arith}
 use Rattle.std.specs.Prelude.{slice_get, IsSomeAnd, IfOk, IfErr}
 use Rattle.mate_num.specs.declared.call.Stamp.{Stamp}
-use Rattle.mate_journal.specs.Journal.{TimedEntry, JournalEntry, Seen}
+use Rattle.mate_num.specs.declared.store.Store.{Store}
+use Rattle.mate_journal.specs.Journal.{TimedEntry, JournalEntry, Seen, journal_of}
 use Rattle.mate_journal.specs.Log.{Log}
 use Rattle.mate_journal.specs.NodeScript.{RunEnd, Full, Whole, Cut}
 use Rattle.mate_journal.specs.declared.program.Program.{Program}
@@ -17,12 +18,12 @@ use Rattle.world_rules.specs.Report.{IsWorldReport, IsLogOf}
 use Rattle.world_rules.specs.Run.{HaveCome, journal}
 use Rattle.world_rules.specs.State.{Moment}
 use Rattle.world_rules.specs.World.{World}
-use Rattle.mate_files.specs.Sink.{SentPart, SentShort}
-use Rattle.report_text.specs.Text.{lines}
+use Rattle.mate_files.specs.Sink.{Sent, SentPart, SentShort}
+use Rattle.report_text.specs.Text.{lines, text}
 use Rattle.run_writing.specs.Writing.{RunsInto, written_text}
 use Rattle.world_sim.specs.Promise.{IsReportOfWorld, WorldRunGives}
 use Rattle.world_state_laws.specs.SourceWorld.{source_world}
-use Rattle.world_run_callers.specs.Runs.{CameWithRoom, EndsSeen, IsFullBehind}
+use Rattle.world_run_callers.specs.Runs.{CameWithRoom, EndsSeen, HaveOwnEvents, IsFullBehind}
 
 of_report : (w : World) (r report : Report) → LogFull r ≡ LogFull report → IsWorldReport w Full r → IsFullBehind w report.events
 of_report w r report is told =
@@ -72,6 +73,38 @@ ends_seen d script ps (Ok r) some gives =
     let w = source_world d script ps in
     of_some (slice_get r.nodes 0) (IsLogOf w Whole gives.run.moments 0) (EndsSeen (suc r.events) script.until) (λ l. of_log w gives.run.moments (suc r.events) l (ap suc gives.run.events)) (gives.run.logs 0 (omega (arith, some)))
 ends_seen d script ps (Err fault) some gives = tt
+
+-- ---- each node's own events
+
+own_log : (w : World) (ms : List Moment) (k : ℕ) (l : Log) → IsLogOf w Whole ms k l
+    → (store : Store) × (journal_of l ≡ journal w k ms ++ record { stamp = record { event = suc (length ms); time = w.until }; told = Seen store } ∷ [])
+own_log w ms k l told =
+    let sees = told.journal.ends in
+    let stamped : JournalEntry → TimedEntry = λ t. record { stamp = record { event = suc (length ms); time = w.until }; told = t } in
+    (sees.shown.seen, told.journal.journal_is ∙ ap (λ (last : List TimedEntry). journal w k ms ++ last) (sees.stamped ∙ ap (map stamped) sees.shown.made))
+
+own_report : (w : World) (r : Report) → IsWorldReport w Whole r → HaveOwnEvents w w.until r
+own_report w r told = record {
+  moments = told.moments;
+  come = told.come;
+  count = told.events;
+  own = λ k below. of_some (slice_get r.nodes k) (IsLogOf w Whole told.moments k) _ (λ l. own_log w told.moments k l) (told.logs k below);
+}
+
+pub own_events : (d : Description) (script : Script) (ps : List Program) (r : Result Report RunFault) → WorldRunGives d script ps r
+    → IfOk r (λ report. HaveOwnEvents (source_world d script ps) script.until report)
+own_events d script ps (Ok r) gives = own_report (source_world d script ps) r gives.run
+own_events d script ps (Err fault) gives = tt
+
+pub own_written : (d : Description) (script : Script) (ps : List Program) (out out' : Option (List ℕ)) (before now : ℕ) (r : Result Report IntoFault) → RunsInto d (IsReportOfWorld d script ps) out out' before now r
+    → IfOk r (λ report. HaveOwnEvents (source_world d script ps) script.until report)
+own_written d script ps out out' before now (Ok r) gives = own_report (source_world d script ps) r gives.0.run
+own_written d script ps out out' before now (Err fault) gives = tt
+
+pub sent_whole : (d : Description) (script : Script) (ps : List Program) (out out' : Option (List ℕ)) (before now : ℕ) (r : Result Report IntoFault) → RunsInto d (IsReportOfWorld d script ps) out out' before now r
+    → IfOk r (λ report. Sent out out' (text d report))
+sent_whole d script ps out out' before now (Ok r) gives = gives.1
+sent_whole d script ps out out' before now (Err fault) gives = tt
 
 -- ---- a run that its sink stopped
 

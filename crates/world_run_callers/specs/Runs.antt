@@ -1,9 +1,10 @@
 -- What a run's end shows.
-use Rattle.std.specs.Prelude.{◌≡◌, ℕ, ◌≤◌, ◌<◌, List, [], ◌∷◌, ◌++◌, length}
+use Rattle.std.specs.Prelude.{◌≡◌, ℕ, suc, ◌≤◌, ◌<◌, List, [], ◌∷◌, ◌++◌, length, slice_get, IsSomeAnd}
 use Rattle.mate_num.specs.declared.store.Store.{Store}
 use Rattle.mate_journal.specs.Log.{Log}
 use Rattle.mate_journal.specs.Journal.{TimedEntry, Seen, journal_of}
-use Rattle.world_rules.specs.Run.{HaveCome}
+use Rattle.mate_journal.specs.declared.report.Report.{Report}
+use Rattle.world_rules.specs.Run.{HaveCome, journal}
 use Rattle.world_rules.specs.State.{Moment, state}
 use Rattle.world_rules.specs.World.{World}
 
@@ -26,3 +27,12 @@ pub record EndsSeen (event time : ℕ) (l : Log) : Type 0 where
   pub before : List TimedEntry
   pub store : Store
   pub is : journal_of l ≡ before ++ record { stamp = record { event = event; time = time }; told = Seen store } ∷ []
+
+-- these events came, and each node's journal has those of the node, in order, and then its store, under the next number and at this
+-- time
+pub record HaveOwnEvents (w : World) (time : ℕ) (r : Report) : Type 0 where
+  pub moments : List Moment
+  pub come : HaveCome w moments
+  pub count : r.events ≡ length moments
+  pub own : (k : ℕ) → k < w.nodes → IsSomeAnd (slice_get r.nodes k) (λ l. (store : Store) × (journal_of l ≡ journal w k moments
+      ++ record { stamp = record { event = suc (length moments); time = time }; told = Seen store } ∷ []))

@@ -1,14 +1,14 @@
 //! The run of a world.
 
 ghost use Rattle.std.specs.Prelude.{◌≡◌, ◌≤◌, suc, false, length, slice_get, IsSomeAnd, IfOk, IfErr};
-ghost use Rattle.mate_files.specs.Sink.{SentShort};
+ghost use Rattle.mate_files.specs.Sink.{Sent, SentShort};
 ghost use Rattle.mate_journal.specs.declared.report.Report.{Report as Reported};
 ghost use Rattle.mate_journal.specs.declared.report.IntoFault.TheVariants.{Sink as StoppedBySink};
 ghost use Rattle.mate_journal.specs.declared.report.RunFault.TheVariants.{LogFull};
 ghost use Rattle.node_programs.specs.WorldPrograms.{AreProgramsOfWorld};
-ghost use Rattle.report_text.specs.Text.{lines};
+ghost use Rattle.report_text.specs.Text.{lines, text};
 ghost use Rattle.world_state_laws.specs.SourceWorld.{source_world};
-ghost use Rattle.world_run_callers.specs.Runs.{CameWithRoom, EndsSeen, IsFullBehind};
+ghost use Rattle.world_run_callers.specs.Runs.{CameWithRoom, EndsSeen, HaveOwnEvents, IsFullBehind};
 
 use mate_files::Sink;
 use mate_journal::{IntoFault, Programs, Report, RunFault};
@@ -56,6 +56,34 @@ pub fn the_first_node_is_seen_at_the_end(
     ensures { IfOk result (λ report. IsSomeAnd (slice_get report.nodes 0) (EndsSeen (suc report.events) world.now.until)) }
 {
     run(alloc, desc, world, programs)
+}
+
+/// The entries of an event are in the journal of its own node, and in no other.
+pub fn each_node_has_its_own_events(
+    alloc: Global,
+    desc: &Description,
+    world: &World,
+    programs: &Programs,
+) -> Result<Report, RunFault>
+    requires { AreProgramsOfWorld desc.now world.now programs.now }
+    ensures { IfOk result (λ report. HaveOwnEvents (source_world desc.now world.now programs.now) world.now.until report) }
+{
+    run(alloc, desc, world, programs)
+}
+
+/// The text of a whole run is written once and to its end, where each node shows its store.
+pub fn a_whole_run_is_written_to_its_last_stores<S: Sink>(
+    alloc: Global,
+    desc: &Description,
+    world: &World,
+    programs: &Programs,
+    out: &mut S,
+) -> Result<Report, IntoFault>
+    requires { AreProgramsOfWorld desc.now world.now programs.now }
+    ensures sent { IfOk result (λ report. Sent (S.written out.old) (S.written out.new) (text desc.now report)) }
+    ensures seen { IfOk result (λ report. HaveOwnEvents (source_world desc.now world.now programs.now) world.now.until report) }
+{
+    run_into(alloc, desc, world, programs, out)
 }
 
 /// A run that hands out the report of nothing where its sink fails would give one without nodes.

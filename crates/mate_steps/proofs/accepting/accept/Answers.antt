@@ -1,4 +1,4 @@
-use Rattle.ts_syntax.specs.Checked.{tree_of}
+use Rattle.ts_checked.specs.Checked.{checked_tree}
 use Rattle.mate_steps.proofs.AcceptingLemmas.{text_refused, script_accepted, script_refused}
 use Rattle.mate_steps.proofs.accepting.accept.Goals as goal
 
@@ -8,7 +8,7 @@ returns-in_err-script-clause-tells c =
 
 pub returns-in-Ok-clause-tells : goal.returns-in-Ok-clause-tells
 returns-in-Ok-clause-tells c =
-    script_accepted c.args.desc.now c.args.bytes.now c.in_ok-script.script (tree_of c.in-Ok.checked) c.in_ok-script.ensures c.in-Ok.ensures.tree
+    script_accepted c.args.desc.now c.args.bytes.now c.in_ok-script.script (checked_tree c.in-Ok.checked) c.in_ok-script.ensures c.in-Ok.ensures.tree
 
 pub returns-clause-tells : goal.returns-clause-tells
 returns-clause-tells c =

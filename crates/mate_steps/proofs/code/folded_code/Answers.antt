@@ -1,6 +1,6 @@
 use Rattle.std.proofs.Common.{ap, sym, ◌∙◌}
 use Rattle.mate_code.specs.Table.{table_of}
-use Rattle.ts_syntax.specs.Checked.{tree_of, checked_shape as shape_of_script}
+use Rattle.ts_checked.specs.Checked.{checked_tree, checked_shape as shape_of_script}
 use Rattle.vm_desc.specs.Shapes.{shape_of}
 use Rattle.mate_steps.proofs.CodeLemmas.{filled, folded_code, folded_no_code}
 use Rattle.mate_steps.proofs.code.folded_code.Goals as goal
@@ -16,15 +16,15 @@ returns-in-Ok-compile-clause-gives c =
     record {
       shape_is = shape_is;
       tree_is = c.in-Ok.ensures.tree;
-      code_is = folded_code (shape_of_script s) (shape_of c.args.desc.now) (tree_of c.args.script.now) (tree_of s) c.in-Ok-compile.code shape_is c.in-Ok.ensures.tree
+      code_is = folded_code (shape_of_script s) (shape_of c.args.desc.now) (checked_tree c.args.script.now) (checked_tree s) c.in-Ok-compile.code shape_is c.in-Ok.ensures.tree
           record { compiled = code.gives; verified = code.verified };
     }
 
 pub returns-in-Ok-compile-clause-filled : goal.returns-in-Ok-compile-clause-filled
-returns-in-Ok-compile-clause-filled c = filled (shape_of_script c.in-Ok.script) (tree_of c.in-Ok.script) c.in-Ok-compile.code c.in-Ok-compile.ensures.gives
+returns-in-Ok-compile-clause-filled c = filled (shape_of_script c.in-Ok.script) (checked_tree c.in-Ok.script) c.in-Ok-compile.code c.in-Ok-compile.ensures.gives
 
 pub returns-in-Err-clause-gives : goal.returns-in-Err-clause-gives
 returns-in-Err-clause-gives c =
     let s = c.in-Ok.script in
-    folded_no_code (shape_of_script s) (shape_of c.args.desc.now) (tree_of c.args.script.now) (tree_of s) c.in-Err.fault
+    folded_no_code (shape_of_script s) (shape_of c.args.desc.now) (checked_tree c.args.script.now) (checked_tree s) c.in-Err.fault
     (c.in-Ok.ensures.shape ∙ c.requires) c.in-Ok.ensures.tree c.in-Err.ensures.gives

@@ -5,10 +5,10 @@ use Rattle.mate_num.specs.Store.{payload, zero_store}
 use Rattle.mate_num.specs.declared.call.End.TheVariants.{Fault, Halt}
 use Rattle.mate_num.specs.declared.call.FaultKind.TheVariants.{DivZero}
 use Rattle.mate_num.specs.declared.outcome.Outcome.{Outcome}
-use Rattle.ts_syntax.specs.Expression.{Num, Private, Two}
-use Rattle.ts_syntax.specs.Statement.{Block, no_statements, statement, Set}
-use Rattle.ts_syntax.specs.declared.bin_op.BinOp.TheVariants.{Div}
-use Rattle.ts_syntax.specs.declared.checked_stmt.CVar.TheVariants as variable
+use Rattle.ts_checked.specs.Expression.{Num, Private, Two}
+use Rattle.ts_checked.specs.Statement.{Block, no_statements, statement, Set}
+use Rattle.ts_checked.specs.declared.bin_op.BinOp.TheVariants.{Div}
+use Rattle.ts_checked.specs.declared.checked_stmt.CVar.TheVariants as variable
 use Rattle.procedure_callers.proofs.frames.a_reserved_name_breaks_the_law.Goals as goal
 
 -- `_0 = 0; _0 = 1 / _0;` of the private variable that the parameter is

@@ -2,12 +2,12 @@ use Rattle.std.proofs.Common.{◌≡◌, ◌∙◌, ap, sym, subst, true, refl, 
 use Rattle.ts_syntax.specs.Seen.{tree_of, act_of, acts_of}
 use Rattle.ts_syntax.specs.Tree as given
 use Rattle.ts_syntax.specs.Tree.{Act}
-use Rattle.ts_syntax.specs.declared.checked_stmt.CStmt.{CStmt}
+use Rattle.ts_checked.specs.declared.checked_stmt.CStmt.{CStmt}
 use Rattle.ts_syntax.proofs.SeenLemmas.{act_set, act_set_item, act_append, act_take_last, act_clear, act_call_alone, act_for_next, act_while_do, act_run_procedure}
 use Rattle.ts_scope.specs.declared.fault.CheckFault.{CheckFault}
 use Rattle.ts_checker.specs.Answer.{GivesChecked, RefusesScript}
 use Rattle.ts_scope.specs.Names.{ScriptNames}
-use Rattle.ts_syntax.specs.TreeOf.{stmt_tree, block_tree, block_trees}
+use Rattle.ts_checked.specs.TreeOf.{stmt_tree, block_tree, block_trees}
 use Rattle.ts_checker.specs.Checks.{checked_expr, checked_head, checked_stmt, checked_block}
 use Rattle.ts_scope.specs.Seen.{scope_names}
 use Rattle.ts_checker.proofs.LoopLemmas.{stmts_next, stmts_refused, stmts_end}

@@ -3,9 +3,9 @@ use Rattle.std.specs.Prelude.{max}
 use Rattle.mate_code.specs.declared.instr.Instr.{Instr}
 use Rattle.mate_code.specs.declared.instr.Instr.TheVariants as instr
 use Rattle.mate_code.specs.Instr.{size_of}
-use Rattle.ts_syntax.specs.Expression.{Expression, Arguments, arguments, Shared, Private, Item, Size, MsgItem, MsgSize, Call, SendBuf, Neg, Not, Two}
-use Rattle.ts_syntax.specs.TreeOf.{expr_tree, args_trees}
-use Rattle.ts_syntax.specs.declared.checked_expr.CExpr.{CExpr, the_lemmas}
+use Rattle.ts_checked.specs.Expression.{Expression, Arguments, arguments, Shared, Private, Item, Size, MsgItem, MsgSize, Call, SendBuf, Neg, Not, Two}
+use Rattle.ts_checked.specs.TreeOf.{expr_tree, args_trees}
+use Rattle.ts_checked.specs.declared.checked_expr.CExpr.{CExpr, the_lemmas}
 use Rattle.ts_meaning.specs.Translation.{size_of_instrs, expr_code, args_code, args_need, expr_size, expr_need, operator_code}
 use Rattle.ts_meaning.proofs.PlaceLemmas.{size_of-operator_code}
 use Rattle.ts_compiler.specs.Parts.{capped}

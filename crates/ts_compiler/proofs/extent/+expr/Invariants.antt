@@ -1,7 +1,7 @@
 use Rattle.std.proofs.Common.{◌≡◌, ◌+◌, ◌≤◌, drop, map}
 use Rattle.std.specs.Prelude.{max}
-use Rattle.ts_syntax.specs.Expression.{arguments}
-use Rattle.ts_syntax.specs.TreeOf.{expr_tree}
+use Rattle.ts_checked.specs.Expression.{arguments}
+use Rattle.ts_checked.specs.TreeOf.{expr_tree}
 use Rattle.ts_compiler.specs.Parts.{capped}
 use Rattle.ts_compiler.proofs.ExtentLemmas.{ArgsMeasured}
 use Rattle.ts_compiler.proofs.extent.+expr.Given as goal

@@ -2,10 +2,10 @@ use Rattle.std.proofs.Common.{rules, ◌≡◌, ℕ, ◌+◌, List, [], map, dro
 use Rattle.std.specs.Prelude.{max}
 use Rattle.mate_code.specs.declared.instr.Instr.TheVariants as instr
 use Rattle.mate_code.specs.Instr.{size_of}
-use Rattle.ts_syntax.specs.Expression.{Expression, Arguments, arguments}
-use Rattle.ts_syntax.specs.Statement.{Statement, Block, block, Set, SetItem, Append, Take, Clear, Do, DoSend, If, IfElse, For, While}
-use Rattle.ts_syntax.specs.TreeOf.{expr_tree, args_trees, stmt_tree, block_tree, block_trees}
-use Rattle.ts_syntax.specs.declared.checked_stmt.CStmt.{CStmt, the_lemmas}
+use Rattle.ts_checked.specs.Expression.{Expression, Arguments, arguments}
+use Rattle.ts_checked.specs.Statement.{Statement, Block, block, Set, SetItem, Append, Take, Clear, Do, DoSend, If, IfElse, For, While}
+use Rattle.ts_checked.specs.TreeOf.{expr_tree, args_trees, stmt_tree, block_tree, block_trees}
+use Rattle.ts_checked.specs.declared.checked_stmt.CStmt.{CStmt, the_lemmas}
 use Rattle.ts_meaning.specs.Translation.{size_of_instrs, number_code, args_code, expr_size, expr_need, stmt_size, stmt_need, block_size, block_need}
 use Rattle.ts_compiler.specs.Parts.{capped}
 use Rattle.ts_compiler.proofs.PartLemmas.{bytes_of-push, rest_more, rest_none}

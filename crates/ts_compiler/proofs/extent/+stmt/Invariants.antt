@@ -1,5 +1,5 @@
 use Rattle.std.proofs.Common.{drop, map}
-use Rattle.ts_syntax.specs.TreeOf.{stmt_tree}
+use Rattle.ts_checked.specs.TreeOf.{stmt_tree}
 use Rattle.ts_compiler.proofs.ExtentLemmas.{BlockMeasured}
 use Rattle.ts_compiler.proofs.extent.+stmt.Given as goal
 

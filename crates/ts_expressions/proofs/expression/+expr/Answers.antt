@@ -8,7 +8,7 @@ use Rattle.ts_syntax.specs.declared.token.Token.{Token}
 use Rattle.ts_syntax.specs.Spelling.{kinds}
 use Rattle.ts_syntax.specs.declared.token.TokenKind.TheVariants as kind
 use Rattle.ts_syntax.specs.Tree.{negative, variable, call, inverse, paren, item, message_item}
-use Rattle.ts_syntax.specs.declared.bin_op.BinOp.TheVariants as op
+use Rattle.ts_checked.specs.declared.bin_op.BinOp.TheVariants as op
 use Rattle.ts_syntax.specs.Machine.{Operand, in_negative, named, sized, Whole, first_product, first_sum, first_compare, first_and, in_inverse, first_or, in_paren, in_item, in_message, want, want_inverse, message, sum_due, inverse_due, expr_due, give, have_product, have_sum, have_inverse, have_and, have}
 use Rattle.ts_syntax.specs.Parsing.{reads, noted_then, Caller, of_operand, called_open, called, called_with}
 use Rattle.ts_syntax.proofs.Turns.{inverse_is_read, inverse_is_first}

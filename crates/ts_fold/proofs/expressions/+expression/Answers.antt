@@ -1,11 +1,11 @@
 use Rattle.std.proofs.Common.{◌∙◌, List, map, refl, ap, sym}
 use Rattle.std.proofs.lemmas.Result.{err_from_is_err_and}
-use Rattle.ts_syntax.specs.Expression.{Expression, arguments, Shared, Private, Size, MsgSize, SendBuf}
-use Rattle.ts_syntax.specs.TreeOf.{expr_step, args_step, expr_tree, args_trees}
-use Rattle.ts_syntax.specs.declared.checked_expr.CExpr.TheFolds.{fold-roll-CExpr}
-use Rattle.ts_syntax.specs.declared.checked_expr.CExpr.TheOpen.{CExpr-F}
-use Rattle.ts_syntax.specs.declared.checked_expr.CExpr.TheVariants as expr
-use Rattle.ts_syntax.proofs.ArgsLemmas.{args_seen}
+use Rattle.ts_checked.specs.Expression.{Expression, arguments, Shared, Private, Size, MsgSize, SendBuf}
+use Rattle.ts_checked.specs.TreeOf.{expr_step, args_step, expr_tree, args_trees}
+use Rattle.ts_checked.specs.declared.checked_expr.CExpr.TheFolds.{fold-roll-CExpr}
+use Rattle.ts_checked.specs.declared.checked_expr.CExpr.TheOpen.{CExpr-F}
+use Rattle.ts_checked.specs.declared.checked_expr.CExpr.TheVariants as expr
+use Rattle.ts_checked.proofs.ArgsLemmas.{args_seen}
 use Rattle.ts_fold.specs.Folded.{folded_args}
 use Rattle.ts_fold.proofs.LoopLemmas.{args_next, args_end, negation_folds, inverse_folds, operation_folds, call_folds, leaf_stays}
 use Rattle.ts_fold.proofs.expressions.+expression.Goals as goal

@@ -1,6 +1,6 @@
 use Rattle.std.proofs.Common.{◌≡◌, drop, map}
-use Rattle.ts_syntax.specs.Expression.{arguments}
-use Rattle.ts_syntax.specs.TreeOf.{expr_tree, args_trees}
+use Rattle.ts_checked.specs.Expression.{arguments}
+use Rattle.ts_checked.specs.TreeOf.{expr_tree, args_trees}
 use Rattle.ts_fold.specs.Folded.{folded_args}
 use Rattle.ts_fold.proofs.LoopLemmas.{args_behind}
 use Rattle.ts_fold.proofs.expressions.+expression.Given as goal

@@ -1,20 +1,20 @@
 use Rattle.std.proofs.Common.{rules, ◌≡◌, ◌∙◌, ◌∷◌, [], ◌++◌, List, Some, true, false, map, refl, ap, sym, subst}
 use Rattle.std.specs.Prelude.{OnOk}
 use Rattle.std.proofs.lemmas.Result.{err_from_is_err_and}
-use Rattle.ts_syntax.specs.Expression.{Expression, arguments}
-use Rattle.ts_syntax.specs.Statement.{Statement, Block, block, Set, SetItem, Append, Take, Clear, Do, DoSend, IfElse, For, While}
-use Rattle.ts_syntax.specs.Statement as tree
-use Rattle.ts_syntax.specs.TreeOf.{expr_tree, args_trees, stmt_step, block_step, stmt_tree, block_trees, block_tree}
-use Rattle.ts_syntax.specs.declared.checked_expr.CExpr.{CExpr}
-use Rattle.ts_syntax.specs.declared.checked_stmt.CBlock.{CBlock}
-use Rattle.ts_syntax.specs.declared.checked_stmt.CStmt.{the_lemmas}
-use Rattle.ts_syntax.specs.declared.checked_stmt.CStmt.TheVariants as stmt
-use Rattle.ts_syntax.specs.declared.checked_stmt.CStmt.TheFolds.{fold-roll-CStmt}
-use Rattle.ts_syntax.specs.declared.checked_stmt.CStmt.TheOpen.{CStmt-F}
-use Rattle.ts_syntax.specs.declared.checked_stmt.CVar.{CVar}
+use Rattle.ts_checked.specs.Expression.{Expression, arguments}
+use Rattle.ts_checked.specs.Statement.{Statement, Block, block, Set, SetItem, Append, Take, Clear, Do, DoSend, IfElse, For, While}
+use Rattle.ts_checked.specs.Statement as tree
+use Rattle.ts_checked.specs.TreeOf.{expr_tree, args_trees, stmt_step, block_step, stmt_tree, block_trees, block_tree}
+use Rattle.ts_checked.specs.declared.checked_expr.CExpr.{CExpr}
+use Rattle.ts_checked.specs.declared.checked_stmt.CBlock.{CBlock}
+use Rattle.ts_checked.specs.declared.checked_stmt.CStmt.{the_lemmas}
+use Rattle.ts_checked.specs.declared.checked_stmt.CStmt.TheVariants as stmt
+use Rattle.ts_checked.specs.declared.checked_stmt.CStmt.TheFolds.{fold-roll-CStmt}
+use Rattle.ts_checked.specs.declared.checked_stmt.CStmt.TheOpen.{CStmt-F}
+use Rattle.ts_checked.specs.declared.checked_stmt.CVar.{CVar}
 use Rattle.mate_num.specs.declared.id.BufId.{BufId}
 use Rattle.mate_num.specs.declared.id.FunId.{FunId}
-use Rattle.ts_syntax.proofs.BlockLemmas.{block_seen}
+use Rattle.ts_checked.proofs.BlockLemmas.{block_seen}
 use Rattle.ts_fold.specs.Folded.{folded_stmt, folded_stmts}
 use Rattle.ts_fold.proofs.LoopLemmas.{stmts_next, stmts_end, decides, if_true, if_false, if_stays, if_else_stays, while_false, for_stays, stays, on_ok}
 use Rattle.ts_fold.proofs.statements.+block.Goals as goal

@@ -1,6 +1,6 @@
 use Rattle.std.proofs.Common.{◌≡◌, ◌++◌, drop, map}
-use Rattle.ts_syntax.specs.Statement.{block}
-use Rattle.ts_syntax.specs.TreeOf.{stmt_tree, block_trees}
+use Rattle.ts_checked.specs.Statement.{block}
+use Rattle.ts_checked.specs.TreeOf.{stmt_tree, block_trees}
 use Rattle.ts_fold.specs.Folded.{folded_stmts}
 use Rattle.ts_fold.proofs.statements.+block.Given as goal
 

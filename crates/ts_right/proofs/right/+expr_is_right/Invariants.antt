@@ -1,7 +1,7 @@
 use Rattle.std.proofs.Common.{◌≡◌, drop, map}
-use Rattle.ts_syntax.specs.Expression.{arguments}
-use Rattle.ts_syntax.specs.Right.{are_right}
-use Rattle.ts_syntax.specs.TreeOf.{expr_tree}
+use Rattle.ts_checked.specs.Expression.{arguments}
+use Rattle.ts_checked.specs.Right.{are_right}
+use Rattle.ts_checked.specs.TreeOf.{expr_tree}
 use Rattle.ts_right.proofs.right.+expr_is_right.Given as goal
 
 -- the arguments are right where the rest of them is

@@ -1,7 +1,7 @@
 use Rattle.std.proofs.Common.{◌≡◌, drop, map}
-use Rattle.ts_syntax.specs.Statement.{block}
-use Rattle.ts_syntax.specs.Right.{is_right_block}
-use Rattle.ts_syntax.specs.TreeOf.{stmt_tree}
+use Rattle.ts_checked.specs.Statement.{block}
+use Rattle.ts_checked.specs.Right.{is_right_block}
+use Rattle.ts_checked.specs.TreeOf.{stmt_tree}
 use Rattle.ts_right.proofs.right.+stmt_is_right.Given as goal
 
 -- the block is right where the rest of it is

@@ -1,4 +1,4 @@
--- Where memory is refused nothing is appended of some bytes.
+-- If memory is refused, none of the bytes is appended.
 use Rattle.std.proofs.Common.{rules, ◌<◌, length}
 use Rattle.mate_files.proofs.SinkLemmas.{SentShort-nil}
 use Rattle.cases_runs.proofs.scarce.ScarceSinkSink.put.Goals as goal

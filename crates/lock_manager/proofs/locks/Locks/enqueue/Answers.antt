@@ -1,4 +1,4 @@
--- A context that neither waits nor is started finds room, and its number counts all that stand before it.
+-- A context that neither waits nor is started finds room, and its number counts all that are before it.
 use Rattle.std.proofs.Common.{◌≡◌, ◌+◌, List, ◌∙◌, ap, subst, lit<, arith}
 use Rattle.lock_manager.specs.declared.claim.Claim.{Claim}
 use Rattle.lock_manager.specs.declared.claim.Waiter.{Waiter}

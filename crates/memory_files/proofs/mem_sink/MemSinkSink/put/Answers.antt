@@ -1,4 +1,4 @@
--- Where it is refused nothing is appended of some bytes.
+-- If a write is refused, none of its bytes is appended.
 use Rattle.std.proofs.Common.{rules, ◌<◌, length}
 use Rattle.mate_files.proofs.SinkLemmas.{SentShort-nil}
 use Rattle.memory_files.proofs.mem_sink.MemSinkSink.put.Goals as goal

@@ -1,5 +1,5 @@
 use Rattle.std.proofs.Common.{drop, map}
-use Rattle.ts_syntax.specs.TreeOf.{expr_tree}
+use Rattle.ts_checked.specs.TreeOf.{expr_tree}
 use Rattle.ts_compiler.proofs.PartLemmas.{ArgsFrom}
 use Rattle.ts_compiler.proofs.emitter.Emitter.+expr.Given as goal
 

@@ -1,7 +1,7 @@
 use Rattle.std.proofs.Common.{rules, FitsSigned, ◌∙◌}
 use Rattle.std.specs.Int.{w16}
 use Rattle.std.proofs.lemmas.Int.{to_z-of_z}
-use Rattle.ts_syntax.specs.TreeOf.{expr_tree}
+use Rattle.ts_checked.specs.TreeOf.{expr_tree}
 use Rattle.ts_compiler.proofs.PartLemmas.{head_first, head_second, head_third, head_test, head_writes}
 use Rattle.ts_compiler.proofs.emitter.Emitter.for_head.Goals as goal
 

@@ -1,4 +1,4 @@
-use Rattle.ts_syntax.specs.TreeOf.{block_tree}
+use Rattle.ts_checked.specs.TreeOf.{block_tree}
 use Rattle.ts_compiler.proofs.PartLemmas.{script_room, halt_room, script_writes}
 use Rattle.ts_compiler.proofs.emitter.Emitter.of.Goals as goal
 

@@ -1,6 +1,6 @@
 use Rattle.std.proofs.Common.{◌≡◌, ◌≤◌, drop, map}
-use Rattle.ts_syntax.specs.Statement.{block}
-use Rattle.ts_syntax.specs.TreeOf.{expr_tree, stmt_tree, block_tree}
+use Rattle.ts_checked.specs.Statement.{block}
+use Rattle.ts_checked.specs.TreeOf.{expr_tree, stmt_tree, block_tree}
 use Rattle.ts_meaning.specs.State.{loop_does}
 use Rattle.ts_meaning.specs.Meaning.{value_of, run_block, while_round, for_round}
 use Rattle.ts_play.specs.Follows.{state_of}

@@ -1,9 +1,9 @@
 use Rattle.std.proofs.Common.{rules, FitsSigned, ◌≡◌, ◌∙◌, [], map, ap, sym, arith}
 use Rattle.std.specs.Int.{w16}
 use Rattle.std.proofs.lemmas.Int.{to_z-of_z}
-use Rattle.ts_syntax.specs.Expression.{arguments}
-use Rattle.ts_syntax.specs.TreeOf.{expr_tree, args_trees}
-use Rattle.ts_syntax.specs.declared.checked_expr.CExpr.{the_lemmas}
+use Rattle.ts_checked.specs.Expression.{arguments}
+use Rattle.ts_checked.specs.TreeOf.{expr_tree, args_trees}
+use Rattle.ts_checked.specs.declared.checked_expr.CExpr.{the_lemmas}
 use Rattle.ts_meaning.specs.Meaning.{values_of}
 use Rattle.ts_play.specs.Follows.{state_of}
 use Rattle.ts_play.proofs.ArgumentLemmas.{gathered, gathered_item, gathered_end}

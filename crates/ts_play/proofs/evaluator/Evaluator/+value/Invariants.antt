@@ -1,6 +1,6 @@
 use Rattle.std.proofs.Common.{◌≡◌, ◌≤◌, [], drop, length, map}
-use Rattle.ts_syntax.specs.Expression.{arguments}
-use Rattle.ts_syntax.specs.TreeOf.{expr_tree}
+use Rattle.ts_checked.specs.Expression.{arguments}
+use Rattle.ts_checked.specs.TreeOf.{expr_tree}
 use Rattle.ts_meaning.specs.Meaning.{values_of}
 use Rattle.ts_play.specs.Follows.{state_of}
 use Rattle.ts_play.proofs.ArgumentLemmas.{gathered}

@@ -1,6 +1,6 @@
 use Rattle.std.proofs.Common.{refl, ap, sym, ◌∙◌}
 use Rattle.std.proofs.lemmas.List.{drop_all}
-use Rattle.ts_syntax.proofs.ListLemmas.{drop_item}
+use Rattle.ts_checked.proofs.ListLemmas.{drop_item}
 use Rattle.ts_syntax.specs.declared.token.TokenKind.TheVariants as kind
 use Rattle.ts_syntax.specs.declared.stmt.Stmt.TheVariants as does
 use Rattle.ts_syntax.specs.Spelling.{act_spelled, acts_spelled}

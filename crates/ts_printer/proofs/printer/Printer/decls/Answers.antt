@@ -1,5 +1,5 @@
 use Rattle.std.proofs.lemmas.List.{drop_all}
-use Rattle.ts_syntax.proofs.ListLemmas.{drop_item}
+use Rattle.ts_checked.proofs.ListLemmas.{drop_item}
 use Rattle.ts_printer.proofs.PrintLemmas.{decls_begin, decls_next, decls_finish}
 use Rattle.ts_printer.proofs.printer.Printer.decls.Goals as goal
 

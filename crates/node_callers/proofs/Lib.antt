@@ -1,0 +1,5 @@
+mod NodeLemmas
+mod EraLemmas
+mod TurnLemmas
+mod AnsweredLemmas
+mod RunLemmas

@@ -1,0 +1,4 @@
+pub mod ArgsLemmas
+pub mod BlockLemmas
+pub mod FailureLemmas
+pub mod ListLemmas

@@ -1,0 +1,5 @@
+pub mod Checked
+pub mod Expression
+pub mod Right
+pub mod Statement
+pub mod TreeOf
