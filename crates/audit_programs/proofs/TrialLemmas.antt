@@ -1,9 +1,9 @@
 -- A journal that is read entry by entry, with its programs made ready.
-use Rattle.std.proofs.Common.{◌≡◌, ◌<◌, ◌≤◌, ℕ, zero, suc, ◌+◌, Bool, true, List, [], ◌∷◌, length, map, drop, drop-cons, replicate, refl, sym, ◌∙◌, ap, subst, inl, inr, Option, Some, None, arith}
-use Rattle.std.specs.Prelude.{slice_set, slice_index_or, IfSome, IsSomeAnd, if◌then◌else◌}
+use Rattle.std.proofs.Common.{◌≡◌, ◌<◌, ◌≤◌, ℕ, zero, suc, ◌+◌, Bool, true, List, [], ◌∷◌, length, map, drop, drop-cons, replicate, refl, sym, ◌∙◌, ap, subst, inl, inr, Option, Some, None, Result, Ok, Err, arith}
+use Rattle.std.specs.Prelude.{slice_set, slice_index_or, IfSome, IsSomeAnd, OnOk, if◌then◌else◌}
 use Rattle.std.proofs.lemmas.Bool.{and_parts}
 use Rattle.std.proofs.lemmas.Bool.Decides.{eqb_tells}
-use Rattle.std.proofs.lemmas.List.{get_or-map, get_or_default, get_or-set_same, get_or-set_other, set-get_or, length-map}
+use Rattle.std.proofs.lemmas.List.{get_or-map, get_or_default, get_or-set_same, get_or-set_other, set-get_or, length-map, length-set}
 use Rattle.mate_num.specs.declared.id.HandlerId.{HandlerId}
 use Rattle.mate_journal.specs.Journal.{Installed, TimedEntry, journal_of, journal_entry}
 use Rattle.mate_journal.specs.Log.{Log}
@@ -134,6 +134,24 @@ MakesReady-again d p programs kept same = by (ready_at programs p.handler) refl 
         own = own;
         after_is = sym (ap (λ (o : Option ReadyProgram). slice_set programs p.handler.0 o) (sym is) ∙ set-get_or programs p.handler.0 None);
       }
+
+pub HasKept-made : (d : Description) (p : HeldProgram) (x y : ReadyRoll) → p.handler.0 < 8 → HasKept d x → MakesReady d p (installed_programs x.ready) (installed_programs y.ready) → HasKept d y
+HasKept-made d p x y below kept makes =
+    let places = kept.places in
+    record {
+      places = ap (λ (ps : List (Option ReadyProgram)). length ps) makes.after_is ∙ length-set (installed_programs x.ready) p.handler.0 (Some makes.made) ∙ places;
+      kept = AreKept-made d p (installed_programs x.ready) (installed_programs y.ready) (omega (arith, below, places)) kept.kept makes;
+    }
+
+pub AreReady-made : (d : Description) (x : told.Roll) (p : HeldProgram) (before after : List (Option ReadyProgram)) → p.handler.0 < length before → AreReady d x.installed before → MakesReady d p before after
+    → AreReady d (rolled x (Installed p)).installed after
+AreReady-made d x p before after below ready makes =
+    subst (λ (ps : List (Option ReadyProgram)). AreReady d (rolled x (Installed p)).installed ps) (sym makes.after_is)
+    (AreReady-installed d x p before makes.made below makes.ready ready)
+
+pub OnOk-map : {A E P Q : Type 0} (r : Result A E) → (P → Q) → OnOk r P → OnOk r Q
+OnOk-map (Ok a) f p = f p
+OnOk-map (Err e) f p = tt
 
 pub HasReadUpTo-begins : (t : Trial) (x : ReadyRoll) → IsTried t → LiveAreInstalled nobody → roll_in t.log.now.images x.roll ≡ nobody → HasKept t.desc.now x → HasReadUpTo t 0 x
 HasReadUpTo-begins t x tried nobody_installed is kept = record {

@@ -1,9 +1,10 @@
 //! The audit of a report.
 
-ghost use Rattle.std.specs.Prelude.{◌≡◌, IfOk};
+ghost use Rattle.std.specs.Prelude.{◌≡◌, IfOk, OnOk};
 ghost use Rattle.mate_journal.specs.Tidy.{IsTidyLog};
 ghost use Rattle.node_programs.specs.Right.{AreRightPrograms};
 ghost use Rattle.report_text.specs.Tidy.{IsTidy};
+ghost use Rattle.audit_programs.specs.Trials.{HasKept};
 ghost use Rattle.audit_rules.specs.Tests.{failed_by};
 ghost use Rattle.audit_rules.specs.Verdicts.{IsVerdict};
 
@@ -17,7 +18,7 @@ use mate_num::NoMemory;
 use std::alloc::Global;
 use vm_desc::Description;
 
-/// The first law that the log of a node fails, by the tests in their order.
+/// The first law that the log of a node fails, by the tests in their order. What was made ready for the logs of other nodes is kept.
 fn first_failed<'a>(
     alloc: Global,
     desc: &'a Description,
@@ -27,7 +28,9 @@ fn first_failed<'a>(
 ) -> Result<Option<Law>, NoMemory>
     requires tidy { IsTidyLog desc.now log.now }
     requires right { AreRightPrograms desc.now programs.now }
-    ensures { IfOk result (λ law. law ≡ failed_by desc.now programs.now log.now) }
+    requires kept { HasKept desc.now roll.old }
+    ensures law { IfOk result (λ law. law ≡ failed_by desc.now programs.now log.now) }
+    ensures kept { OnOk result (HasKept desc.now roll.new) }
 {
     let _handlers = desc.handlers.len();
     let follow = entries_follow(alloc, desc, log)?;

@@ -1,13 +1,13 @@
 //! The laws of runs along a journal: serial replay, stores seen and the grant rule.
 
-ghost use Rattle.std.specs.Prelude.{◌≡◌, ◌&&◌, length, Some, None, IfOk, if◌then◌else◌};
+ghost use Rattle.std.specs.Prelude.{◌≡◌, ◌&&◌, length, Some, None, IfOk, OnOk, if◌then◌else◌};
 ghost use Rattle.std.specs.List.{All};
 ghost use Rattle.mate_journal.specs.Journal.{journal_entry};
 ghost use Rattle.journal_laws.specs.Growth.{IsNamedBelow};
 ghost use Rattle.audit_finite.specs.Granting as grant;
 ghost use Rattle.audit_finite.specs.Shown as seen;
 ghost use Rattle.audit_finite.specs.Shown.{HasLengthsOf};
-ghost use Rattle.audit_programs.specs.Trials.{IsTried, HasReadUpTo, IsSeatReady, machine_for};
+ghost use Rattle.audit_programs.specs.Trials.{IsTried, HasReadUpTo, HasKept, IsSeatReady, machine_for};
 ghost use Rattle.audit_roll.specs.Views.{roll_in};
 ghost use Rattle.audit_verdict.specs.declared.law.Law.TheVariants as law;
 ghost use Rattle.audit_rules.specs.Tests.{conflict_of, failed_by};
@@ -67,8 +67,10 @@ pub(crate) fn first_failed_of<'a>(
     trial: &Trial<'a>,
     roll: &mut ReadyRoll<'a>,
 ) -> Result<Option<Law>, NoMemory>
-    requires { IsTried trial.now }
-    ensures { IfOk result (λ law. law ≡ failed_by trial.now.desc.now trial.now.programs.now trial.now.log.now) }
+    requires tried { IsTried trial.now }
+    requires kept { HasKept trial.now.desc.now roll.old }
+    ensures law { IfOk result (λ law. law ≡ failed_by trial.now.desc.now trial.now.programs.now trial.now.log.now) }
+    ensures kept { OnOk result (HasKept trial.now.desc.now roll.new) }
 {
     roll.begin(alloc, trial);
     let mut store = zero_store(trial.desc);

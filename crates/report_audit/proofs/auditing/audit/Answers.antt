@@ -19,9 +19,9 @@ returns-in-Some c =
     let r = shown nodes c.nodes-nodes.result.now k l c.nodes-nodes.ensures c.loop-node-test.true c.index-nodes-node.is in
     let tidy = of-all (IsTidyLog d) nodes k l c.requires.tidy.logs r.0 r.1 in
     let at = at-node nodes c.nodes-nodes.result.now k l c.nodes-nodes.ensures c.loop-node-test.true c.index-nodes-node.is in (
-      c.loop-node.invariant,
+      c.loop-node.invariant.nodes,
       subst (λ (o : Option Log). IsSomeAnd o (λ x. LogFails d ps x c.in-Some.law)) (sym at)
-          (found-law d ps l (failed_by d ps l) c.in_ok-failed.failed c.in-Some.law c.in_ok-failed.ensures c.in-Some.is (failed-told d ps l c.requires.right tidy)),
+          (found-law d ps l (failed_by d ps l) c.in_ok-failed.failed c.in-Some.law c.in_ok-failed.ensures.law c.in-Some.is (failed-told d ps l c.requires.right tidy)),
     )
 
 pub loop-node-preserved : goal.loop-node-preserved
@@ -34,5 +34,8 @@ loop-node-preserved c =
     let r = shown nodes c.nodes-nodes.result.now k l c.nodes-nodes.ensures c.loop-node-test.true c.index-nodes-node.is in
     let tidy = of-all (IsTidyLog d) nodes k l c.requires.tidy.logs r.0 r.1 in
     let at = at-node nodes c.nodes-nodes.result.now k l c.nodes-nodes.ensures c.loop-node-test.true c.index-nodes-node.is in
-    keeps-more d ps c.args.report.now k l c.loop-node.invariant at
-    (found-none d ps l (failed_by d ps l) c.in_ok-failed.failed c.in_ok-failed.ensures c.in_default.is (failed-told d ps l c.requires.right tidy))
+    record {
+      nodes = keeps-more d ps c.args.report.now k l c.loop-node.invariant.nodes at
+          (found-none d ps l (failed_by d ps l) c.in_ok-failed.failed c.in_ok-failed.ensures.law c.in_default.is (failed-told d ps l c.requires.right tidy));
+      kept = c.in_ok-failed.ensures.kept;
+    }
