@@ -8,9 +8,9 @@ ghost use Rattle.audit_programs.specs.Naming.{IsHeldAt};
 use mate_journal::{ImageRef, Program, Programs};
 use mate_num::HandlerId;
 
-/// The position of a program with the handler, the version and the image; None exactly where there is none. They are looked
-/// at from `from` on, and then from the first one: journals mostly install programs in their order, so the next one that is
-/// sought stands close behind the last one that was found.
+/// The position of a program with this handler, version and image; None exactly if there is none. The search begins at `from`, and
+/// goes on at the first program: journals mostly install programs in their order, so the next one that is sought comes soon after
+/// the last one that was found.
 pub fn find_program(
     programs: &Programs,
     from: usize,
@@ -29,7 +29,7 @@ pub fn find_program(
     }
 }
 
-/// The position of the first of these programs with the handler, the version and the image.
+/// The position of the first of these programs with this handler, version and image.
 fn place_in(
     programs: &[Program],
     handler: HandlerId,
@@ -47,7 +47,7 @@ fn place_in(
     None
 }
 
-/// Whether the program has the handler, the version and the image. Images are compared last.
+/// Whether the program has this handler, version and image. Images are compared last.
 fn is_held_as(program: &Program, handler: HandlerId, version: u32, image: &ImageRef) -> bool
     ensures { result ≡ is_held_as (record { handler = handler; version = version; image = image.now }) program.now }
 {

@@ -14,7 +14,7 @@ use mate_num::{Call, HandlerId, NoMemory, Outcome, Resource, Store};
 use std::alloc::Global;
 use whole_runs::{ReadyProgram, ReadyPrograms};
 
-/// The program that an install names, looked for from `place` on; `place` then is its own.
+/// The program that an install names. The search begins at `place`, which then is the position of the program.
 fn program_named<'a>(
     trial: &Trial<'a>,
     place: &mut usize,
@@ -38,7 +38,7 @@ fn program_named<'a>(
     &trial.programs.as_slice()[found]
 }
 
-/// The answers to the calls.
+/// The answers to these calls.
 fn answers_of(alloc: Global, calls: &[Call]) -> Result<Vec<i16>, NoMemory>
     ensures { IfOk result (λ answers. answers.items ≡ map (λ (call : Answered). call.result) calls.now) }
 {
@@ -49,12 +49,12 @@ fn answers_of(alloc: Global, calls: &[Call]) -> Result<Vec<i16>, NoMemory>
     Ok(answers)
 }
 
-/// The roll of a journal that is read, and the programs that are installed, made ready.
+/// The roll of a journal that is being read, and the programs that are installed, made ready.
 #[derive(Drop)]
 pub struct ReadyRoll<'a> {
     pub roll: Roll,
     ready: ReadyPrograms<'a>,
-    /// The position of the program that was installed last.
+    /// The position of the program that was looked for last.
     last: usize,
 }
 
@@ -73,7 +73,7 @@ impl<'a> ReadyRoll<'a> {
     ghost use Rattle.whole_runs.specs.Ready.{IsReadyAs, installed_programs, ready_at};
     ghost use Rattle.audit_programs.specs.Trials.{IsTried, HasReadUpTo, IsSeatReady, AreReady, AreKept, MakesReady, HasKept, machine_for, told_at};
 
-    /// No journal is read yet.
+    /// Before the first journal.
     pub fn new(alloc: Global) -> Result<ReadyRoll<'a>, NoMemory>
         ensures { (d : Given) → IfOk result (HasKept d) }
     {
@@ -86,7 +86,7 @@ impl<'a> ReadyRoll<'a> {
         })
     }
 
-    /// Before the first entry of a journal. What was made ready for another journal of the machine is kept.
+    /// Begins a journal, before its first entry. Programs that were made ready for the journals before stay ready.
     pub fn begin(&mut self, alloc: Global, trial: &Trial<'a>)
         requires tried { IsTried trial.now }
         requires kept { HasKept trial.now.desc.now self.old }
@@ -97,7 +97,7 @@ impl<'a> ReadyRoll<'a> {
         self.roll = Roll::nobody(alloc);
     }
 
-    /// After the entry at the place.
+    /// Reads the entry at this place.
     pub fn hear(&mut self, alloc: Global, trial: &Trial<'a>, place: usize) -> Result<(), NoMemory>
         requires tried { IsTried trial.now }
         requires within { place < length trial.now.log.now.entries }
@@ -111,7 +111,7 @@ impl<'a> ReadyRoll<'a> {
         self.roll.hear(alloc, entry)
     }
 
-    /// Whether what was made ready last for the handler has the image at that position in the log.
+    /// Whether the program that was made ready last for the handler has the image at this position in the log.
     fn is_ready(&self, trial: &Trial, handler: HandlerId, image: u32) -> bool
         requires { image < length trial.now.log.now.images }
         ensures { IsTrue result → IsSomeAnd (ready_at (installed_programs self.now.ready) handler)
@@ -126,7 +126,7 @@ impl<'a> ReadyRoll<'a> {
         }
     }
 
-    /// What an install installs is made ready, unless what was made ready last for the handler has its image.
+    /// Makes ready what an install names, unless the program that was made ready last for the handler has the same image.
     fn install(
         &mut self,
         alloc: Global,
@@ -152,7 +152,7 @@ impl<'a> ReadyRoll<'a> {
             .install(alloc, handler, ReadyProgram::of(trial.desc, program))
     }
 
-    /// What the entry installs, if it installs something, is made ready.
+    /// Makes ready what the entry installs, if it installs something.
     fn make_ready(
         &mut self,
         alloc: Global,

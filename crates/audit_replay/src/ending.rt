@@ -23,8 +23,8 @@ struct Stores<'a> {
     after: &'a Store,
 }
 
-/// Whether one that is started, and conflicts with the one of that number that ended, has its calls so far on the store before the end
-/// and on the one after it.
+/// Whether an invocation that is started, and conflicts with the one that ended, makes its calls so far both on the store before that
+/// end and on the store after it. Of others it is true.
 fn is_undisturbed(
     alloc: Global,
     trial: &Trial,
@@ -55,7 +55,7 @@ fn is_undisturbed(
     is_so_far(alloc, trial, roll, seat, stores.after)
 }
 
-/// Whether that holds of each one.
+/// Whether each one is undisturbed.
 fn all_undisturbed(
     alloc: Global,
     trial: &Trial,
@@ -82,14 +82,14 @@ fn all_undisturbed(
     Ok(true)
 }
 
-/// Whether a run ended so, with the calls of the invocation.
+/// Whether a run ended in this way, after the calls of the invocation.
 fn ends_so(outcome: &Outcome, how: &End, ended: &Seat) -> bool
     ensures { result ≡ (are_one_end outcome.now.end how.now && are_one_calls outcome.now.calls ended.now.calls) }
 {
     same_end(&outcome.end, how) && same_calls(outcome.calls.as_slice(), ended.calls.as_slice())
 }
 
-/// The store is kept, if there is none yet.
+/// Keeps the store, if there is none yet.
 fn keep_first(left: &mut Option<Store>, after: Store)
     ensures { left.new ≡ Some (unwrap_or left.old after) }
 {
@@ -98,7 +98,7 @@ fn keep_first(left: &mut Option<Store>, after: Store)
     }
 }
 
-/// Whether the run of the invocation is right and ends so. If it is, and `left` has no store, `left` then has the one that the run
+/// Whether the run of the invocation is right and ends in this way. If it is, and `left` is None, `left` gets the store that the run
 /// leaves.
 fn ends_right(
     alloc: Global,
@@ -136,7 +136,7 @@ fn ends_right(
     Ok(true)
 }
 
-/// Whether the run of the invocation of that number is right and ends so; the store then is the serial one after it.
+/// Whether the run of the invocation of this number is right and ends in this way. If it is, the store becomes the serial one after it.
 pub(crate) fn run_end(
     alloc: Global,
     trial: &Trial,

@@ -26,7 +26,7 @@ pub fn zero_store(desc: &Description) -> Store
     Heap::new(desc.shared.len() as u8, desc.buffers.len() as u8).store()
 }
 
-/// Whether each started one has its calls so far; the store then is that at the beginning of the next era.
+/// Whether each started invocation makes its calls so far. If so, the store becomes that at the beginning of the next era.
 fn end_era(
     alloc: Global,
     trial: &Trial,
@@ -49,7 +49,7 @@ fn end_era(
     Ok(true)
 }
 
-/// Whether the invocation of that number ended so rightly; the store then is the serial one after it.
+/// Whether the invocation of this number rightly ended in this way. If so, the store becomes the serial one after it.
 fn end_at(
     alloc: Global,
     trial: &Trial,
@@ -72,7 +72,7 @@ fn end_at(
     run_end(alloc, trial, roll, store, number, how)
 }
 
-/// Whether the runs at the entry are right; the store then is the serial one after it.
+/// Whether the runs at the entry are right. If so, the store becomes the serial one after it.
 pub fn run_at(
     alloc: Global,
     trial: &Trial,

@@ -15,7 +15,7 @@ use audit_roll::{Phase, Seat, Stage};
 use mate_num::{End, NoMemory, Outcome, Store, copy_of};
 use std::alloc::Global;
 
-/// Whether a run ended as an invocation needs it that stands there: one that waits, in its call.
+/// Whether a run ended as an invocation in this phase needs it: one that waits needs an end in its call.
 fn wants_as(phase: &Phase, end: &End) -> bool
     ensures { result ≡ told.wants_as (phase_in phase.now) end.now }
 {
@@ -31,7 +31,7 @@ fn wants_as(phase: &Phase, end: &End) -> bool
     }
 }
 
-/// Whether an outcome has the calls of the invocation so far, and wants the call that it waits for.
+/// Whether an outcome has the calls of the invocation so far, and ends in the call that it waits for.
 fn outcome_is_so_far(seat: &Seat, outcome: &Outcome) -> bool
     ensures { (images : List (ArrayVec ℕ)) → result ≡ told.outcome_is_so_far (seat_in images seat.now).invocation outcome.now }
 {
@@ -39,7 +39,7 @@ fn outcome_is_so_far(seat: &Seat, outcome: &Outcome) -> bool
         && wants_as(&seat.phase, &outcome.end)
 }
 
-/// Whether the run of the invocation on the store gives its calls so far, and wants the call that it waits for.
+/// Whether the run of the invocation on the store makes its calls so far, and ends in the call that it waits for.
 pub(crate) fn is_so_far(
     alloc: Global,
     trial: &Trial,
@@ -57,7 +57,7 @@ pub(crate) fn is_so_far(
     Ok(outcome_is_so_far(seat, &outcome))
 }
 
-/// Whether that holds of the invocation, if it is started.
+/// The same, if the invocation is started; true of a queued one.
 fn runs_rightly(
     alloc: Global,
     trial: &Trial,
@@ -78,7 +78,7 @@ fn runs_rightly(
     is_so_far(alloc, trial, roll, seat, store)
 }
 
-/// Whether that holds of each one.
+/// Whether that is so for each live invocation.
 pub fn all_so_far(
     alloc: Global,
     trial: &Trial,

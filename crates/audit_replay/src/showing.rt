@@ -19,7 +19,7 @@ use mate_journal::StoreRef;
 use mate_num::{BufId, NoMemory, Resource, Store, VarId};
 use std::alloc::Global;
 
-/// What a store has at a resource.
+/// The values that a store has in a variable or buffer.
 fn values_at(store: &Store, at: Resource) -> &[i16]
     ensures { result.now ≡ journal.values_at store.now at }
 {
@@ -41,7 +41,7 @@ fn values_at(store: &Store, at: Resource) -> &[i16]
     }
 }
 
-/// What a store that is seen has at a resource.
+/// The values that a store that is seen has in a variable or buffer.
 fn values_seen<'a>(seen: &StoreRef<'a>, at: Resource) -> &'a [i16]
     ensures { result.now ≡ journal.values_at seen.now at }
 {
@@ -60,14 +60,14 @@ fn values_seen<'a>(seen: &StoreRef<'a>, at: Resource) -> &'a [i16]
     }
 }
 
-/// Whether a store that is seen and another one have the same there.
+/// Whether a store that is seen has the same values there as another store.
 fn same_at(seen: &StoreRef, store: &Store, at: Resource) -> bool
     ensures { result ≡ are_same (journal.values_at seen.now at) (journal.values_at store.now at) }
 {
     same_values(values_seen(seen, at), values_at(store, at))
 }
 
-/// The store that the run of the invocation leaves, up to the call that it waits in; None where it doesn't wait.
+/// The store that the run of the invocation leaves up to the call that it waits for; None if it doesn't wait.
 fn left_waiting(
     alloc: Global,
     trial: &Trial,
@@ -87,7 +87,7 @@ fn left_waiting(
     Ok(Some(outcome.store))
 }
 
-/// The store that the run of each live one that waits leaves, up to the call that it waits in.
+/// That store for each live invocation.
 pub(crate) fn waiting_stores(
     alloc: Global,
     trial: &Trial,
@@ -118,7 +118,7 @@ fn writes_at(trial: &Trial, roll: &ReadyRoll, seat: &Seat, at: Resource) -> bool
     !seat.phase.is(Stage::Queued) && roll.writes(trial, seat, at)
 }
 
-/// Whether some started one writes the resource.
+/// Whether a started invocation writes the resource.
 fn is_written(trial: &Trial, roll: &ReadyRoll, at: Resource) -> bool
     requires tried { IsTried trial.now }
     requires ready { All (IsSeatReady trial.now roll.now) roll.now.roll.seats.items }
@@ -134,7 +134,7 @@ fn is_written(trial: &Trial, roll: &ReadyRoll, at: Resource) -> bool
     false
 }
 
-/// Whether the store that is seen has the serial store's values, if no started one writes the resource.
+/// Whether the store that is seen has the serial store's values, if no started invocation writes the resource.
 fn shows_unwritten(
     trial: &Trial,
     roll: &ReadyRoll,
@@ -152,7 +152,7 @@ fn shows_unwritten(
     is_written(trial, roll, at) || same_at(seen, store, at)
 }
 
-/// Whether the store that is seen has what the run of the invocation leaves, if it waits and its program writes the resource.
+/// Whether the store that is seen has what the run of the invocation leaves, if the invocation waits and writes the resource.
 fn agrees_at(
     trial: &Trial,
     roll: &ReadyRoll,
@@ -175,7 +175,7 @@ fn agrees_at(
     }
 }
 
-/// Whether that holds of each one.
+/// Whether that is so for each live invocation.
 fn all_agree(
     trial: &Trial,
     roll: &ReadyRoll,
@@ -201,7 +201,7 @@ fn all_agree(
     true
 }
 
-/// Whether the store shows at the resource what the journal tells of it.
+/// Whether the store shows at the resource what follows from the journal.
 fn is_shown_at(
     trial: &Trial,
     roll: &ReadyRoll,
@@ -220,7 +220,7 @@ fn is_shown_at(
     shows_unwritten(trial, roll, store, seen, at) && all_agree(trial, roll, store, stores, seen, at)
 }
 
-/// Whether it does at each of the first variables.
+/// Whether that is so for each of the first `count` variables.
 fn all_variables_shown(
     trial: &Trial,
     roll: &ReadyRoll,
@@ -252,7 +252,7 @@ fn all_variables_shown(
     true
 }
 
-/// Whether it does at each of the first buffers.
+/// Whether that is so for each of the first `count` buffers.
 fn all_buffers_shown(
     trial: &Trial,
     roll: &ReadyRoll,
@@ -284,7 +284,7 @@ fn all_buffers_shown(
     true
 }
 
-/// Whether the store that is seen shows all variables and buffers as the journal tells of them.
+/// Whether the store that is seen shows in all variables and buffers what follows from the journal.
 pub(crate) fn is_store_shown(
     alloc: Global,
     trial: &Trial,

@@ -15,7 +15,7 @@ use mate_journal::Entry;
 use mate_num::{NoMemory, Store};
 use std::alloc::Global;
 
-/// Whether the entry shows the store as the journal tells of it, if it shows one.
+/// Whether the store that the entry shows, if it shows one, is what follows from the journal.
 pub fn shows_right(
     alloc: Global,
     trial: &Trial,

@@ -18,7 +18,7 @@ use mate_num::NoMemory;
 use std::alloc::Global;
 use vm_desc::Description;
 
-/// The first law that the log of a node fails, by the tests in their order. What was made ready for the logs of other nodes is kept.
+/// The first law that the log of a node fails, by the tests in their order. Programs that were made ready for other nodes stay ready.
 fn first_failed<'a>(
     alloc: Global,
     desc: &'a Description,
@@ -49,9 +49,9 @@ fn first_failed<'a>(
     first_failed_of(alloc, &trial, roll)
 }
 
-/// Whether a report shows serial behaviour of the programs: `Serial` exactly where each node's journal keeps each law, and else the least
-/// node whose journal fails one, with the first that it fails in their order. `NoMemory` comes only where memory is refused, for what is
-/// live on a node at a time, for programs that are made ready, and for the calls of runs.
+/// Whether a report shows serial behaviour of the programs: `Serial` exactly if each node's journal keeps each law, and otherwise the
+/// first node whose journal fails one, with the first law that it fails, in their order. `NoMemory` comes only if memory is refused: for
+/// what is live on a node at a time, for programs that are made ready, and for the calls of runs.
 pub fn audit(
     alloc: Global,
     desc: &Description,

@@ -16,8 +16,8 @@ use mate_journal::{Entry, ImageRef, NodeLog, Programs};
 use mate_num::HandlerId;
 use vm_desc::Description;
 
-/// Whether one of the programs has the handler, the version and the image. It is looked for from `place` on, which then is its
-/// own.
+/// Whether one of the programs has this handler, version and image. The search begins at `place`, which then is the position of the
+/// program.
 fn is_one_of(
     programs: &Programs,
     place: &mut usize,
@@ -36,8 +36,8 @@ fn is_one_of(
     }
 }
 
-/// Whether what the entry installs, if it installs something, is one of the programs, and newer than what was installed. It is
-/// looked for from `place` on. `held` then has the version that is installed for each handler, 0 for none.
+/// Whether what the entry installs, if it installs something, is one of the programs, and newer than what was installed. The search
+/// begins at `place`. `held` has the version that is installed for each handler, 0 for none, and gets the new one.
 fn installs_right(
     programs: &Programs,
     place: &mut usize,

@@ -20,7 +20,7 @@ use mate_journal::Entry;
 use mate_num::{NoMemory, Store};
 use std::alloc::Global;
 
-/// Whether each store that was seen so far is shown rightly, with the one that the entry shows.
+/// Whether each store that was seen so far is right, with that of this entry.
 fn still_shown(
     alloc: Global,
     trial: &Trial,
@@ -44,7 +44,7 @@ fn still_shown(
     shows_right(alloc, trial, roll, store, entry)
 }
 
-/// Whether each entry so far is granted, and this one.
+/// Whether each entry so far keeps the grant rule, and this one too.
 fn still_granted(
     trial: &Trial,
     roll: &ReadyRoll,
@@ -60,8 +60,8 @@ fn still_granted(
     so_far && is_granted(trial, roll, place, last, entry)
 }
 
-/// The first law that a log fails whose entries follow one another and whose installs are of the programs. Its journal is read once:
-/// where serial replay fails, no later law is asked; whether the others hold so far is kept to the end.
+/// The first law that a log fails whose entries follow one another and whose installs are of the programs. The journal is read once:
+/// if serial replay fails, no later law matters; whether the others hold so far is kept to the end.
 pub(crate) fn first_failed_of<'a>(
     alloc: Global,
     trial: &Trial<'a>,
@@ -95,7 +95,7 @@ pub(crate) fn first_failed_of<'a>(
     Ok(law_behind(shown, in_order))
 }
 
-/// The first law that fails where serial replay holds.
+/// The first law that fails if serial replay holds.
 fn law_behind(shown: bool, granted: bool) -> Option<Law>
     ensures { result ≡ (if shown then (if granted then None else Some law.D10) else Some law.D9) }
 {

@@ -6,7 +6,7 @@ ghost use Rattle.report_reader.specs.declared.line.Line.{Line};
 ghost use Rattle.report_reader.specs.Told.{line_words, IsRightLine, HasLineRanges};
 ghost use Rattle.report_reader.specs.Reading.{line_in};
 
-/// The words of each line that is right for the description tell this line.
+/// Each line that is right for the description is read back from its words.
 pub fn written_line_is_read()
     ensures { (d : Description) (l : Line) → IsRightLine d l → HasLineRanges l → line_in d (line_words d l) ≡ Some l }
 {}

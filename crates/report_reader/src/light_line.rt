@@ -1,4 +1,4 @@
-//! A line whose image or store stands beside it, so that it is short to hand on.
+//! A line without its image or store, which is kept beside it, so that the line is short to hand on.
 
 ghost use Rattle.std.specs.Prelude.{◌≡◌, IfSome, IfNone};
 ghost use Rattle.std.specs.Option.{option_map};
@@ -23,16 +23,16 @@ use report_fields::fields::{
 use report_fields::{Words, store_of};
 use vm_desc::Description;
 
-/// What happened, where an image and a store stand in a `Bulk` beside it.
+/// What happened. The image or the store that it names is in a `Bulk` beside it.
 #[derive(Drop)]
 pub enum LightTold {
     /// It happened at a node's timer or on the radio.
     OnAir(Air),
-    /// The entry of a log, other than an install and a store seen.
+    /// An entry of a log, other than an install or a store seen.
     Made(Entry),
-    /// The capsule of the image was installed: its handler and its version.
+    /// The image in the `Bulk` was installed for this handler, as this version.
     Installed { handler: HandlerId, version: u32 },
-    /// The store was seen.
+    /// The store in the `Bulk` was seen.
     Shown,
 }
 
@@ -45,7 +45,7 @@ pub struct LightLine {
     pub told: LightTold,
 }
 
-/// The image and the store that a line tells. One serves for all lines of a text, one after another.
+/// The image and the store of a line. One `Bulk` serves for all lines of a text, one after another.
 #[derive(Drop)]
 pub struct Bulk {
     pub image: Image,
@@ -65,10 +65,10 @@ impl Bulk {
     }
 }
 
-/// The line that bytes tell, which do not have the LF at its end; None where they tell none. If it tells an image or a store, this
-/// is left in `bulk`.
+/// The line that bytes spell, without the LF at its end; None if they spell none. If the line has an image or a store, it is left in
+/// `bulk`.
 ///
-/// It is as `line_of`, and hands on no image and no store, which are a hundred times as long as the rest.
+/// It gives what `line_of` gives, but hands on no image and no store, which are a hundred times as long as the rest.
 pub fn light_line_of(desc: &Description, bytes: &[u8], bulk: &mut Bulk) -> Option<LightLine>
     ensures value { option_map (bulky_line bulk.new) result ≡ line_in desc.now bytes.now }
     ensures form { IfSome result (λ l. bytes.now ≡ line_words desc.now (bulky_line bulk.new l)) }
@@ -138,7 +138,7 @@ fn told_by(desc: &Description, verb: Verb, words: &mut Words, bulk: &mut Bulk) -
     }
 }
 
-/// What was told, where no word is left.
+/// What was read, if no word is left.
 fn at_end(words: &Words, told: LightTold) -> Option<LightTold>
     ensures { (x : Bulk) → option_map (told_with x) result ≡ only_at_end (told_with x told) words.now }
 {

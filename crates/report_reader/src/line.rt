@@ -16,7 +16,7 @@ use vm_desc::Description;
 pub enum Told {
     /// It happened at a node's timer or on the radio.
     OnAir(Air),
-    /// The entry of a log, other than an install and a store seen.
+    /// An entry of a log, other than an install or a store seen.
     Made(Entry),
     /// A capsule was installed: its handler, its version and its image.
     Installed {
@@ -37,9 +37,9 @@ pub struct Line {
     pub told: Told,
 }
 
-/// The line that bytes tell, which do not have the LF at its end; None where they tell none.
+/// The line that bytes spell, without the LF at its end; None if they spell none.
 ///
-/// What it gives is written as these bytes again, so no other line is, and no line is written as bytes that tell none.
+/// The line that it gives is written as these bytes again, so no other line is; and no line is written as bytes that spell none.
 pub fn line_of(desc: &Description, bytes: &[u8]) -> Option<Line>
     ensures value { result ≡ line_in desc.now bytes.now }
     ensures form { IfSome result (λ l. bytes.now ≡ line_words desc.now l) }

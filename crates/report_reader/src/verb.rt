@@ -53,7 +53,7 @@ impl Verb {
     }
 }
 
-/// The verb whose word has these letters, the first and the third one; of other letters it is any.
+/// The verb whose word has these first and third letters; for other letters any verb.
 fn likely(first: u8, third: u8) -> Verb
     ensures { result ≡ likely first third }
 {
@@ -78,7 +78,7 @@ fn likely(first: u8, third: u8) -> Verb
     }
 }
 
-/// The verb that a word names. It is compared with one word only.
+/// The verb that a word names; None if it names none. The word is compared with that of one verb only.
 pub fn verb_of(word: &[u8]) -> Option<Verb>
     ensures { result ≡ verb_of word.now }
 {

@@ -9,7 +9,7 @@ ghost use Rattle.report_reading.specs.declared.last_line.LastLine.{LastLine};
 use report_fields::Words;
 use report_fields::numbers::unsigned;
 
-/// What the last line of a report tells.
+/// What the last line of a report says.
 #[derive(Clone, Copy, PartialEq, Eq, Debug)]
 pub struct LastLine {
     /// Whether the run is whole.
@@ -22,9 +22,9 @@ pub struct LastLine {
     pub nodes: u64,
 }
 
-/// The last line that bytes tell, which do not have the LF at its end; None where they tell none.
+/// The last line that bytes spell, without the LF at its end; None if they spell none.
 ///
-/// What it gives is written as these bytes again, and no last line is written as bytes that tell none.
+/// The last line that it gives is written as these bytes again, and no last line is written as bytes that spell none.
 pub fn last_line_of(bytes: &[u8]) -> Option<LastLine>
     ensures value { result ≡ last_in bytes.now }
     ensures form { IfSome result (λ e. bytes.now ≡ last_words e) }
@@ -58,7 +58,7 @@ fn last_of_words(words: &mut Words) -> Option<LastLine>
     )
 }
 
-/// Whether a word says that a run is whole; None where it doesn't say that it is or that it isn't.
+/// Whether a word says that a run is whole (`end`) or isn't (`full`); None for another word.
 fn is_whole_word(word: &[u8]) -> Option<bool>
     ensures { result ≡ is_whole_word word.now }
 {
@@ -85,7 +85,7 @@ fn next_unsigned(words: &mut Words) -> Option<u64>
     unsigned(words.next()?)
 }
 
-/// What was told, where no word is left.
+/// What was read, if no word is left.
 fn at_end(words: &Words, last: LastLine) -> Option<LastLine>
     ensures { result ≡ only_at_end last words.now }
 {

@@ -13,8 +13,8 @@ pub fn read_report_is_tidy()
     ensures { (d : Description) (bytes : List ℕ) (r : Report) → AreOfReport d bytes r → IsTidy d r }
 {}
 
-/// Of any bytes one verdict holds: the lines of at most one report, or at most one bad line, and never both. So `read` refuses
-/// exactly what is the text of no lines that fit, at the first bad line.
+/// For any bytes at most one verdict holds: they are the lines of one report, or one line is the bad one, and never both. So `read`
+/// refuses exactly what isn't the text of lines that fit, at the first bad line.
 pub fn one_verdict_holds()
     ensures lines { (d : Description) (bytes : List ℕ) (ls ms : List Line) (e f : LastLine) → AreLines d bytes ls e
         → AreLines d bytes ms f → (ls ≡ ms) × (e ≡ f) }

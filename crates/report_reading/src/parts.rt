@@ -1,4 +1,4 @@
-//! The parts of a report, as its lines are read.
+//! The parts of a report, while its lines are read.
 
 ghost use Rattle.std.specs.Prelude.{◌≡◌, ◌≤◌, ◌<◌, ◌+◌, ◌∷◌, ◌++◌, [], List, ℕ, length, take, max, All, OnOk, MatchResult, IfOk, Err};
 ghost use Rattle.std.specs.Prelude.{IsTrue, ◌↔◌};
@@ -23,7 +23,7 @@ use std::alloc::Global;
 /// The most nodes that a report has.
 const NODES_MAX: u8 = 64;
 
-/// What the lines of a text have told so far.
+/// What the lines of a text recorded so far.
 #[derive(Drop)]
 pub struct Parts {
     /// A log for each node that there can be.
@@ -32,11 +32,11 @@ pub struct Parts {
     pub place: Option<Place>,
     /// How many lines were read.
     pub count: u32,
-    /// A number above each node number in them.
+    /// A number above each number of a node in these lines.
     pub nodes: u64,
 }
 
-/// The number of the node that a line names beside its own, or 0.
+/// The number of the other node that a line names, or 0.
 fn node_named(told: &LightTold, bulk: &Bulk) -> u8
     ensures { result ≡ node_named (told_with bulk.now told.now) }
 {
@@ -57,14 +57,14 @@ fn node_in_air(air: &Air) -> u8
     }
 }
 
-/// A number above each node number of a line.
+/// A number above each number of a node in a line.
 fn nodes_in(line: &LightLine, bulk: &Bulk) -> u64
     ensures { result ≡ nodes_in (bulky_line bulk.now line.now) }
 {
     line.node.max(node_named(&line.told, bulk)) as u64 + 1
 }
 
-/// Appends what a line tells to the log of its node; a line that tells of the air leaves it.
+/// Appends what a line records to the log of its node; a line about the air changes nothing.
 fn add_to_log(log: &mut NodeLog, stamp: Stamp, told: LightTold, bulk: &Bulk) -> Result<(), NoMemory>
     requires images { length log.old.images < 4100000000 }
     requires stores { length log.old.stores < 4100000000 }
@@ -83,7 +83,7 @@ fn add_to_log(log: &mut NodeLog, stamp: Stamp, told: LightTold, bulk: &Bulk) -> 
 }
 
 impl Parts {
-    /// What no line has told.
+    /// Before the first line.
     pub fn new(alloc: Global) -> Result<Parts, NoMemory>
         ensures { IfOk result (λ p. (d : Description) → HasRead d [] p) }
     {
@@ -100,7 +100,7 @@ impl Parts {
         })
     }
 
-    /// The line behind those that were read is bad.
+    /// The fault if the line after those that were read is bad.
     pub fn bad_line(&self) -> TextFault
         requires { self.now.count ≤ 4000000000 }
         ensures { result ≡ fault.BadLine (self.now.count + 1) }
@@ -110,7 +110,7 @@ impl Parts {
         }
     }
 
-    /// Takes the next line, with the image or the store that it tells. A line that doesn't fit after those before is the bad line.
+    /// Takes the next line, whose image or store is in `bulk`. A line that doesn't fit after those before it is the bad line.
     pub fn take(&mut self, line: LightLine, bulk: &Bulk) -> Result<(), TextFault>
         requires node { line.node < 64 }
         requires few { self.old.count < 4000000000 }
@@ -154,7 +154,7 @@ impl Parts {
             && self.nodes <= last.nodes
     }
 
-    /// The report of the lines that were read and a last line.
+    /// The report of the lines that were read, with this last line.
     pub fn into_report(self, alloc: Global, last: LastLine) -> Result<Report, NoMemory>
         requires { last.nodes ≤ 64 }
         ensures { IfOk result (λ r. (d : Description) (ls : List Line) → HasRead d ls self → IsSameReport r (report_of ls last)) }

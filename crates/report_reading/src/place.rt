@@ -1,4 +1,4 @@
-//! How far the lines of a report have come: which line may stand behind those so far.
+//! How far the lines of a report have come: which line may follow those so far.
 
 ghost use Rattle.std.specs.Prelude.{◌≡◌, ◌==◌, not, Some};
 ghost use Rattle.report_reader.specs.LightLine.{told_with, bulky_line};
@@ -13,7 +13,7 @@ use report_reader::{Bulk, LightLine, LightTold};
 pub struct Place {
     pub stamp: Stamp,
     pub node: u8,
-    /// The last line tells of the air.
+    /// The last line is about the air.
     pub on_air: bool,
     /// Each line of the event shows a store.
     pub only_shown: bool,
@@ -55,7 +55,7 @@ impl Place {
         }
     }
 
-    // In one event what happened on the air comes first, and of each of the two kinds no node comes behind a greater one.
+    // In one event what happened on the air comes first, and in each of the two parts the numbers of nodes don't fall.
     fn keeps_order(&self, line: &LightLine, bulk: &Bulk) -> bool
         ensures { result ≡ keeps_order self.now (bulky_line bulk.now line.now) }
     {
@@ -66,7 +66,7 @@ impl Place {
         }
     }
 
-    // An event is of one node, other than the first one and a last one whose lines all show stores.
+    // All lines of an event are of one node, but for event 0, and for a last event whose lines all show stores.
     fn keeps_node(&self, line: &LightLine, bulk: &Bulk) -> bool
         ensures { result ≡ keeps_node self.now (bulky_line bulk.now line.now) }
     {
@@ -75,7 +75,7 @@ impl Place {
             || (self.only_shown && is_shown(&line.told, bulk))
     }
 
-    /// Whether a line of the same event may stand behind those so far.
+    /// Whether a line of the same event may follow those so far.
     fn joins(&self, line: &LightLine, bulk: &Bulk) -> bool
         ensures { result ≡ joins self.now (bulky_line bulk.now line.now) }
     {
@@ -84,7 +84,7 @@ impl Place {
             && self.keeps_node(line, bulk)
     }
 
-    /// Whether a line may stand behind those so far.
+    /// Whether a line may follow those so far.
     fn admits(&self, line: &LightLine, bulk: &Bulk) -> bool
         ensures { result ≡ admits self.now (bulky_line bulk.now line.now) }
     {
@@ -98,7 +98,7 @@ impl Place {
     }
 }
 
-/// Whether a line may stand behind those so far; the first line may be any.
+/// Whether a line may follow those so far; any line may be the first.
 pub fn admits_next(place: &Option<Place>, line: &LightLine, bulk: &Bulk) -> bool
     ensures { result ≡ admits_next place.now (bulky_line bulk.now line.now) }
 {

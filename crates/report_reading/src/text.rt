@@ -23,9 +23,9 @@ use vm_desc::Description;
 
 /// Reads the text of a report.
 ///
-/// It answers the report whose text the bytes are, and refuses with `BadLine` exactly where they are the text of none, at the
-/// first line that doesn't fit after the lines before it. The text of a tidy report is read as that report (its numbers are in the
-/// ranges of their types, as every report's are: `report_is_in_range`).
+/// It gives the report whose text the bytes are, and refuses with `BadLine` exactly if they aren't the text of one, at the first
+/// line that doesn't fit after the lines before it. The text of a tidy report is read as that report (its numbers are in the ranges
+/// of their types, as every report's are: `report_is_in_range`).
 pub fn read(alloc: Global, desc: &Description, bytes: &[u8]) -> Result<Report, TextFault>
     requires { length bytes.now ≤ 4000000000 }
     ensures reads { ReadsReport desc.now bytes.now result }
@@ -53,7 +53,7 @@ fn read_lines(alloc: Global, desc: &Description, bytes: &[u8]) -> Result<Report,
     Err(parts.bad_line())
 }
 
-/// The bytes before the first LF and those behind it; None exactly where there is none.
+/// The bytes before the first LF and those after it; None exactly if there is none.
 fn first_line(bytes: &[u8]) -> Option<(&[u8], &[u8])>
     ensures { MatchOption result (IsOneLine bytes.now) (λ cut. IsOneLine cut.0.now × (bytes.now ≡ cut.0.now ++ 10 ∷ cut.1.now)) }
 {
@@ -64,7 +64,7 @@ fn first_line(bytes: &[u8]) -> Option<(&[u8], &[u8])>
     Some((&bytes[..length], bytes.split_at(length + 1).1))
 }
 
-/// How many bytes stand before the first LF, or before the end where there is none.
+/// How many bytes come before the first LF, or before the end if there is none.
 fn line_len(bytes: &[u8]) -> usize
     ensures value { result ≡ prefix_len (λ b. not (b == 10)) bytes.now }
     ensures within { result ≤ length bytes.now }
@@ -72,7 +72,7 @@ fn line_len(bytes: &[u8]) -> usize
     memchr(b'\n', bytes).unwrap_or(bytes.len())
 }
 
-/// Reads the last line, behind which nothing may stand.
+/// Reads the last line, after which nothing may come.
 fn read_last(alloc: Global, parts: Parts, line: &[u8], behind: &[u8]) -> Result<Report, TextFault>
     requires { parts.count ≤ 4000000000 }
     ensures { (d : Description) (ls : List Line) → HasRead d ls parts → TellsNone d line.now

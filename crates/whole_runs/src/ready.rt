@@ -70,7 +70,7 @@ impl<'a> ReadyProgram<'a> {
         }
     }
 
-    /// Whether the program has the image.
+    /// Whether this is the program's image.
     pub fn has_image(&self, image: &ImageRef) -> bool
         ensures { IsTrue result → self.now.program.now.image ≡ image.now }
     {
@@ -94,7 +94,7 @@ impl<'a> ReadyProgram<'a> {
     }
 
     /// The run of the program on a store, with a message, answers to its calls and a number of turns: of its source, if it has one,
-    /// and else of its code. `NoMemory` comes only where memory for the list of calls is refused.
+    /// or of its code. `NoMemory` comes only if memory for the list of calls is refused.
     pub fn run(
         &self,
         alloc: Global,

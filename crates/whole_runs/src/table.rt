@@ -4,7 +4,7 @@ use crate::ready::ReadyProgram;
 use mate_num::{HandlerId, NoMemory};
 use std::alloc::Global;
 
-/// What is installed for each of 8 handlers, made ready. Programs are large, so each stands on the heap by itself.
+/// The program that was installed last for each of 8 handlers, made ready. Programs are large, so each is on the heap by itself.
 #[derive(Drop)]
 pub struct ReadyPrograms<'a> {
     programs: Vec<Option<Box<ReadyProgram<'a>>>>,
@@ -26,7 +26,7 @@ impl<'a> ReadyPrograms<'a> {
         Ok(ReadyPrograms { programs })
     }
 
-    /// What is installed for the handler; None also for a number of no handler.
+    /// The program that was installed last for the handler; None if there is none, also for a handler of no such number.
     pub fn get(&self, handler: HandlerId) -> Option<&ReadyProgram<'a>>
         ensures { option_copied result ≡ ready_at (installed_programs self.now) handler }
     {
@@ -37,7 +37,7 @@ impl<'a> ReadyPrograms<'a> {
         }
     }
 
-    /// The program is installed in place of what was.
+    /// Puts the program in the place of the handler's one before.
     pub fn install(
         &mut self,
         alloc: Global,

@@ -6,8 +6,8 @@ use Rattle.audit_roll.specs.Views.{seat_in, roll_in}
 use Rattle.audit_programs.specs.Trials.{machine_for}
 use Rattle.audit_programs.proofs.LoopLemmas.{shown, all-fails}
 use Rattle.audit_replay.proofs.EndLemmas.{HasEnded, none-ends, ended-here, ended-other}
-use Rattle.audit_replay.proofs.ending.after_end.Goals as goal
-use Rattle.audit_replay.proofs.ending.after_end.Goals.{then-seat-number+in_ok-after+in-Some, else-seat-number}
+use Rattle.audit_replay.proofs.ending.run_end.Goals as goal
+use Rattle.audit_replay.proofs.ending.run_end.Goals.{then-seat-number+in_ok-after+in-Some, else-seat-number}
 
 pub returns-in_default : goal.returns-in_default
 returns-in_default c =
