@@ -1,6 +1,7 @@
 -- The first law that a log fails, and the verdict on a report, by tests.
 use Rattle.std.specs.Prelude.{ℕ, suc, ◌&&◌, nat_lt, Bool, true, List, [], ◌∷◌, Option, Some, None, if◌then◌else◌}
 use Rattle.std.specs.List.{list_any}
+use Rattle.std.specs.Option.{option_map_or}
 use Rattle.vm_desc.specs.Shapes.{shape_of}
 use Rattle.vm_desc.specs.declared.description.Description.{Description}
 use Rattle.mate_journal.specs.Journal.{JournalEntry, Posted, Dropped, Started, Asked, Answered, Ended, Installed, Reset, Seen, Void, TimedEntry}
@@ -25,8 +26,7 @@ use Rattle.audit_verdict.specs.declared.law.Verdict.TheVariants.{Serial, Refuted
 
 -- the version that is installed, 0 for none
 abbrev pub version_installed : Option HeldProgram → ℕ
-version_installed None = 0
-version_installed (Some p) = p.version
+version_installed installed = option_map_or (λ p. p.version) installed 0
 
 abbrev pub installs_right : List Program → Roll → JournalEntry → Bool
 installs_right ps x (Installed p) = list_any (is_held_as p) ps && nat_lt (version_installed (x.installed p.handler)) p.version

@@ -4,7 +4,7 @@ use Rattle.mate_num.specs.declared.id.ContextId.{ContextId}
 use Rattle.mate_num.specs.declared.id.HandlerId.{HandlerId}
 use Rattle.mate_num.specs.declared.store.Store.{Store}
 use Rattle.mate_journal.specs.Grants.{IsStart}
-use Rattle.mate_journal.specs.Journal.{JournalEntry, Posted, Dropped, Started, Asked, Answered, Ended, Installed, Reset, Seen, Void, NodeState, answers_of}
+use Rattle.mate_journal.specs.Journal.{JournalEntry, Posted, Dropped, Answered, Installed, Seen, NodeState, answers_of}
 use Rattle.mate_journal.specs.Machine.{Machine, HeldProgram}
 use Rattle.mate_journal.specs.Pace.{Pace}
 use Rattle.mate_journal.specs.Turns.{entry_at, mark_of}
@@ -34,14 +34,7 @@ pub record InstallsThis (x : HeldProgram) (Rest : List JournalEntry → Type 0) 
 abbrev pub IsEventFor : HandlerId → JournalEntry → Type 0
 IsEventFor h (Posted n handler context payload) = handler ≡ h
 IsEventFor h (Dropped handler cause) = handler ≡ h
-IsEventFor h (Started n) = ⊥
-IsEventFor h (Asked n f args) = ⊥
-IsEventFor h (Answered n value) = ⊥
-IsEventFor h (Ended n how) = ⊥
-IsEventFor h (Installed x) = ⊥
-IsEventFor h Reset = ⊥
-IsEventFor h (Seen store) = ⊥
-IsEventFor h (Void cause) = ⊥
+IsEventFor h _ = ⊥
 
 -- the first entry is an event for the handler
 pub record BeginsWithEvent (h : HandlerId) (told : List JournalEntry) : Type 0 where

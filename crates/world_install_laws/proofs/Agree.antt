@@ -207,8 +207,7 @@ moves w h n (event.Deliver link number packet) = moves-packet w h n.exchange pac
 
 -- the version of what is held, 0 where nothing is
 abbrev pub held-of : Option HeldProgram → ℕ
-held-of None = 0
-held-of (Some p) = p.version
+held-of installed = option_map_or (λ p. p.version) installed 0
 
 both-move : (d : Deed) (f : HandlerId → Option HeldProgram) (h old : ℕ) → held-of (f (record { 0 = h })) ≡ old → held-of (After d f (record { 0 = h })) ≡ HeldAfter d h old
 both-move Nothing f h old is = is
