@@ -36,6 +36,6 @@ returns-clause-read c =
     OnOk-map c.hear.result
     (λ heard.
     HasReadUpTo-next t place x y c.requires.within c.requires.read (λ may live. LiveAreInstalled-step (machine_for t) (roll_in l.images x.roll) (told_at t place) may live)
-    (heard ∙ ap (λ (r : Roll). rolled (roll_in l.images r) (journal_entry l e.entry)) c.make_ready.ensures.roll ∙ ap (λ (g : JournalEntry). rolled (roll_in l.images x.roll) g) told) c.in_ok-make_ready.ensures.kept
+    (heard ∙ ap (λ (r : Roll). rolled (roll_in l.images r) (journal_entry l e.entry)) c.make_ready.ensures.roll ∙ ap (λ (g : JournalEntry). rolled (roll_in l.images x.roll) g) told) (record { places = c.in_ok-make_ready.ensures.kept.places; kept = c.in_ok-make_ready.ensures.kept.kept })
     (subst (λ (g : JournalEntry). AreReady t.desc.now (rolled (roll_in l.images x.roll) g).installed (installed_programs y.ready)) told c.in_ok-make_ready.ensures.ready))
     (c.hear.ensures l)
