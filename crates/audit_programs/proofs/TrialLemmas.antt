@@ -1,9 +1,9 @@
 -- A journal that is read entry by entry, with its programs made ready.
-use Rattle.std.proofs.Common.{◌≡◌, ◌<◌, ◌≤◌, ℕ, zero, suc, ◌+◌, Bool, true, List, [], ◌∷◌, length, map, drop, drop-cons, replicate, refl, sym, ◌∙◌, ap, subst, inl, inr, Option, Some, None, arith}
-use Rattle.std.specs.Prelude.{slice_set, slice_index_or, IsSomeAnd, if◌then◌else◌}
+use Rattle.std.proofs.Common.{◌≡◌, ◌<◌, ◌≤◌, ℕ, zero, suc, ◌+◌, Bool, true, List, [], ◌∷◌, length, map, drop, drop-cons, replicate, refl, sym, ◌∙◌, ap, subst, inl, inr, Option, Some, None, Result, Ok, Err, arith}
+use Rattle.std.specs.Prelude.{slice_set, slice_index_or, IfSome, IsSomeAnd, OnOk, if◌then◌else◌}
 use Rattle.std.proofs.lemmas.Bool.{and_parts}
 use Rattle.std.proofs.lemmas.Bool.Decides.{eqb_tells}
-use Rattle.std.proofs.lemmas.List.{get_or-map, get_or_default, get_or-set_same, get_or-set_other, length-map}
+use Rattle.std.proofs.lemmas.List.{get_or-map, get_or_default, get_or-set_same, get_or-set_other, set-get_or, length-map, length-set}
 use Rattle.mate_num.specs.declared.id.HandlerId.{HandlerId}
 use Rattle.mate_journal.specs.Journal.{Installed, TimedEntry, journal_of, journal_entry}
 use Rattle.mate_journal.specs.Log.{Log}
@@ -21,9 +21,11 @@ use Rattle.audit_finite.specs.Following.{stamps_rise, may_follow, follow_one_ano
 use Rattle.audit_rules.specs.Tests.{installs_right, images_right}
 use Rattle.audit_roll.specs.Views.{HasHandlerBelow, seat_in, roll_in}
 use Rattle.audit_roll.specs.declared.seat.Seat.{Seat}
+use Rattle.node_programs.specs.Sources.{held_as}
 use Rattle.whole_runs.specs.Ready.{IsReadyAs, installed_programs, ready_at}
 use Rattle.whole_runs.specs.declared.ready.ReadyProgram.{ReadyProgram}
-use Rattle.audit_programs.specs.Trials.{machine_for, events_from, no_entry, told_at, IsTried, HasReadUpTo, IsSeatReady, AreReady}
+use Rattle.audit_programs.specs.Trials.{machine_for, events_from, no_entry, told_at, IsTried, HasReadUpTo, HasKept, IsSeatReady, AreReady, AreKept, MakesReady}
+use Rattle.audit_programs.proofs.ReadyLemmas.{IsReadyAs-image}
 use Rattle.audit_programs.specs.declared.ready_roll.ReadyRoll.{ReadyRoll}
 use Rattle.audit_programs.specs.declared.trial.Trial.{Trial}
 
@@ -89,20 +91,82 @@ AreReady-kept d l x e programs other before h p is = before h p (sym (installed-
 none-ready : (d : Description) (programs : List (Option ReadyProgram)) → AreReady d nobody.installed programs
 none-ready d programs h p is = cc
 
-pub HasReadUpTo-begins : (t : Trial) (x : ReadyRoll) → IsTried t → LiveAreInstalled nobody → roll_in t.log.now.images x.roll ≡ nobody → installed_programs x.ready ≡ replicate 8 None → HasReadUpTo t 0 x
-HasReadUpTo-begins t x tried nobody_installed is places = record {
+abbrev no_program : Option ReadyProgram
+no_program = None
+
+none-at : (n k : ℕ) → slice_index_or (replicate n no_program) k None ≡ None
+none-at zero k = refl
+none-at (suc n) zero = refl
+none-at (suc n) (suc k) = none-at n k
+
+-- nothing was made ready yet
+pub HasKept-none : (d : Description) (x : ReadyRoll) → installed_programs x.ready ≡ replicate 8 None → HasKept d x
+HasKept-none d x is = record {
+  places = ap (λ (ps : List (Option ReadyProgram)). length ps) is;
+  kept = λ h. subst (λ (o : Option ReadyProgram). IfSome o (λ r. IsReadyAs d (held_as r.program.now) r))
+      (sym (ap (λ (ps : List (Option ReadyProgram)). ready_at ps h) is ∙ none-at 8 h.0)) tt;
+}
+
+pub AreKept-made : (d : Description) (p : HeldProgram) (before after : List (Option ReadyProgram)) → p.handler.0 < length before → AreKept d before → MakesReady d p before after → AreKept d after
+AreKept-made d p before after below kept makes h = elim (eqb_tells h.0 p.handler.0) [
+  | inl t ↦ (let found : ready_at after h ≡ Some makes.made =
+      ap (λ (ps : List (Option ReadyProgram)). slice_index_or ps h.0 None) makes.after_is
+      ∙ ap (λ (k : ℕ). slice_index_or (slice_set before p.handler.0 (Some makes.made)) k None) t.1 ∙ get_or-set_same before p.handler.0 (Some makes.made) None below in
+      subst (λ (o : Option ReadyProgram). IfSome o (λ r. IsReadyAs d (held_as r.program.now) r)) (sym found) makes.own)
+  | inr u ↦ (let found : ready_at after h ≡ ready_at before h =
+      ap (λ (ps : List (Option ReadyProgram)). slice_index_or ps h.0 None) makes.after_is
+      ∙ get_or-set_other before p.handler.0 h.0 (Some makes.made) None u.1 in
+      subst (λ (o : Option ReadyProgram). IfSome o (λ r. IsReadyAs d (held_as r.program.now) r)) (sym found) (kept h))
+]
+
+-- what was made ready last for the handler of a held program has its image
+pub MakesReady-again : (d : Description) (p : HeldProgram) (programs : List (Option ReadyProgram)) → AreKept d programs
+    → IsSomeAnd (ready_at programs p.handler) (λ r. r.program.now.image ≡ p.image) → MakesReady d p programs programs
+MakesReady-again d p programs kept same = by (ready_at programs p.handler) refl where
+  by : (o : Option ReadyProgram) → ready_at programs p.handler ≡ o → MakesReady d p programs programs
+  by None is = absurd (subst (λ (o : Option ReadyProgram). IsSomeAnd o (λ r. r.program.now.image ≡ p.image)) is same)
+  by (Some made) is =
+      let own : IsReadyAs d (held_as made.program.now) made = subst (λ (o : Option ReadyProgram). IfSome o (λ r. IsReadyAs d (held_as r.program.now) r)) is (kept p.handler) in
+      let image : made.program.now.image ≡ p.image = subst (λ (o : Option ReadyProgram). IsSomeAnd o (λ r. r.program.now.image ≡ p.image)) is same in
+      record {
+        made = made;
+        ready = IsReadyAs-image d (held_as made.program.now) p made image own;
+        own = own;
+        after_is = sym (ap (λ (o : Option ReadyProgram). slice_set programs p.handler.0 o) (sym is) ∙ set-get_or programs p.handler.0 None);
+      }
+
+pub HasKept-made : (d : Description) (p : HeldProgram) (x y : ReadyRoll) → p.handler.0 < 8 → HasKept d x → MakesReady d p (installed_programs x.ready) (installed_programs y.ready) → HasKept d y
+HasKept-made d p x y below kept makes =
+    let places = kept.places in
+    record {
+      places = ap (λ (ps : List (Option ReadyProgram)). length ps) makes.after_is ∙ length-set (installed_programs x.ready) p.handler.0 (Some makes.made) ∙ places;
+      kept = AreKept-made d p (installed_programs x.ready) (installed_programs y.ready) (omega (arith, below, places)) kept.kept makes;
+    }
+
+pub AreReady-made : (d : Description) (x : told.Roll) (p : HeldProgram) (before after : List (Option ReadyProgram)) → p.handler.0 < length before → AreReady d x.installed before → MakesReady d p before after
+    → AreReady d (rolled x (Installed p)).installed after
+AreReady-made d x p before after below ready makes =
+    subst (λ (ps : List (Option ReadyProgram)). AreReady d (rolled x (Installed p)).installed ps) (sym makes.after_is)
+    (AreReady-installed d x p before makes.made below makes.ready ready)
+
+pub OnOk-map : {A E P Q : Type 0} (r : Result A E) → (P → Q) → OnOk r P → OnOk r Q
+OnOk-map (Ok a) f p = f p
+OnOk-map (Err e) f p = tt
+
+pub HasReadUpTo-begins : (t : Trial) (x : ReadyRoll) → IsTried t → LiveAreInstalled nobody → roll_in t.log.now.images x.roll ≡ nobody → HasKept t.desc.now x → HasReadUpTo t 0 x
+HasReadUpTo-begins t x tried nobody_installed is kept = record {
   follow = subst (λ (r : told.Roll). follow_one_another (machine_for t) r (events_from t 0) ≡ true) (sym is)
       (and_parts (stamps_rise (journal_of t.log.now)) (follow_one_another (machine_for t) nobody (journal_of t.log.now)) tried.follow).1;
   images = subst (λ (r : told.Roll). images_right t.programs.now r (events_from t 0) ≡ true) (sym is) tried.images;
   installed = subst LiveAreInstalled (sym is) nobody_installed;
-  places = ap (λ (ps : List (Option ReadyProgram)). length ps) places;
+  kept = kept;
   ready = subst (λ (r : told.Roll). AreReady t.desc.now r.installed (installed_programs x.ready)) (sym is) (none-ready t.desc.now (installed_programs x.ready));
 }
 
 pub HasReadUpTo-next : (t : Trial) (place : ℕ) (x y : ReadyRoll) → place < length t.log.now.entries → HasReadUpTo t place x → (may_follow (machine_for t) (roll_in t.log.now.images x.roll) (told_at t place) ≡ true → LiveAreInstalled (roll_in t.log.now.images x.roll) → LiveAreInstalled (rolled (roll_in t.log.now.images x.roll) (told_at t place)))
-    → roll_in t.log.now.images y.roll ≡ rolled (roll_in t.log.now.images x.roll) (told_at t place) → length (installed_programs y.ready) ≡ 8 → AreReady t.desc.now (rolled (roll_in t.log.now.images x.roll) (told_at t place)).installed (installed_programs y.ready)
+    → roll_in t.log.now.images y.roll ≡ rolled (roll_in t.log.now.images x.roll) (told_at t place) → HasKept t.desc.now y → AreReady t.desc.now (rolled (roll_in t.log.now.images x.roll) (told_at t place)).installed (installed_programs y.ready)
     → HasReadUpTo t (place + 1) y
-HasReadUpTo-next t place x y within read goes_on is places ready =
+HasReadUpTo-next t place x y within read goes_on is kept ready =
     let images = t.log.now.images in
     let follow = follow-parts t place (roll_in images x.roll) within read.follow in
     let right = images-parts t place (roll_in images x.roll) within read.images in
@@ -110,7 +174,7 @@ HasReadUpTo-next t place x y within read goes_on is places ready =
       follow = subst (λ (r : told.Roll). follow_one_another (machine_for t) r (events_from t (place + 1)) ≡ true) (sym is) follow.1;
       images = subst (λ (r : told.Roll). images_right t.programs.now r (events_from t (place + 1)) ≡ true) (sym is) right.1;
       installed = subst LiveAreInstalled (sym is) (goes_on follow.0 read.installed);
-      places = places;
+      kept = kept;
       ready = subst (λ (r : told.Roll). AreReady t.desc.now r.installed (installed_programs y.ready)) (sym is) ready;
     }
 

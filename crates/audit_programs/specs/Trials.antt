@@ -1,5 +1,5 @@
 -- What a journal is tried against, and how far it was read.
-use Rattle.std.specs.Prelude.{◌≡◌, ◌≤◌, ℕ, true, List, length, map, drop, Option, Some, IsSomeAnd, slice_index_or}
+use Rattle.std.specs.Prelude.{◌≡◌, ◌≤◌, ℕ, true, List, length, map, drop, Option, Some, IfSome, IsSomeAnd, slice_index_or, slice_set}
 use Rattle.mate_num.specs.declared.id.HandlerId.{HandlerId}
 use Rattle.mate_journal.specs.Journal.{JournalEntry, TimedEntry, journal_of, journal_entry}
 use Rattle.mate_journal.specs.Machine.{Machine, HeldProgram}
@@ -8,6 +8,7 @@ use Rattle.mate_journal.specs.declared.entry.Entry.TheVariants as entry
 use Rattle.mate_journal.specs.declared.entry.Stamped.{Stamped}
 use Rattle.journal_laws.specs.Growth.{event_of}
 use Rattle.node_programs.specs.Right.{AreRightPrograms}
+use Rattle.node_programs.specs.Sources.{held_as}
 use Rattle.audit_finite.specs.Roll.{LiveAreInstalled, nobody}
 use Rattle.audit_finite.specs.Following.{entries_follow, follow_one_another}
 use Rattle.audit_rules.specs.Laws.{machine_by}
@@ -49,12 +50,28 @@ pub record IsTried (t : Trial) : Type 0 where
 abbrev pub AreReady : Description → (HandlerId → Option HeldProgram) → List (Option ReadyProgram) → Type 0
 AreReady d installed programs = (h : HandlerId) (p : HeldProgram) → installed h ≡ Some p → IsSomeAnd (ready_at programs h) (IsReadyAs d p)
 
+-- each program that was made ready is so for itself, whatever journal of the machine it was made for
+abbrev pub AreKept : Description → List (Option ReadyProgram) → Type 0
+AreKept d programs = (h : HandlerId) → IfSome (ready_at programs h) (λ r. IsReadyAs d (held_as r.program.now) r)
+
+-- there is a place for each handler, and what was made ready is kept
+pub record HasKept (d : Description) (x : ReadyRoll) : Type 0 where
+  pub places : length (installed_programs x.ready) ≡ 8
+  pub kept : AreKept d (installed_programs x.ready)
+
+-- one more held program was made ready
+pub record MakesReady (d : Description) (p : HeldProgram) (before after : List (Option ReadyProgram)) : Type 0 where
+  pub made : ReadyProgram
+  pub ready : IsReadyAs d p made
+  pub own : IsReadyAs d (held_as made.program.now) made
+  pub after_is : after ≡ slice_set before p.handler.0 (Some made)
+
 -- the roll is that of the entries before a place, with the program of each handler made ready
 pub record HasReadUpTo (t : Trial) (place : ℕ) (x : ReadyRoll) : Type 0 where
   pub follow : follow_one_another (machine_for t) (roll_in t.log.now.images x.roll) (events_from t place) ≡ true
   pub images : images_right t.programs.now (roll_in t.log.now.images x.roll) (events_from t place) ≡ true
   pub installed : LiveAreInstalled (roll_in t.log.now.images x.roll)
-  pub places : length (installed_programs x.ready) ≡ 8
+  pub kept : HasKept t.desc.now x
   pub ready : AreReady t.desc.now (roll_in t.log.now.images x.roll).installed (installed_programs x.ready)
 
 -- the program of a live invocation is ready

@@ -59,9 +59,10 @@ pub struct ReadyRoll<'a> {
 }
 
 impl<'a> ReadyRoll<'a> {
-    ghost use Rattle.std.specs.Prelude.{◌≡◌, ◌+◌, ◌<◌, true, length, IfOk, IsTrue, OnOk};
+    ghost use Rattle.std.specs.Prelude.{◌≡◌, ◌+◌, ◌<◌, true, length, slice_index_or, IfOk, IsSomeAnd, IsTrue, OnOk};
+    ghost use Rattle.vm_desc.specs.declared.description.Description.{Description as Given};
     ghost use Rattle.mate_num.specs.Locks.{is_resource};
-    ghost use Rattle.mate_journal.specs.Journal.{journal_entry};
+    ghost use Rattle.mate_journal.specs.Journal.{journal_entry, no_image};
     ghost use Rattle.mate_journal.specs.Tidy.{IsEntryInRange};
     ghost use Rattle.journal_laws.specs.Growth.{IsNamedBelow};
     ghost use Rattle.audit_finite.specs.Roll.{nobody, rolled};
@@ -69,16 +70,13 @@ impl<'a> ReadyRoll<'a> {
     ghost use Rattle.audit_finite.specs.Shown.{HasLengthsOf};
     ghost use Rattle.audit_rules.specs.Tests.{conflict_of, installs_right};
     ghost use Rattle.audit_roll.specs.Views.{seat_in, roll_in};
-    ghost use Rattle.whole_runs.specs.Ready.{IsReadyAs, installed_programs};
-    ghost use Rattle.audit_programs.specs.Trials.{IsTried, HasReadUpTo, IsSeatReady, AreReady, machine_for, told_at};
+    ghost use Rattle.whole_runs.specs.Ready.{IsReadyAs, installed_programs, ready_at};
+    ghost use Rattle.audit_programs.specs.Trials.{IsTried, HasReadUpTo, IsSeatReady, AreReady, AreKept, MakesReady, HasKept, machine_for, told_at};
 
-    /// Before the first entry.
-    pub fn new(alloc: Global, trial: &Trial<'a>) -> Result<ReadyRoll<'a>, NoMemory>
-        requires { IsTried trial.now }
-        ensures read { IfOk result (HasReadUpTo trial.now 0) }
-        ensures nobody { IfOk result (λ x. roll_in trial.now.log.now.images x.roll ≡ nobody) }
+    /// Before the first journal.
+    pub fn new(alloc: Global) -> Result<ReadyRoll<'a>, NoMemory>
+        ensures { (d : Given) → IfOk result (HasKept d) }
     {
-        let _trial = trial;
         let roll = Roll::nobody(alloc);
         let ready = ReadyPrograms::new(alloc)?;
         Ok(ReadyRoll {
@@ -86,6 +84,17 @@ impl<'a> ReadyRoll<'a> {
             ready,
             last: 0,
         })
+    }
+
+    /// Begins a journal, before its first entry. Programs that were made ready for the journals before stay ready.
+    pub fn begin(&mut self, alloc: Global, trial: &Trial<'a>)
+        requires tried { IsTried trial.now }
+        requires kept { HasKept trial.now.desc.now self.old }
+        ensures read { HasReadUpTo trial.now 0 self.new }
+        ensures nobody { roll_in trial.now.log.now.images self.new.roll ≡ nobody }
+    {
+        let _trial = trial;
+        self.roll = Roll::nobody(alloc);
     }
 
     /// Reads the entry at this place.
@@ -100,6 +109,47 @@ impl<'a> ReadyRoll<'a> {
         let entry = &trial.log.entries()[place].entry;
         self.make_ready(alloc, trial, place, entry)?;
         self.roll.hear(alloc, entry)
+    }
+
+    /// Whether the program that was made ready last for the handler has the image at this position in the log.
+    fn is_ready(&self, trial: &Trial, handler: HandlerId, image: u32) -> bool
+        requires { image < length trial.now.log.now.images }
+        ensures { IsTrue result → IsSomeAnd (ready_at (installed_programs self.now.ready) handler)
+            (λ r. r.program.now.image ≡ slice_index_or trial.now.log.now.images image no_image) }
+    {
+        let Some(bytes) = trial.log.images().get(image as usize) else {
+            unreachable!()
+        };
+        match self.ready.get(handler) {
+            Some(program) => program.has_image(&bytes),
+            None => false,
+        }
+    }
+
+    /// Makes ready what an install names, unless the program that was made ready last for the handler has the same image.
+    fn install(
+        &mut self,
+        alloc: Global,
+        trial: &Trial<'a>,
+        handler: HandlerId,
+        version: u32,
+        image: u32,
+    ) -> Result<(), NoMemory>
+        requires known { image < length trial.now.log.now.images }
+        requires within { handler.0 < length (installed_programs self.old.ready) }
+        requires right { AreRightPrograms trial.now.desc.now trial.now.programs.now }
+        requires given { IsOneOf trial.now.programs.now (named_program trial.now.log.now handler version image) }
+        requires kept { AreKept trial.now.desc.now (installed_programs self.old.ready) }
+        ensures roll { self.new.roll ≡ self.old.roll }
+        ensures made { OnOk result (MakesReady trial.now.desc.now (named_program trial.now.log.now handler version image)
+            (installed_programs self.old.ready) (installed_programs self.new.ready)) }
+    {
+        if self.is_ready(trial, handler, image) {
+            return Ok(());
+        }
+        let program = program_named(trial, &mut self.last, handler, version, image);
+        self.ready
+            .install(alloc, handler, ReadyProgram::of(trial.desc, program))
     }
 
     /// Makes ready what the entry installs, if it installs something.
@@ -118,7 +168,7 @@ impl<'a> ReadyRoll<'a> {
         requires given { let l = trial.now.log.now in
             installs_right trial.now.programs.now (roll_in l.images self.old.roll) (journal_entry l entry.now) ≡ true }
         ensures roll { self.new.roll ≡ self.old.roll }
-        ensures places { OnOk result (length (installed_programs self.new.ready) ≡ 8) }
+        ensures kept { OnOk result (HasKept trial.now.desc.now self.new) }
         ensures ready { let l = trial.now.log.now in
             OnOk result (AreReady trial.now.desc.now (rolled (roll_in l.images self.old.roll) (journal_entry l entry.now)).installed
             (installed_programs self.new.ready)) }
@@ -129,14 +179,9 @@ impl<'a> ReadyRoll<'a> {
                 handler,
                 version,
                 image,
-            } => {
-                let program = program_named(trial, &mut self.last, *handler, *version, *image);
-                self.ready
-                    .install(alloc, *handler, ReadyProgram::of(trial.desc, program))?;
-            }
-            _ => {}
+            } => self.install(alloc, trial, *handler, *version, *image),
+            _ => Ok(()),
         }
-        Ok(())
     }
 
     /// The program of a live invocation.

@@ -1,15 +1,16 @@
 //! The audit of a report.
 
-ghost use Rattle.std.specs.Prelude.{◌≡◌, IfOk};
+ghost use Rattle.std.specs.Prelude.{◌≡◌, IfOk, OnOk};
 ghost use Rattle.mate_journal.specs.Tidy.{IsTidyLog};
 ghost use Rattle.node_programs.specs.Right.{AreRightPrograms};
 ghost use Rattle.report_text.specs.Tidy.{IsTidy};
+ghost use Rattle.audit_programs.specs.Trials.{HasKept};
 ghost use Rattle.audit_rules.specs.Tests.{failed_by};
 ghost use Rattle.audit_rules.specs.Verdicts.{IsVerdict};
 
 use crate::images::images_right;
 use crate::runs::first_failed_of;
-use audit_programs::Trial;
+use audit_programs::{ReadyRoll, Trial};
 use audit_roll::entries_follow;
 use audit_rules::{Law, Verdict};
 use mate_journal::{NodeLog, Programs, Report};
@@ -17,16 +18,19 @@ use mate_num::NoMemory;
 use std::alloc::Global;
 use vm_desc::Description;
 
-/// The first law that the log of a node fails, by the tests in their order.
-fn first_failed(
+/// The first law that the log of a node fails, by the tests in their order. Programs that were made ready for other nodes stay ready.
+fn first_failed<'a>(
     alloc: Global,
-    desc: &Description,
-    programs: &Programs,
-    log: &NodeLog,
+    desc: &'a Description,
+    programs: &'a Programs,
+    log: &'a NodeLog,
+    roll: &mut ReadyRoll<'a>,
 ) -> Result<Option<Law>, NoMemory>
     requires tidy { IsTidyLog desc.now log.now }
     requires right { AreRightPrograms desc.now programs.now }
-    ensures { IfOk result (λ law. law ≡ failed_by desc.now programs.now log.now) }
+    requires kept { HasKept desc.now roll.old }
+    ensures law { IfOk result (λ law. law ≡ failed_by desc.now programs.now log.now) }
+    ensures kept { OnOk result (HasKept desc.now roll.new) }
 {
     let _handlers = desc.handlers.len();
     let follow = entries_follow(alloc, desc, log)?;
@@ -42,7 +46,7 @@ fn first_failed(
         programs,
         log,
     };
-    first_failed_of(alloc, &trial)
+    first_failed_of(alloc, &trial, roll)
 }
 
 /// Whether a report shows serial behaviour of the programs: `Serial` exactly if each node's journal keeps each law, and otherwise the
@@ -59,8 +63,9 @@ pub fn audit(
     ensures { IfOk result (λ v. IsVerdict desc.now programs.now report.now v) }
 {
     let nodes = report.nodes();
+    let mut roll = ReadyRoll::new(alloc)?;
     for node in 0..nodes.len() {
-        let failed = first_failed(alloc, desc, programs, &nodes[node])?;
+        let failed = first_failed(alloc, desc, programs, &nodes[node], &mut roll)?;
         if let Some(law) = failed {
             return Ok(Verdict::Refuted {
                 node: node as u8,

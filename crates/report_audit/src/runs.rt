@@ -1,13 +1,13 @@
 //! The laws of runs along a journal: serial replay, stores seen and the grant rule.
 
-ghost use Rattle.std.specs.Prelude.{◌≡◌, ◌&&◌, length, Some, None, IfOk, if◌then◌else◌};
+ghost use Rattle.std.specs.Prelude.{◌≡◌, ◌&&◌, length, Some, None, IfOk, OnOk, if◌then◌else◌};
 ghost use Rattle.std.specs.List.{All};
 ghost use Rattle.mate_journal.specs.Journal.{journal_entry};
 ghost use Rattle.journal_laws.specs.Growth.{IsNamedBelow};
 ghost use Rattle.audit_finite.specs.Granting as grant;
 ghost use Rattle.audit_finite.specs.Shown as seen;
 ghost use Rattle.audit_finite.specs.Shown.{HasLengthsOf};
-ghost use Rattle.audit_programs.specs.Trials.{IsTried, HasReadUpTo, IsSeatReady, machine_for};
+ghost use Rattle.audit_programs.specs.Trials.{IsTried, HasReadUpTo, HasKept, IsSeatReady, machine_for};
 ghost use Rattle.audit_roll.specs.Views.{roll_in};
 ghost use Rattle.audit_verdict.specs.declared.law.Law.TheVariants as law;
 ghost use Rattle.audit_rules.specs.Tests.{conflict_of, failed_by};
@@ -62,11 +62,17 @@ fn still_granted(
 
 /// The first law that a log fails whose entries follow one another and whose installs are of the programs. The journal is read once:
 /// if serial replay fails, no later law matters; whether the others hold so far is kept to the end.
-pub(crate) fn first_failed_of(alloc: Global, trial: &Trial) -> Result<Option<Law>, NoMemory>
-    requires { IsTried trial.now }
-    ensures { IfOk result (λ law. law ≡ failed_by trial.now.desc.now trial.now.programs.now trial.now.log.now) }
+pub(crate) fn first_failed_of<'a>(
+    alloc: Global,
+    trial: &Trial<'a>,
+    roll: &mut ReadyRoll<'a>,
+) -> Result<Option<Law>, NoMemory>
+    requires tried { IsTried trial.now }
+    requires kept { HasKept trial.now.desc.now roll.old }
+    ensures law { IfOk result (λ law. law ≡ failed_by trial.now.desc.now trial.now.programs.now trial.now.log.now) }
+    ensures kept { OnOk result (HasKept trial.now.desc.now roll.new) }
 {
-    let mut roll = ReadyRoll::new(alloc, trial)?;
+    roll.begin(alloc, trial);
     let mut store = zero_store(trial.desc);
     let mut last = 0;
     let mut shown = true;
@@ -74,18 +80,18 @@ pub(crate) fn first_failed_of(alloc: Global, trial: &Trial) -> Result<Option<Law
     let entries = trial.log.entries();
     for place in 0..entries.len() {
         let entry = &entries[place].entry;
-        shown = still_shown(alloc, trial, &roll, &store, shown, entry)?;
-        granted = still_granted(trial, &roll, place, last, granted, entry);
-        if !run_at(alloc, trial, &roll, place, &mut store, entry)? {
+        shown = still_shown(alloc, trial, roll, &store, shown, entry)?;
+        granted = still_granted(trial, roll, place, last, granted, entry);
+        if !run_at(alloc, trial, roll, place, &mut store, entry)? {
             return Ok(Some(Law::D8));
         }
         roll.hear(alloc, trial, place)?;
         last = start_of(entry);
     }
-    if !all_so_far(alloc, trial, &roll, &store)? {
+    if !all_so_far(alloc, trial, roll, &store)? {
         return Ok(Some(Law::D8));
     }
-    let in_order = granted && all_held_back(trial, &roll);
+    let in_order = granted && all_held_back(trial, roll);
     Ok(law_behind(shown, in_order))
 }
 

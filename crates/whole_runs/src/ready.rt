@@ -10,7 +10,7 @@ use capsule_codec::decode;
 use code_verifier::{Verified, verify};
 use lock_inference::locks;
 use mate_code::Table;
-use mate_journal::Program;
+use mate_journal::{ImageRef, Program};
 use mate_num::{LockSet, NoMemory, Outcome, Payload, Resource, Store};
 use std::alloc::Global;
 use ts_play::play;
@@ -59,7 +59,8 @@ impl<'a> ReadyProgram<'a> {
     /// The right program, made ready.
     pub fn of(desc: &Description, program: &'a Program) -> ReadyProgram<'a>
         requires { IsRightProgram desc.now program.now }
-        ensures { IsReadyAs desc.now (held_as program.now) result }
+        ensures ready { IsReadyAs desc.now (held_as program.now) result }
+        ensures program { result.program.now ≡ program.now }
     {
         let code = code_of(desc, program);
         ReadyProgram {
@@ -67,6 +68,13 @@ impl<'a> ReadyProgram<'a> {
             locks: locks(desc, &code),
             code,
         }
+    }
+
+    /// Whether this is the program's image.
+    pub fn has_image(&self, image: &ImageRef) -> bool
+        ensures { IsTrue result → self.now.program.now.image ≡ image.now }
+    {
+        self.program.image.as_slice() == image.as_slice()
     }
 
     /// Whether one of the two writes what the other reads or writes.

@@ -11,8 +11,8 @@ use Rattle.node_programs.specs.Sources.{meaning_by}
 use Rattle.report_audit.proofs.AuditLemmas.{at-follow, at-images}
 use Rattle.report_audit.proofs.auditing.first_failed.Goals as goal
 
-pub returns-then-not-follow : goal.returns-then-not-follow
-returns-then-not-follow c =
+pub returns-then-not-follow-clause-law : goal.returns-then-not-follow-clause-law
+returns-then-not-follow-clause-law c =
     let d = c.args.desc.now in
     let ps = c.args.programs.now in
     let l = c.args.log.now in
@@ -25,8 +25,8 @@ returns-then-not-follow c =
     let G : Bool = grants_in_order (conflict_of d) nobody 0 es in
     at-follow F I S H G (sym c.if-not-follow.true ∙ c.in_ok-follow.ensures (meaning_by d ps))
 
-pub returns-then-not-images : goal.returns-then-not-images
-returns-then-not-images c =
+pub returns-then-not-images-clause-law : goal.returns-then-not-images-clause-law
+returns-then-not-images-clause-law c =
     let d = c.args.desc.now in
     let ps = c.args.programs.now in
     let l = c.args.log.now in
@@ -39,8 +39,8 @@ returns-then-not-images c =
     let G : Bool = grants_in_order (conflict_of d) nobody 0 es in
     at-images F I S H G (sym c.if-not-follow.false ∙ c.in_ok-follow.ensures (meaning_by d ps)) (sym c.if-not-images.true ∙ c.images_right-images.ensures)
 
-pub first_failed_of-requires : goal.first_failed_of-requires
-first_failed_of-requires c =
+pub first_failed_of-requires-clause-tried : goal.first_failed_of-requires-clause-tried
+first_failed_of-requires-clause-tried c =
     record {
       few = subst (λ (n : ℕ). n ≤ 8) c.len-handlers.ensures.value c.len-handlers.ensures.fits;
       tidy = c.requires.tidy;

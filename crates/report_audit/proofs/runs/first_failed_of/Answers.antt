@@ -25,7 +25,7 @@ still_shown-requires-clause-named c =
     let place = c.loop-place.place in
     let e : Stamped = slice_index_or c.entries-entries.result.now place c.index-entries-place.result in
     let below : place < length entries = subst (λ (es : List Stamped). place < length es) c.entries-entries.ensures c.loop-place-test.true in
-    named-below t place e c.requires below
+    named-below t place e c.requires.tried below
     (ap (λ (es : List Stamped). slice_index_or es place c.index-entries-place.result) c.entries-entries.ensures ∙ get_or_default entries place c.index-entries-place.result e below)
 
 pub loop-place-preserved : goal.loop-place-preserved

@@ -1,5 +1,5 @@
-use Rattle.std.proofs.Common.{◌≡◌, ◌∙◌, List, Result, Ok, Err, ap, subst}
-use Rattle.std.specs.Prelude.{OnOk, slice_index_or}
+use Rattle.std.proofs.Common.{◌≡◌, ◌∙◌, List, ap, subst}
+use Rattle.std.specs.Prelude.{slice_index_or}
 use Rattle.std.proofs.lemmas.List.{get_or_default}
 use Rattle.mate_journal.specs.Journal.{JournalEntry, journal_entry}
 use Rattle.mate_journal.specs.declared.entry.Stamped.{Stamped}
@@ -10,12 +10,8 @@ use Rattle.audit_roll.specs.declared.roll.Roll.{Roll}
 use Rattle.whole_runs.specs.Ready.{installed_programs}
 use Rattle.audit_programs.specs.Trials.{AreReady, machine_for, told_at}
 use Rattle.audit_programs.specs.declared.ready_roll.ReadyRoll.{ReadyRoll}
-use Rattle.audit_programs.proofs.TrialLemmas.{HasReadUpTo-next, entry-at, named-below}
+use Rattle.audit_programs.proofs.TrialLemmas.{HasReadUpTo-next, OnOk-map, entry-at, named-below}
 use Rattle.audit_programs.proofs.ready_roll.ReadyRoll.hear.Goals as goal
-
-OnOk-map : {A E P Q : Type 0} (r : Result A E) → (P → Q) → OnOk r P → OnOk r Q
-OnOk-map (Ok a) f p = f p
-OnOk-map (Err e) f p = tt
 
 pub make_ready-requires-clause-named : goal.make_ready-requires-clause-named
 make_ready-requires-clause-named c =
@@ -40,6 +36,6 @@ returns-clause-read c =
     OnOk-map c.hear.result
     (λ heard.
     HasReadUpTo-next t place x y c.requires.within c.requires.read (λ may live. LiveAreInstalled-step (machine_for t) (roll_in l.images x.roll) (told_at t place) may live)
-    (heard ∙ ap (λ (r : Roll). rolled (roll_in l.images r) (journal_entry l e.entry)) c.make_ready.ensures.roll ∙ ap (λ (g : JournalEntry). rolled (roll_in l.images x.roll) g) told) c.in_ok-make_ready.ensures.places
+    (heard ∙ ap (λ (r : Roll). rolled (roll_in l.images r) (journal_entry l e.entry)) c.make_ready.ensures.roll ∙ ap (λ (g : JournalEntry). rolled (roll_in l.images x.roll) g) told) (record { places = c.in_ok-make_ready.ensures.kept.places; kept = c.in_ok-make_ready.ensures.kept.kept })
     (subst (λ (g : JournalEntry). AreReady t.desc.now (rolled (roll_in l.images x.roll) g).installed (installed_programs y.ready)) told c.in_ok-make_ready.ensures.ready))
     (c.hear.ensures l)
