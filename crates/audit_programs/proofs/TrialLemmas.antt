@@ -24,7 +24,7 @@ use Rattle.audit_roll.specs.declared.seat.Seat.{Seat}
 use Rattle.node_programs.specs.Sources.{held_as}
 use Rattle.whole_runs.specs.Ready.{IsReadyAs, installed_programs, ready_at}
 use Rattle.whole_runs.specs.declared.ready.ReadyProgram.{ReadyProgram}
-use Rattle.audit_programs.specs.Trials.{machine_for, events_from, no_entry, told_at, IsTried, HasReadUpTo, HasKept, IsSeatReady, AreReady, AreKept, MakesReady}
+use Rattle.audit_programs.specs.Trials.{machine_for, events_from, no_entry, told_at, IsTried, HasReadUpTo, HasKept, IsSeatReady, AreReady, StayReady, MakesReady}
 use Rattle.audit_programs.proofs.ReadyLemmas.{IsReadyAs-image}
 use Rattle.audit_programs.specs.declared.ready_roll.ReadyRoll.{ReadyRoll}
 use Rattle.audit_programs.specs.declared.trial.Trial.{Trial}
@@ -107,8 +107,8 @@ HasKept-none d x is = record {
       (sym (ap (λ (ps : List (Option ReadyProgram)). ready_at ps h) is ∙ none-at 8 h.0)) tt;
 }
 
-pub AreKept-made : (d : Description) (p : HeldProgram) (before after : List (Option ReadyProgram)) → p.handler.0 < length before → AreKept d before → MakesReady d p before after → AreKept d after
-AreKept-made d p before after below kept makes h = elim (eqb_tells h.0 p.handler.0) [
+pub StayReady-made : (d : Description) (p : HeldProgram) (before after : List (Option ReadyProgram)) → p.handler.0 < length before → StayReady d before → MakesReady d p before after → StayReady d after
+StayReady-made d p before after below kept makes h = elim (eqb_tells h.0 p.handler.0) [
   | inl t ↦ (let found : ready_at after h ≡ Some makes.made =
       ap (λ (ps : List (Option ReadyProgram)). slice_index_or ps h.0 None) makes.after_is
       ∙ ap (λ (k : ℕ). slice_index_or (slice_set before p.handler.0 (Some makes.made)) k None) t.1 ∙ get_or-set_same before p.handler.0 (Some makes.made) None below in
@@ -120,7 +120,7 @@ AreKept-made d p before after below kept makes h = elim (eqb_tells h.0 p.handler
 ]
 
 -- what was made ready last for the handler of a held program has its image
-pub MakesReady-again : (d : Description) (p : HeldProgram) (programs : List (Option ReadyProgram)) → AreKept d programs
+pub MakesReady-again : (d : Description) (p : HeldProgram) (programs : List (Option ReadyProgram)) → StayReady d programs
     → IsSomeAnd (ready_at programs p.handler) (λ r. r.program.now.image ≡ p.image) → MakesReady d p programs programs
 MakesReady-again d p programs kept same = by (ready_at programs p.handler) refl where
   by : (o : Option ReadyProgram) → ready_at programs p.handler ≡ o → MakesReady d p programs programs
@@ -140,7 +140,7 @@ HasKept-made d p x y below kept makes =
     let places = kept.places in
     record {
       places = ap (λ (ps : List (Option ReadyProgram)). length ps) makes.after_is ∙ length-set (installed_programs x.ready) p.handler.0 (Some makes.made) ∙ places;
-      kept = AreKept-made d p (installed_programs x.ready) (installed_programs y.ready) (omega (arith, below, places)) kept.kept makes;
+      kept = StayReady-made d p (installed_programs x.ready) (installed_programs y.ready) (omega (arith, below, places)) kept.kept makes;
     }
 
 pub AreReady-made : (d : Description) (x : told.Roll) (p : HeldProgram) (before after : List (Option ReadyProgram)) → p.handler.0 < length before → AreReady d x.installed before → MakesReady d p before after

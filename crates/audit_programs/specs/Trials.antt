@@ -51,13 +51,13 @@ abbrev pub AreReady : Description → (HandlerId → Option HeldProgram) → Lis
 AreReady d installed programs = (h : HandlerId) (p : HeldProgram) → installed h ≡ Some p → IsSomeAnd (ready_at programs h) (IsReadyAs d p)
 
 -- each program that was made ready is so for itself, whatever journal of the machine it was made for
-abbrev pub AreKept : Description → List (Option ReadyProgram) → Type 0
-AreKept d programs = (h : HandlerId) → IfSome (ready_at programs h) (λ r. IsReadyAs d (held_as r.program.now) r)
+abbrev pub StayReady : Description → List (Option ReadyProgram) → Type 0
+StayReady d programs = (h : HandlerId) → IfSome (ready_at programs h) (λ r. IsReadyAs d (held_as r.program.now) r)
 
 -- there is a place for each handler, and what was made ready is kept
 pub record HasKept (d : Description) (x : ReadyRoll) : Type 0 where
   pub places : length (installed_programs x.ready) ≡ 8
-  pub kept : AreKept d (installed_programs x.ready)
+  pub kept : StayReady d (installed_programs x.ready)
 
 -- one more held program was made ready
 pub record MakesReady (d : Description) (p : HeldProgram) (before after : List (Option ReadyProgram)) : Type 0 where

@@ -71,7 +71,7 @@ impl<'a> ReadyRoll<'a> {
     ghost use Rattle.audit_rules.specs.Tests.{conflict_of, installs_right};
     ghost use Rattle.audit_roll.specs.Views.{seat_in, roll_in};
     ghost use Rattle.whole_runs.specs.Ready.{IsReadyAs, installed_programs, ready_at};
-    ghost use Rattle.audit_programs.specs.Trials.{IsTried, HasReadUpTo, IsSeatReady, AreReady, AreKept, MakesReady, HasKept, machine_for, told_at};
+    ghost use Rattle.audit_programs.specs.Trials.{IsTried, HasReadUpTo, IsSeatReady, AreReady, StayReady, MakesReady, HasKept, machine_for, told_at};
 
     /// Before the first journal.
     pub fn new(alloc: Global) -> Result<ReadyRoll<'a>, NoMemory>
@@ -139,7 +139,7 @@ impl<'a> ReadyRoll<'a> {
         requires within { handler.0 < length (installed_programs self.old.ready) }
         requires right { AreRightPrograms trial.now.desc.now trial.now.programs.now }
         requires given { IsOneOf trial.now.programs.now (named_program trial.now.log.now handler version image) }
-        requires kept { AreKept trial.now.desc.now (installed_programs self.old.ready) }
+        requires kept { StayReady trial.now.desc.now (installed_programs self.old.ready) }
         ensures roll { self.new.roll ≡ self.old.roll }
         ensures made { OnOk result (MakesReady trial.now.desc.now (named_program trial.now.log.now handler version image)
             (installed_programs self.old.ready) (installed_programs self.new.ready)) }
