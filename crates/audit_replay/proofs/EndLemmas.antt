@@ -82,6 +82,13 @@ ended-by m conflict x store how z o a c is a_is c_is =
     ∙ ap F (sym is)
     ∙ sym (ap (λ (b : Bool). b && c) a_is ∙ ap (λ (b : Bool). (same_end o.end how && same_calls o.calls z.invocation.calls) && b) c_is)
 
+-- its run doesn't end so, or not with its calls
+pub ended-not : (m : Machine) (conflict : ConflictTest) (x : told.Roll) (store : Store) (how : End) (z : told.Seat) (o : Outcome) (a : Bool) → o ≡ run_on m store z.invocation
+    → a ≡ (same_end o.end how && same_calls o.calls z.invocation.calls) → a ≡ false → ends_right m conflict x store z.number how z ≡ false
+ended-not m conflict x store how z o a is a_is fails =
+    let others = list_all (is_undisturbed m conflict store o.store z.number z.invocation) x.seats in
+    ended-by m conflict x store how z o a others is a_is refl ∙ ap (λ (b : Bool). b && others) fails
+
 pub ended-wrong : (m : Machine) (conflict : ConflictTest) (x : told.Roll) (store : Store) (how : End) (z : told.Seat) (a c : Bool) → ends_right m conflict x store z.number how z ≡ (a && c) → c ≡ false → ends_right m conflict x store z.number how z ≡ false
 ended-wrong m conflict x store how z a c is fails = is ∙ ap (λ (b : Bool). a && b) fails ∙ and-false a
 
@@ -92,10 +99,6 @@ ended-right m conflict x store how z a c is first second = is ∙ ap (λ (b : Bo
 abbrev pub EndsAs : Machine → ConflictTest → told.Roll → Store → End → told.Seat → Option Store → Type 0
 EndsAs m conflict x store how z found = MatchOption found (ends_right m conflict x store z.number how z ≡ false)
     (λ left. (ends_right m conflict x store z.number how z ≡ true) × (left ≡ (run_on m store z.invocation).store) × HasLengthsOf m left)
-
-pub none-ends : (m : Machine) (conflict : ConflictTest) (x : told.Roll) (store : Store) (n : ℕ) (how : End) (z : told.Seat) (found : Option Store) → EndsAs m conflict x store how z found → found ≡ None → z.number ≡ n → ends_right m conflict x store n how z ≡ false
-none-ends m conflict x store n how z found gives none same =
-    subst (λ (k : ℕ). ends_right m conflict x store k how z ≡ false) same (subst (λ (o : Option Store). EndsAs m conflict x store how z o) none gives)
 
 -- the first seats have ended rightly, and so much is left
 pub record HasEnded (m : Machine) (conflict : ConflictTest) (images : List (ArrayVec ℕ)) (roll : Roll) (store : Store) (n : ℕ) (how : End) (i : ℕ) (left : Option Store) : Type 0 where

@@ -1,6 +1,6 @@
 //! The end of an invocation: its run, and the runs of those that conflict with it.
 
-ghost use Rattle.std.specs.Prelude.{◌≡◌, ◌&&◌, true, false, unwrap_or, IfOk, MatchOption};
+ghost use Rattle.std.specs.Prelude.{◌≡◌, ◌&&◌, Some, unwrap_or, IfOk, IsTrue};
 ghost use Rattle.std.specs.List.{All, list_all};
 ghost use Rattle.audit_finite.specs.Rerun as told;
 ghost use Rattle.audit_finite.specs.Same.{same_calls as are_one_calls, same_end as are_one_end};
@@ -89,15 +89,26 @@ fn ends_so(outcome: &Outcome, how: &End, ended: &Seat) -> bool
     same_end(&outcome.end, how) && same_calls(outcome.calls.as_slice(), ended.calls.as_slice())
 }
 
-/// The store that the run of the invocation leaves where it ends so, if the run is right.
-fn end_of(
+/// Keeps the store, if there is none yet.
+fn keep_first(left: &mut Option<Store>, after: Store)
+    ensures { left.new ≡ Some (unwrap_or left.old after) }
+{
+    if left.is_none() {
+        *left = Some(after);
+    }
+}
+
+/// Whether the run of the invocation is right and ends in this way. If it is, and `left` is None, `left` gets the store that the run
+/// leaves.
+fn ends_right(
     alloc: Global,
     trial: &Trial,
     roll: &ReadyRoll,
     store: &Store,
     how: &End,
     ended: &Seat,
-) -> Result<Option<Store>, NoMemory>
+    left: &mut Option<Store>,
+) -> Result<bool, NoMemory>
     requires tried { IsTried trial.now }
     requires ended { IsSeatReady trial.now roll.now ended.now }
     requires ready { All (IsSeatReady trial.now roll.now) roll.now.roll.seats.items }
@@ -106,12 +117,12 @@ fn end_of(
         let m = machine_for trial.now in
         let test = told.ends_right m (conflict_of trial.now.desc.now) (roll_in images roll.now.roll) store.now ended.now.number how.now
         (seat_in images ended.now) in
-        IfOk result (λ found. MatchOption found (test ≡ false) (λ left. (test ≡ true)
-        × (left ≡ (told.run_on m store.now (seat_in images ended.now).invocation).store) × HasLengthsOf m left)) }
+        let after = (told.run_on m store.now (seat_in images ended.now).invocation).store in
+        IfOk result (λ right. (right ≡ test) × (IsTrue right → (left.new ≡ Some (unwrap_or left.old after)) × HasLengthsOf m after)) }
 {
     let outcome = roll.run(alloc, trial, ended, store)?;
     if !ends_so(&outcome, how, ended) {
-        return Ok(None);
+        return Ok(false);
     }
     let stores = Stores {
         before: store,
@@ -119,47 +130,41 @@ fn end_of(
     };
     let undisturbed = all_undisturbed(alloc, trial, roll, &stores, ended)?;
     if !undisturbed {
-        return Ok(None);
+        return Ok(false);
     }
-    Ok(Some(outcome.store))
+    keep_first(left, outcome.store);
+    Ok(true)
 }
 
-/// The serial store after the invocation of that number ended so, if its run is right.
-pub(crate) fn after_end(
+/// Whether the run of the invocation of this number is right and ends in this way. If it is, the store becomes the serial one after it.
+pub(crate) fn run_end(
     alloc: Global,
     trial: &Trial,
     roll: &ReadyRoll,
-    store: &Store,
+    store: &mut Store,
     number: u32,
     how: &End,
-) -> Result<Option<Store>, NoMemory>
+) -> Result<bool, NoMemory>
     requires tried { IsTried trial.now }
     requires ready { All (IsSeatReady trial.now roll.now) roll.now.roll.seats.items }
-    requires lengths { HasLengthsOf (machine_for trial.now) store.now }
+    requires lengths { HasLengthsOf (machine_for trial.now) store.old }
     ensures { let m = machine_for trial.now in
         let x = roll_in trial.now.log.now.images roll.now.roll in
-        let test = list_all (told.ends_right m (conflict_of trial.now.desc.now) x store.now number how.now) x.seats in
-        IfOk result (λ found. MatchOption found (test ≡ false) (λ left. (test ≡ true)
-        × (left ≡ told.store_left m store.now number x.seats) × HasLengthsOf m left)) }
+        let test = list_all (told.ends_right m (conflict_of trial.now.desc.now) x store.old number how.now) x.seats in
+        IfOk result (λ right. (right ≡ test)
+        × (IsTrue right → (store.new ≡ told.store_left m store.old number x.seats) × HasLengthsOf m store.new)) }
 {
     let mut left: Option<Store> = None;
     for seat in roll.roll.seats.as_slice() {
         if seat.number == number {
-            let Some(after) = end_of(alloc, trial, roll, store, how, seat)? else {
-                return Ok(None);
-            };
-            left = Some(first_of(left, after));
+            let right = ends_right(alloc, trial, roll, store, how, seat, &mut left)?;
+            if !right {
+                return Ok(false);
+            }
         }
     }
-    Ok(Some(first_of(left, store.copy())))
-}
-
-/// The first of the two, if it is there.
-fn first_of(left: Option<Store>, after: Store) -> Store
-    ensures { result ≡ unwrap_or left after }
-{
-    match left {
-        Some(store) => store,
-        None => after,
+    if let Some(after) = left {
+        *store = after;
     }
+    Ok(true)
 }

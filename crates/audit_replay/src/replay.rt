@@ -10,7 +10,7 @@ ghost use Rattle.audit_rules.specs.Tests.{conflict_of};
 ghost use Rattle.audit_roll.specs.Views.{roll_in};
 ghost use Rattle.audit_programs.specs.Trials.{IsTried, HasReadUpTo, machine_for};
 
-use crate::ending::after_end;
+use crate::ending::run_end;
 use crate::rerun::all_so_far;
 use audit_programs::{ReadyRoll, Trial};
 use mate_journal::Entry;
@@ -69,11 +69,7 @@ fn end_at(
         × (IsTrue right → (store.new ≡ told.store_left m store.old number x.seats) × HasLengthsOf m store.new)) }
 {
     let _place = place;
-    let Some(next) = after_end(alloc, trial, roll, store, number, how)? else {
-        return Ok(false);
-    };
-    *store = next;
-    Ok(true)
+    run_end(alloc, trial, roll, store, number, how)
 }
 
 /// Whether the runs at the entry are right. If so, the store becomes the serial one after it.

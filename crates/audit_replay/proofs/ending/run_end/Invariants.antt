@@ -6,7 +6,7 @@ use Rattle.audit_finite.specs.Shown.{HasLengthsOf}
 use Rattle.audit_rules.specs.Tests.{conflict_of}
 use Rattle.audit_roll.specs.Views.{seat_in, roll_in}
 use Rattle.audit_programs.specs.Trials.{machine_for}
-use Rattle.audit_replay.proofs.ending.after_end.Given as goal
+use Rattle.audit_replay.proofs.ending.run_end.Given as goal
 
 abbrev pub invariant-loop-seat : goal.invariant-loop-seat
 invariant-loop-seat l = record {
