@@ -58,7 +58,7 @@ run-lengths d ps store i (Err e) right long is = tt
 
 -- a program is ready for one that is held with the same image
 pub IsReadyAs-image : (d : Description) (h p : HeldProgram) (r : ReadyProgram) → h.image ≡ p.image → IsReadyAs d h r → IsReadyAs d p r
-IsReadyAs-image d h p r same ready = record { code = subst (λ (image : ArrayVec ℕ). IsImageCode d image r.code) same ready.code; source = ready.source }
+IsReadyAs-image d h p r same ready = record { code = subst (λ (image : ArrayVec ℕ). IsImageCode d image r.code) same ready.code }
 
 -- what the code writes is what the held program writes
 pub writes-told : (d : Description) (ps : List Program) (h : HeldProgram) (a : ReadyProgram) (at : Resource) → AreRightPrograms d ps → IsReadyAs d h a → (uses_of a.code.shape a.code.code).writes at ≡ ((meaning_by d ps).uses h).writes at

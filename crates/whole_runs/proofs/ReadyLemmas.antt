@@ -1,6 +1,6 @@
 -- Programs that are made ready: the code of an image, its run, and conflicts by locks.
 use Rattle.std.proofs.Common.{◌≡◌, ℕ, ℤ, Bool, true, false, List, Result, Ok, Err, refl, sym, ◌∙◌, ap, subst}
-use Rattle.std.specs.Prelude.{IfOk, IfSome, MatchResult, MatchBool, Decides, Option, Some, None, not, drop, length, nat_lt, if◌then◌else◌}
+use Rattle.std.specs.Prelude.{IfOk, MatchResult, MatchBool, Decides, not, drop, length, nat_lt, if◌then◌else◌}
 use Rattle.std.proofs.lemmas.Bool.{false≢true}
 use Rattle.arrayvec.specs.ArrayVec.{ArrayVec}
 use Rattle.mate_num.specs.Uses.{Uses, Conflicts, IsCompatible, IsSameUses}
@@ -25,15 +25,12 @@ use Rattle.capsule_codec.specs.Reading.{GivesCapsule, capsule_in}
 use Rattle.capsule_codec.specs.declared.capsule.Capsule.{Capsule}
 use Rattle.capsule_codec.specs.declared.decoding.CapsuleFault.{CapsuleFault}
 use Rattle.capsule_codec.proofs.ImageLemmas.{capsule_again}
-use Rattle.ts_checked.specs.Checked.{checked_tree}
-use Rattle.ts_checked.specs.declared.checked.Checked.{Checked}
-use Rattle.ts_meaning.specs.Meaning.{run_of}
 use Rattle.vm_desc.specs.Shapes.{shape_of}
 use Rattle.vm_desc.specs.declared.description.Description.{Description}
 use Rattle.mate_journal.specs.Machine.{HeldProgram, Meaning}
 use Rattle.mate_journal.specs.declared.program.Program.{Program}
 use Rattle.node_invariant.specs.Meaning.{image_code, code_in}
-use Rattle.node_programs.specs.Right.{IsSourceOf, IsRightProgram, AreRightPrograms}
+use Rattle.node_programs.specs.Right.{IsRightProgram, AreRightPrograms}
 use Rattle.node_programs.specs.Sources.{meaning_by}
 use Rattle.node_programs.proofs.MeaningLemmas.{meaning_by-right}
 use Rattle.whole_runs.specs.Images.{IsImageCode}
@@ -75,26 +72,11 @@ IsImageCode-verified d p right code v same is =
       code = sym (ap (λ (bs : List ℕ). code_in (decoded (table_of shape) (drop 16 bs))) right.image ∙ spelled);
     }
 
--- the program's source is that of the code
-pub source-kept : (d : Description) (p : Program) (v : VerifiedCode) → IsRightProgram d p → IsImageCode d p.image v → IfSome p.source (IsSourceOf v.shape v.code)
-source-kept d p v right is =
-    let S : Shape → Type 0 = λ shape. IfSome p.source (IsSourceOf shape v.code) in
-    let C : Code → Type 0 = λ code. IfSome p.source (IsSourceOf (shape_of d) code) in
-    subst S (sym is.shape) (subst C (sym is.code) right.source)
-
 -- the locks are those of the code, by its own shape
 pub locks-kept : (d : Description) (v : VerifiedCode) (locks : LockSet) → v.shape ≡ shape_of d → AreLocksOf (shape_of d) v.code locks → AreLocksOf v.shape v.code locks
 locks-kept d v locks is are = let P : Shape → Type 0 = λ shape. AreLocksOf shape v.code locks in subst P (sym is) are
 
 -- ---- runs
-
--- the run of the source is that of the code
-pub source-run : (shape : Shape) (code : Code) (o : Option Checked) (source : Checked) (store : Store) (payload : ArrayVec ℤ) (answers : List ℤ) (turns : ℕ) → IfSome o (IsSourceOf shape code) → o ≡ Some source
-    → run_of (checked_tree source) store payload answers turns ≡ code_run shape code store payload answers turns
-source-run shape code None source store payload answers turns of_source is = cc
-source-run shape code (Some s) source store payload answers turns of_source is =
-    let same : s ≡ source = cc in
-    sym ((subst (λ (x : Checked). IsSourceOf shape code x) same of_source).runs store payload answers turns)
 
 -- the run of the code is what the held program means
 pub code-means : (d : Description) (ps : List Program) (h : HeldProgram) (v : VerifiedCode) (store : Store) (payload : ArrayVec ℤ) (answers : List ℤ) (turns : ℕ) → AreRightPrograms d ps → IsImageCode d h.image v

@@ -1,22 +1,16 @@
 -- Programs that are ready to run.
-use Rattle.std.specs.Prelude.{List, Option, None, map, IfSome, slice_index_or}
+use Rattle.std.specs.Prelude.{List, Option, None, map, slice_index_or}
 use Rattle.std.specs.Option.{option_map}
 use Rattle.mate_num.specs.declared.id.HandlerId.{HandlerId}
 use Rattle.mate_journal.specs.Machine.{HeldProgram}
-use Rattle.node_programs.specs.Right.{IsSourceOf}
 use Rattle.vm_desc.specs.declared.description.Description.{Description}
 use Rattle.whole_runs.specs.Images.{IsImageCode}
 use Rattle.whole_runs.specs.declared.ready.ReadyProgram.{ReadyProgram}
 use Rattle.whole_runs.specs.declared.table.ReadyPrograms.{ReadyPrograms}
 
--- its source, if it has one, is that of its code
-abbrev pub HasItsSource : ReadyProgram → Type 0
-HasItsSource r = IfSome r.program.now.source (IsSourceOf r.code.shape r.code.code)
-
 -- its code is that of the held program's image
 pub record IsReadyAs (d : Description) (h : HeldProgram) (r : ReadyProgram) : Type 0 where
   pub code : IsImageCode d h.image r.code
-  pub source : HasItsSource r
 
 -- the program of each handler
 abbrev pub installed_programs : ReadyPrograms → List (Option ReadyProgram)

@@ -1,4 +1,4 @@
-//! Whole runs of programs: of a source by its meaning, and of loaded code by the machine.
+//! Whole runs of programs, by the code of their images.
 #![tactic(auto)]
 
 pub mod filling;

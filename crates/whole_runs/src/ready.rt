@@ -13,7 +13,6 @@ use mate_code::Table;
 use mate_journal::{ImageRef, Program};
 use mate_num::{LockSet, NoMemory, Outcome, Payload, Resource, Store};
 use std::alloc::Global;
-use ts_play::play;
 use vm_desc::{Description, shape};
 
 /// A program with the verified code of its image and the locks that the code takes.
@@ -54,7 +53,7 @@ impl<'a> ReadyProgram<'a> {
     ghost use Rattle.mate_journal.specs.declared.program.Program.{Program as Given};
     ghost use Rattle.node_programs.specs.Right.{AreRightPrograms};
     ghost use Rattle.node_programs.specs.Sources.{meaning_by, held_as};
-    ghost use Rattle.whole_runs.specs.Ready.{IsReadyAs, HasItsSource};
+    ghost use Rattle.whole_runs.specs.Ready.{IsReadyAs};
 
     /// The right program, made ready.
     pub fn of(desc: &Description, program: &'a Program) -> ReadyProgram<'a>
@@ -93,8 +92,8 @@ impl<'a> ReadyProgram<'a> {
         self.locks.writes(resource)
     }
 
-    /// The run of the program on a store, with a message, answers to its calls and a number of turns: of its source, if it has one,
-    /// or of its code. `NoMemory` comes only if memory for the list of calls is refused.
+    /// The run of the program on a store, with a message, answers to its calls and a number of turns, by the code of its image.
+    /// `NoMemory` comes only if memory for the list of calls is refused.
     pub fn run(
         &self,
         alloc: Global,
@@ -104,17 +103,11 @@ impl<'a> ReadyProgram<'a> {
         turns: u32,
     ) -> Result<Outcome, NoMemory>
         requires lengths { HasLengths self.now.code.shape store.now }
-        requires source { HasItsSource self.now }
         ensures code { IfOk result (λ o. o ≡ code_run self.now.code.shape self.now.code.code store.now payload.now answers.now turns) }
         ensures means { (d : Machine) (ps : List Given) (h : HeldProgram) → AreRightPrograms d ps → IsReadyAs d h self.now →
             IfOk result (λ o. o ≡ (meaning_by d ps).run h store.now payload.now answers.now turns) }
     {
-        match &self.program.source {
-            Some(source) => play(alloc, source.as_checked(), store, payload, answers, turns),
-            None => {
-                let mut heap = heap_of(store);
-                whole_run(alloc, &self.code, &mut heap, payload, answers, turns)
-            }
-        }
+        let mut heap = heap_of(store);
+        whole_run(alloc, &self.code, &mut heap, payload, answers, turns)
     }
 }
