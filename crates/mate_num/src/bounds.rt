@@ -41,9 +41,6 @@ pub const SHORT_IMAGE: usize = 528;
 /// The greatest number of fragments that an image is sent in.
 pub const FRAGMENTS_MAX: usize = 22;
 
-/// The greatest length of a file that is read whole, in bytes: of a description, a source, a script, a report or a stream.
-pub const FILE_MAX: usize = 1_048_576;
-
 /// The greatest number of nodes of a world.
 pub const NODES_MAX: usize = 64;
 
