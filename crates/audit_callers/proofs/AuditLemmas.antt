@@ -5,8 +5,8 @@ use Rattle.vm_desc.specs.declared.description.Description.{Description}
 use Rattle.mate_journal.specs.declared.program.Program.{Program}
 use Rattle.mate_journal.specs.declared.report.Report.{Report}
 use Rattle.audit_rules.specs.Verdicts.{IsSerialReport, IsVerdict}
-use Rattle.audit_verdict.specs.declared.law.Verdict.{Verdict}
-use Rattle.audit_verdict.specs.declared.law.Verdict.TheVariants.{Serial}
+use Rattle.mate_journal.specs.declared.law.Verdict.{Verdict}
+use Rattle.mate_journal.specs.declared.law.Verdict.TheVariants.{Serial}
 
 abbrev pub OneVerdict : Type 0
 OneVerdict = (d : Description) (ps : List Program) (r : Report) (v w : Verdict) → IsVerdict d ps r v → IsVerdict d ps r w → v ≡ w

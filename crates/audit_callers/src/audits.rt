@@ -3,7 +3,7 @@
 ghost use Rattle.std.specs.Prelude.{◌≡◌, ◌↔◌, IfOk};
 ghost use Rattle.audit_rules.specs.Tests.{verdict_of};
 ghost use Rattle.audit_rules.specs.Verdicts.{IsSerialReport};
-ghost use Rattle.audit_verdict.specs.declared.law.Verdict.TheVariants.{Serial};
+ghost use Rattle.mate_journal.specs.declared.law.Verdict.TheVariants.{Serial};
 ghost use Rattle.node_programs.specs.Right.{AreRightPrograms};
 ghost use Rattle.report_text.specs.Tidy.{IsTidy};
 

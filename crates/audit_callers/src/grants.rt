@@ -3,7 +3,7 @@
 ghost use Rattle.std.specs.Prelude.{◌≡◌, false};
 ghost use Rattle.audit_programs.specs.Trials.{HasReadUpTo};
 
-use audit_grants::is_granted;
+use report_audit::is_granted;
 use audit_programs::{ReadyRoll, Trial};
 use mate_journal::Entry;
 

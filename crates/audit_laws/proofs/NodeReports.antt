@@ -20,10 +20,10 @@ use Rattle.mate_journal.specs.Turns.{Turn, IsTurn, entry_at, mark_of}
 use Rattle.mate_journal.specs.declared.program.Program.{Program}
 use Rattle.mate_journal.specs.declared.report.Report.{Report}
 use Rattle.node_programs.specs.Sources.{meaning_by}
-use Rattle.world_install_laws.proofs.Agree.{NoInstall, NoneInstall, by_made, occasions-none, settles-none}
+use Rattle.world_laws.proofs.Agree.{NoInstall, NoneInstall, by_made, occasions-none, settles-none}
 use Rattle.audit_rules.specs.Laws.{InstallsProgram, machine_by}
 use Rattle.audit_rules.specs.Verdicts.{LogKeepsAll, IsVerdict}
-use Rattle.audit_verdict.specs.declared.law.Verdict.TheVariants.{Serial}
+use Rattle.mate_journal.specs.declared.law.Verdict.TheVariants.{Serial}
 use Rattle.audit_laws.specs.NodeInstalls.{IsInstallOf, InstallPrograms}
 use Rattle.audit_laws.proofs.Told.{InstallsRight, none-right, install-right, keeps-all}
 

@@ -20,9 +20,9 @@ use Rattle.world_rules.specs.Effect.{Installing}
 use Rattle.world_rules.specs.State.{Moment, effect_at, state}
 use Rattle.world_rules.specs.Run.{HaveCome}
 use Rattle.world_laws.proofs.Among.{all-at}
-use Rattle.world_install_laws.specs.Versions.{WasInjected}
-use Rattle.world_install_laws.proofs.Versions.{installs_injected}
-use Rattle.world_hop_laws.proofs.Premises.{SaysInject, says-inject, plans_rightly}
+use Rattle.world_laws.specs.Versions.{WasInjected}
+use Rattle.world_laws.proofs.Versions.{installs_injected}
+use Rattle.world_laws.proofs.Premises.{SaysInject, says-inject, plans_rightly}
 use Rattle.world_state_laws.proofs.Programs.{right-script}
 use Rattle.world_state_laws.specs.SourceWorld.{source_world}
 use Rattle.audit_rules.specs.Laws.{IsOneOf}

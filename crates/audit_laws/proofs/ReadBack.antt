@@ -20,7 +20,7 @@ use Rattle.report_reading.specs.declared.fault.TextFault.{TextFault}
 use Rattle.report_reading.specs.declared.fault.TextFault.TheVariants.{BadLine, NoMemory}
 use Rattle.report_reading.proofs.TripLemmas.{gives_back}
 use Rattle.audit_rules.specs.Verdicts.{IsVerdict}
-use Rattle.audit_verdict.specs.declared.law.Verdict.{Verdict}
+use Rattle.mate_journal.specs.declared.law.Verdict.{Verdict}
 use Rattle.audit_rules.proofs.ReportLemmas.{same-verdict}
 use Rattle.audit_laws.specs.Reading.{IsReadWith}
 

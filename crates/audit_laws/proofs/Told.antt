@@ -15,11 +15,11 @@ use Rattle.mate_journal.specs.Serial.{IsSerial}
 use Rattle.mate_journal.specs.Stores.{ShowsStore, ShowsStores, IsShown}
 use Rattle.mate_journal.specs.WellFormed.{IsWellFormed}
 use Rattle.mate_journal.specs.declared.program.Program.{Program}
-use Rattle.world_install_laws.proofs.Agree.{NoInstall, NoneInstall, installs-rest}
-use Rattle.audit_finite.specs.Shown.{ShowsValues, ShowsValuesAt}
+use Rattle.world_laws.proofs.Agree.{NoInstall, NoneInstall, installs-rest}
+use Rattle.audit_rules.specs.Shown.{ShowsValues, ShowsValuesAt}
 use Rattle.audit_rules.specs.Laws.{IsOneOf, InstallsProgram, machine_by}
 use Rattle.audit_rules.specs.Verdicts.{LogKeepsAll}
-use Rattle.audit_verdict.specs.declared.law.Law.TheVariants as law
+use Rattle.mate_journal.specs.declared.law.Law.TheVariants as law
 
 -- ---- a rule of what is told
 

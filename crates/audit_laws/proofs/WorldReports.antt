@@ -20,11 +20,11 @@ use Rattle.world_rules.specs.State.{Moment, node_at, effect_at, state}
 use Rattle.world_rules.specs.Run.{FirstThen, DeedMakes, HaveCome, EndsJournal, IsJournalOf, stamp_of, journal}
 use Rattle.world_rules.specs.Report.{IsLogOf, IsWorldReport}
 use Rattle.world_laws.proofs.Journals.{journal-here, journal-other, reads_journals}
-use Rattle.world_install_laws.proofs.Agree.{by_made, occasions-none, settles-none}
+use Rattle.world_laws.proofs.Agree.{by_made, occasions-none, settles-none}
 use Rattle.world_state_laws.specs.SourceWorld.{source_world}
 use Rattle.audit_rules.specs.Laws.{IsOneOf, InstallsProgram}
 use Rattle.audit_rules.specs.Verdicts.{LogKeepsAll, IsVerdict}
-use Rattle.audit_verdict.specs.declared.law.Verdict.TheVariants.{Serial}
+use Rattle.mate_journal.specs.declared.law.Verdict.TheVariants.{Serial}
 use Rattle.audit_laws.proofs.Told.{told-append, stamped, at_stamped, InstallsRight, none-right, install-right, keeps-all}
 use Rattle.audit_laws.proofs.Programs.{event-installs}
 

@@ -6,7 +6,7 @@ use Rattle.mate_journal.specs.declared.report.Report.{Report}
 use Rattle.report_reading.specs.declared.fault.TextFault.{TextFault}
 use Rattle.report_reading.specs.declared.fault.TextFault.TheVariants.{BadLine, NoMemory}
 use Rattle.audit_rules.specs.Verdicts.{IsVerdict}
-use Rattle.audit_verdict.specs.declared.law.Verdict.{Verdict}
+use Rattle.mate_journal.specs.declared.law.Verdict.{Verdict}
 
 -- it is read, unless memory runs out, and has the verdict
 abbrev pub IsReadWith : Description → List Program → Verdict → Result Report TextFault → Type 0

@@ -21,8 +21,8 @@ ghost use Rattle.report_reading.specs.declared.fault.TextFault.{TextFault};
 ghost use Rattle.world_rules.specs.Report.{IsWorldReport};
 ghost use Rattle.world_state_laws.specs.SourceWorld.{source_world};
 ghost use Rattle.audit_rules.specs.Verdicts.{IsVerdict};
-ghost use Rattle.audit_verdict.specs.declared.law.Verdict.{Verdict};
-ghost use Rattle.audit_verdict.specs.declared.law.Verdict.TheVariants.{Serial};
+ghost use Rattle.mate_journal.specs.declared.law.Verdict.{Verdict};
+ghost use Rattle.mate_journal.specs.declared.law.Verdict.TheVariants.{Serial};
 ghost use Rattle.audit_laws.specs.NodeInstalls.{InstallPrograms};
 ghost use Rattle.audit_laws.specs.Reading.{IsReadWith};
 

@@ -2,7 +2,7 @@
 use Rattle.std.proofs.Common.{◌≡◌, refl}
 use Rattle.std.specs.Prelude.{not}
 use Rattle.mate_journal.specs.Journal.{is_started}
-use Rattle.audit_finite.specs.Roll.{is_queued, is_waiting}
+use Rattle.audit_rules.specs.Roll.{is_queued, is_waiting}
 use Rattle.audit_roll.specs.Views.{stands_at, phase_in}
 use Rattle.audit_roll.specs.declared.phase.Phase.{Phase}
 use Rattle.audit_roll.specs.declared.phase.Phase.TheVariants as phase

@@ -19,15 +19,15 @@ use Rattle.node_invariant.specs.Meaning.{image_code}
 use Rattle.node_programs.specs.Right.{AreRightPrograms}
 use Rattle.node_programs.specs.Sources.{meaning_by}
 use Rattle.node_programs.proofs.MeaningLemmas.{meaning_by-right}
-use Rattle.audit_finite.specs.Rerun.{run_on}
-use Rattle.audit_finite.specs.Shown.{HasLengthsOf}
-use Rattle.audit_run_laws.proofs.ConflictLemmas.{code-TellsConflicts}
+use Rattle.audit_rules.specs.Rerun.{run_on}
+use Rattle.audit_rules.specs.Shown.{HasLengthsOf}
+use Rattle.audit_rules.proofs.ConflictLemmas.{code-TellsConflicts}
 use Rattle.audit_rules.specs.Laws.{machine_by}
 use Rattle.audit_rules.specs.Tests.{conflict_of}
 use Rattle.audit_rules.proofs.RightLemmas.{lengths}
-use Rattle.whole_runs.specs.Images.{IsImageCode}
-use Rattle.whole_runs.specs.Ready.{IsReadyAs}
-use Rattle.whole_runs.specs.declared.ready.ReadyProgram.{ReadyProgram}
+use Rattle.audit_programs.specs.Images.{IsImageCode}
+use Rattle.audit_programs.specs.Ready.{IsReadyAs}
+use Rattle.audit_programs.specs.declared.ready.ReadyProgram.{ReadyProgram}
 
 -- ready programs conflict where the held ones do
 pub conflict-told : (d : Description) (p q : HeldProgram) (a b : ReadyProgram) (r : Bool) → IsReadyAs d p a → IsReadyAs d q b → Decides r (Conflicts (uses_of a.code.shape a.code.code) (uses_of b.code.shape b.code.code)) → r ≡ conflict_of d p q

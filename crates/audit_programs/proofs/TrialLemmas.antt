@@ -15,15 +15,15 @@ use Rattle.mate_journal.specs.Tidy.{IsEntryInRange}
 use Rattle.journal_laws.specs.Growth.{event_of, IsNamedBelow, AreNamedBelow}
 use Rattle.journal_laws.proofs.TidyLemmas.{NamesInLog-numbered}
 use Rattle.vm_desc.specs.declared.description.Description.{Description}
-use Rattle.audit_finite.specs.Roll as told
-use Rattle.audit_finite.specs.Roll.{nobody, rolled, LiveAreInstalled}
-use Rattle.audit_finite.specs.Following.{stamps_rise, may_follow, follow_one_another}
+use Rattle.audit_rules.specs.Roll as told
+use Rattle.audit_rules.specs.Roll.{nobody, rolled, LiveAreInstalled}
+use Rattle.audit_rules.specs.Following.{stamps_rise, may_follow, follow_one_another}
 use Rattle.audit_rules.specs.Tests.{installs_right, images_right}
 use Rattle.audit_roll.specs.Views.{HasHandlerBelow, seat_in, roll_in}
 use Rattle.audit_roll.specs.declared.seat.Seat.{Seat}
 use Rattle.node_programs.specs.Sources.{held_as}
-use Rattle.whole_runs.specs.Ready.{IsReadyAs, installed_programs, ready_at}
-use Rattle.whole_runs.specs.declared.ready.ReadyProgram.{ReadyProgram}
+use Rattle.audit_programs.specs.Ready.{IsReadyAs, installed_programs, ready_at}
+use Rattle.audit_programs.specs.declared.ready.ReadyProgram.{ReadyProgram}
 use Rattle.audit_programs.specs.Trials.{machine_for, events_from, no_entry, told_at, IsTried, HasReadUpTo, HasKept, IsSeatReady, AreReady, StayReady, MakesReady}
 use Rattle.audit_programs.proofs.ReadyLemmas.{IsReadyAs-image}
 use Rattle.audit_programs.specs.declared.ready_roll.ReadyRoll.{ReadyRoll}

@@ -1,2 +1,5 @@
 pub mod Naming
 pub mod Trials
+pub mod Goes
+pub mod Images
+pub mod Ready

@@ -9,15 +9,15 @@ use Rattle.mate_journal.specs.declared.entry.Stamped.{Stamped}
 use Rattle.journal_laws.specs.Growth.{event_of}
 use Rattle.node_programs.specs.Right.{AreRightPrograms}
 use Rattle.node_programs.specs.Sources.{held_as}
-use Rattle.audit_finite.specs.Roll.{LiveAreInstalled, nobody}
-use Rattle.audit_finite.specs.Following.{entries_follow, follow_one_another}
+use Rattle.audit_rules.specs.Roll.{LiveAreInstalled, nobody}
+use Rattle.audit_rules.specs.Following.{entries_follow, follow_one_another}
 use Rattle.audit_rules.specs.Laws.{machine_by}
 use Rattle.audit_rules.specs.Tests.{images_right}
 use Rattle.audit_roll.specs.Views.{seat_in, roll_in}
 use Rattle.audit_roll.specs.declared.seat.Seat.{Seat}
 use Rattle.vm_desc.specs.declared.description.Description.{Description}
-use Rattle.whole_runs.specs.Ready.{IsReadyAs, installed_programs, ready_at}
-use Rattle.whole_runs.specs.declared.ready.ReadyProgram.{ReadyProgram}
+use Rattle.audit_programs.specs.Ready.{IsReadyAs, installed_programs, ready_at}
+use Rattle.audit_programs.specs.declared.ready.ReadyProgram.{ReadyProgram}
 use Rattle.audit_programs.specs.declared.ready_roll.ReadyRoll.{ReadyRoll}
 use Rattle.audit_programs.specs.declared.trial.Trial.{Trial}
 

@@ -8,11 +8,11 @@ ghost use Rattle.audit_programs.specs.Naming.{named_program};
 
 use crate::finding::find_program;
 use crate::trial::Trial;
+use crate::{ReadyProgram, ReadyPrograms};
 use audit_roll::{Roll, Seat};
 use mate_journal::{Entry, Program};
 use mate_num::{Call, HandlerId, NoMemory, Outcome, Resource, Store};
 use std::alloc::Global;
-use whole_runs::{ReadyProgram, ReadyPrograms};
 
 /// The program that an install names. The search begins at `place`, which then is the position of the program.
 fn program_named<'a>(
@@ -65,12 +65,12 @@ impl<'a> ReadyRoll<'a> {
     ghost use Rattle.mate_journal.specs.Journal.{journal_entry, no_image};
     ghost use Rattle.mate_journal.specs.Tidy.{IsEntryInRange};
     ghost use Rattle.journal_laws.specs.Growth.{IsNamedBelow};
-    ghost use Rattle.audit_finite.specs.Roll.{nobody, rolled};
-    ghost use Rattle.audit_finite.specs.Rerun.{run_on};
-    ghost use Rattle.audit_finite.specs.Shown.{HasLengthsOf};
+    ghost use Rattle.audit_rules.specs.Roll.{nobody, rolled};
+    ghost use Rattle.audit_rules.specs.Rerun.{run_on};
+    ghost use Rattle.audit_rules.specs.Shown.{HasLengthsOf};
     ghost use Rattle.audit_rules.specs.Tests.{conflict_of, installs_right};
     ghost use Rattle.audit_roll.specs.Views.{seat_in, roll_in};
-    ghost use Rattle.whole_runs.specs.Ready.{IsReadyAs, installed_programs, ready_at};
+    ghost use Rattle.audit_programs.specs.Ready.{IsReadyAs, installed_programs, ready_at};
     ghost use Rattle.audit_programs.specs.Trials.{IsTried, HasReadUpTo, IsSeatReady, AreReady, StayReady, MakesReady, HasKept, machine_for, told_at};
 
     /// Before the first journal.

@@ -11,8 +11,8 @@ use Rattle.mate_journal.specs.Log.{Log}
 use Rattle.mate_journal.specs.Machine.{Machine}
 use Rattle.mate_journal.specs.declared.entry.Stamped.{Stamped}
 use Rattle.journal_laws.specs.Growth.{event_of}
-use Rattle.audit_finite.specs.Roll as told
-use Rattle.audit_finite.specs.Following.{not_before, is_in_time, stamps_rise, is_taken, is_context_of, may_follow}
+use Rattle.audit_rules.specs.Roll as told
+use Rattle.audit_rules.specs.Following.{not_before, is_in_time, stamps_rise, is_taken, is_context_of, may_follow}
 use Rattle.audit_roll.specs.Stamps.{rise_from, rise}
 use Rattle.audit_roll.specs.Views.{stands_at, sits_at, has_context, phase_in, installed_in, seat_in, roll_in}
 use Rattle.audit_roll.specs.declared.phase.Phase.{Phase}

@@ -10,7 +10,7 @@ use Rattle.mate_num.specs.declared.call.End.{End}
 use Rattle.mate_journal.specs.Machine.{HeldProgram}
 use Rattle.mate_journal.specs.Journal as journal
 use Rattle.mate_journal.specs.Journal.{JournalEntry, Posted, Started, Asked, Answered, Ended, Installed, Reset, Invocation, in_phase, no_image, no_program}
-use Rattle.audit_finite.specs.Roll as told
+use Rattle.audit_rules.specs.Roll as told
 use Rattle.audit_roll.specs.Views.{come_to, calls_after, seat_answered, answered_at, keeps_seat, phase_in, installed_in, seat_in, roll_in}
 use Rattle.audit_roll.specs.declared.phase.Phase.{Phase}
 use Rattle.audit_roll.specs.declared.phase.Phase.TheVariants as phase

@@ -2,7 +2,7 @@
 use Rattle.std.specs.Prelude.{◌&&◌, Bool, true, List, [], ◌∷◌, Option, None, Some}
 use Rattle.mate_num.specs.declared.call.Stamp.{Stamp}
 use Rattle.mate_journal.specs.declared.entry.Stamped.{Stamped}
-use Rattle.audit_finite.specs.Following.{not_before}
+use Rattle.audit_rules.specs.Following.{not_before}
 
 -- a stamp isn't before the last one, if there was one
 abbrev pub follows : Option Stamp → Stamp → Bool

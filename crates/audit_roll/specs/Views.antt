@@ -10,7 +10,7 @@ use Rattle.mate_journal.specs.Journal as journal
 use Rattle.mate_journal.specs.Journal.{Invocation, no_image, no_program}
 use Rattle.mate_journal.specs.declared.entry.Entry.{Entry}
 use Rattle.mate_journal.specs.declared.entry.Entry.TheVariants as entry
-use Rattle.audit_finite.specs.Roll as told
+use Rattle.audit_rules.specs.Roll as told
 use Rattle.audit_roll.specs.declared.phase.Phase.{Phase}
 use Rattle.audit_roll.specs.declared.phase.Phase.TheVariants as phase
 use Rattle.audit_roll.specs.declared.phase.Stage.{Stage}

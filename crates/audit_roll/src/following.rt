@@ -7,7 +7,7 @@ ghost use Rattle.mate_journal.specs.Journal.{journal_entry, journal_of};
 ghost use Rattle.mate_journal.specs.Log.{Log};
 ghost use Rattle.mate_journal.specs.Machine.{Meaning};
 ghost use Rattle.mate_journal.specs.Tidy.{IsTidyLog};
-ghost use Rattle.audit_finite.specs.Following as told;
+ghost use Rattle.audit_rules.specs.Following as told;
 ghost use Rattle.audit_roll.specs.Views.{HasHandlerBelow, roll_in};
 ghost use Rattle.audit_roll.specs.Stamps.{rise};
 

@@ -3,7 +3,7 @@
 ghost use Rattle.std.specs.Prelude.{◌≡◌, ◌<◌, ◌++◌, ◌∷◌, [], length, filter, OnOk};
 ghost use Rattle.mate_journal.specs.Journal.{journal_entry};
 ghost use Rattle.mate_journal.specs.Log.{Log};
-ghost use Rattle.audit_finite.specs.Roll as told;
+ghost use Rattle.audit_rules.specs.Roll as told;
 ghost use Rattle.audit_roll.specs.Views.{keeps_seat, HasHandlerBelow, roll_in};
 
 use crate::phase::Phase;

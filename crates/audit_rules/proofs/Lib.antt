@@ -2,3 +2,16 @@ pub mod RightLemmas
 pub mod VerdictLemmas
 pub mod TestLemmas
 pub mod ReportLemmas
+pub mod Deciding
+pub mod Members
+pub mod RollLemmas
+pub mod InstalledLemmas
+pub mod FollowingLemmas
+pub mod GrantLemmas
+pub mod ReplayLemmas
+pub mod SameLemmas
+pub mod RerunLemmas
+pub mod ShownLemmas
+pub mod AnswerLemmas
+pub mod PartLemmas
+pub mod ConflictLemmas

@@ -17,9 +17,9 @@ use Rattle.report_text.specs.Tidy.{IsTidy}
 use Rattle.audit_rules.specs.Laws.{KeepsLaw, machine_by, rank_of}
 use Rattle.audit_rules.specs.Tests.{failed_by, refuted_or, verdict_from, verdict_of}
 use Rattle.audit_rules.specs.Verdicts.{LogKeepsAll, LogFails, NodesKeep, IsVerdict, TellSameJournals}
-use Rattle.audit_verdict.specs.declared.law.Law.{Law}
-use Rattle.audit_verdict.specs.declared.law.Verdict.{Verdict}
-use Rattle.audit_verdict.specs.declared.law.Verdict.TheVariants.{Serial, Refuted}
+use Rattle.mate_journal.specs.declared.law.Law.{Law}
+use Rattle.mate_journal.specs.declared.law.Verdict.{Verdict}
+use Rattle.mate_journal.specs.declared.law.Verdict.TheVariants.{Serial, Refuted}
 use Rattle.audit_rules.proofs.TestLemmas.{failed-told}
 
 -- ---- node by node

@@ -28,11 +28,11 @@ use Rattle.node_invariant.proofs.AskLemmas.{writes-what_it_asks}
 use Rattle.node_programs.specs.Right.{AreRightPrograms}
 use Rattle.node_programs.specs.Sources.{meaning_by}
 use Rattle.node_programs.proofs.MeaningLemmas.{meaning_by-right}
-use Rattle.audit_finite.specs.Granting.{TellsConflicts}
-use Rattle.audit_finite.specs.Replay.{GoesByParts}
-use Rattle.audit_finite.specs.Shown.{HasLengthsOf, KeepsLengths, SeenLengths}
-use Rattle.audit_run_laws.proofs.ConflictLemmas.{code-TellsConflicts}
-use Rattle.audit_run_laws.proofs.PartLemmas.{code-GoesByParts}
+use Rattle.audit_rules.specs.Granting.{TellsConflicts}
+use Rattle.audit_rules.specs.Replay.{GoesByParts}
+use Rattle.audit_rules.specs.Shown.{HasLengthsOf, KeepsLengths, SeenLengths}
+use Rattle.audit_rules.proofs.ConflictLemmas.{code-TellsConflicts}
+use Rattle.audit_rules.proofs.PartLemmas.{code-GoesByParts}
 use Rattle.audit_rules.specs.Laws.{machine_by}
 use Rattle.audit_rules.specs.Tests.{conflict_of}
 

@@ -14,22 +14,22 @@ use Rattle.mate_journal.specs.declared.program.Program.{Program}
 use Rattle.journal_laws.proofs.Apart.{IsNumbered, numbered-step}
 use Rattle.node_programs.specs.Right.{AreRightPrograms}
 use Rattle.node_programs.specs.Sources.{is_held_as}
-use Rattle.audit_finite.specs.Granting.{grants_in_order}
-use Rattle.audit_finite.specs.Rerun.{replays_right}
-use Rattle.audit_finite.specs.Roll.{Roll, nobody, rolled, IsRoll}
-use Rattle.audit_finite.specs.Following.{entries_follow}
-use Rattle.audit_finite.specs.Shown.{stores_right}
-use Rattle.audit_finite.proofs.Deciding.{always}
-use Rattle.audit_finite.proofs.GrantLemmas.{grants_told}
-use Rattle.audit_finite.proofs.RerunLemmas.{replay_told}
-use Rattle.audit_finite.proofs.RollLemmas.{nobody-IsRoll, IsRoll-step}
-use Rattle.audit_finite.proofs.FollowingLemmas.{nothing_heard-numbered, following-Decides}
-use Rattle.audit_finite.proofs.ShownLemmas.{stores_told}
+use Rattle.audit_rules.specs.Granting.{grants_in_order}
+use Rattle.audit_rules.specs.Rerun.{replays_right}
+use Rattle.audit_rules.specs.Roll.{Roll, nobody, rolled, IsRoll}
+use Rattle.audit_rules.specs.Following.{entries_follow}
+use Rattle.audit_rules.specs.Shown.{stores_right}
+use Rattle.audit_rules.proofs.Deciding.{always}
+use Rattle.audit_rules.proofs.GrantLemmas.{grants_told}
+use Rattle.audit_rules.proofs.RerunLemmas.{replay_told}
+use Rattle.audit_rules.proofs.RollLemmas.{nobody-IsRoll, IsRoll-step}
+use Rattle.audit_rules.proofs.FollowingLemmas.{nothing_heard-numbered, following-Decides}
+use Rattle.audit_rules.proofs.ShownLemmas.{stores_told}
 use Rattle.audit_rules.specs.Laws.{InstallsProgram, machine_by, rank_of}
 use Rattle.audit_rules.specs.Tests.{version_installed, installs_right, images_right, conflict_of, failed_by}
 use Rattle.audit_rules.specs.Verdicts.{LogKeeps, LogKeepsAll, LogFails}
-use Rattle.audit_verdict.specs.declared.law.Law.{Law}
-use Rattle.audit_verdict.specs.declared.law.Law.TheVariants as law
+use Rattle.mate_journal.specs.declared.law.Law.{Law}
+use Rattle.mate_journal.specs.declared.law.Law.TheVariants as law
 use Rattle.audit_rules.proofs.VerdictLemmas.{same_rank}
 use Rattle.audit_rules.proofs.RightLemmas.{parts, conflicts, lengths, devices, seen_lengths}
 

@@ -9,10 +9,10 @@ use Rattle.mate_journal.specs.declared.report.Report.{Report}
 use Rattle.audit_rules.specs.Laws.{rank_of}
 use Rattle.report_text.specs.Tidy.{IsTidy}
 use Rattle.audit_rules.specs.Verdicts.{IsSerialReport, LogKeepsAll, LogFails, NodesKeep, IsVerdict}
-use Rattle.audit_verdict.specs.declared.law.Law.{Law}
-use Rattle.audit_verdict.specs.declared.law.Law.TheVariants as law
-use Rattle.audit_verdict.specs.declared.law.Verdict.{Verdict}
-use Rattle.audit_verdict.specs.declared.law.Verdict.TheVariants.{Serial, Refuted}
+use Rattle.mate_journal.specs.declared.law.Law.{Law}
+use Rattle.mate_journal.specs.declared.law.Law.TheVariants as law
+use Rattle.mate_journal.specs.declared.law.Verdict.{Verdict}
+use Rattle.mate_journal.specs.declared.law.Verdict.TheVariants.{Serial, Refuted}
 
 -- where there is an element
 within : {A : Type 0} (P : A → Type 0) (xs : List A) (n : ℕ) → IsSomeAnd (slice_get xs n) P → n < length xs

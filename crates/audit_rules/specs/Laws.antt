@@ -12,9 +12,9 @@ use Rattle.mate_journal.specs.Serial.{IsSerial}
 use Rattle.mate_journal.specs.declared.program.Program.{Program}
 use Rattle.node_programs.specs.Sources.{is_held_as, meaning_by}
 use Rattle.mate_journal.specs.WellFormed.{IsWellFormed}
-use Rattle.audit_finite.specs.Shown.{ShowsValuesAt}
-use Rattle.audit_verdict.specs.declared.law.Law.{Law}
-use Rattle.audit_verdict.specs.declared.law.Law.TheVariants as law
+use Rattle.audit_rules.specs.Shown.{ShowsValuesAt}
+use Rattle.mate_journal.specs.declared.law.Law.{Law}
+use Rattle.mate_journal.specs.declared.law.Law.TheVariants as law
 
 -- one of the programs has the handler, the version and the image
 abbrev pub IsOneOf : List Program → HeldProgram → Type 0

@@ -12,17 +12,17 @@ use Rattle.mate_journal.specs.declared.program.Program.{Program}
 use Rattle.mate_journal.specs.declared.report.Report.{Report}
 use Rattle.node_invariant.specs.Meaning.{image_code}
 use Rattle.node_programs.specs.Sources.{is_held_as}
-use Rattle.audit_finite.specs.Granting.{ConflictTest, grants_in_order}
-use Rattle.audit_finite.specs.Rerun.{replays_right}
-use Rattle.audit_finite.specs.Roll.{Roll, nobody, rolled}
-use Rattle.audit_finite.specs.Following.{entries_follow}
-use Rattle.audit_finite.specs.Shown.{stores_right}
-use Rattle.audit_run_laws.specs.CodeMeaning.{conflict_with}
+use Rattle.audit_rules.specs.Granting.{ConflictTest, grants_in_order}
+use Rattle.audit_rules.specs.Rerun.{replays_right}
+use Rattle.audit_rules.specs.Roll.{Roll, nobody, rolled}
+use Rattle.audit_rules.specs.Following.{entries_follow}
+use Rattle.audit_rules.specs.Shown.{stores_right}
+use Rattle.audit_rules.specs.CodeMeaning.{conflict_with}
 use Rattle.audit_rules.specs.Laws.{machine_by}
-use Rattle.audit_verdict.specs.declared.law.Law.{Law}
-use Rattle.audit_verdict.specs.declared.law.Law.TheVariants as law
-use Rattle.audit_verdict.specs.declared.law.Verdict.{Verdict}
-use Rattle.audit_verdict.specs.declared.law.Verdict.TheVariants.{Serial, Refuted}
+use Rattle.mate_journal.specs.declared.law.Law.{Law}
+use Rattle.mate_journal.specs.declared.law.Law.TheVariants as law
+use Rattle.mate_journal.specs.declared.law.Verdict.{Verdict}
+use Rattle.mate_journal.specs.declared.law.Verdict.TheVariants.{Serial, Refuted}
 
 -- the version that is installed, 0 for none
 abbrev pub version_installed : Option HeldProgram → ℕ

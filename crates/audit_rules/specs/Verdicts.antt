@@ -7,9 +7,9 @@ use Rattle.mate_journal.specs.declared.program.Program.{Program}
 use Rattle.mate_journal.specs.declared.report.Report.{Report}
 use Rattle.report_text.specs.Tidy.{IsTidy}
 use Rattle.audit_rules.specs.Laws.{KeepsLaw, machine_by, rank_of}
-use Rattle.audit_verdict.specs.declared.law.Law.{Law}
-use Rattle.audit_verdict.specs.declared.law.Verdict.{Verdict}
-use Rattle.audit_verdict.specs.declared.law.Verdict.TheVariants.{Serial, Refuted}
+use Rattle.mate_journal.specs.declared.law.Law.{Law}
+use Rattle.mate_journal.specs.declared.law.Verdict.{Verdict}
+use Rattle.mate_journal.specs.declared.law.Verdict.TheVariants.{Serial, Refuted}
 
 -- the log keeps the law
 abbrev pub LogKeeps : Description → List Program → Log → Law → Type 0

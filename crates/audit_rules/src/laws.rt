@@ -13,14 +13,14 @@ ghost use Rattle.mate_journal.specs.declared.report.Report.{Report};
 ghost use Rattle.node_programs.specs.Right.{AreRightPrograms};
 ghost use Rattle.report_text.specs.Tidy.{IsTidy};
 ghost use Rattle.mate_journal.specs.WellFormed.{IsWellFormed};
-ghost use Rattle.audit_finite.specs.Granting.{TellsConflicts};
-ghost use Rattle.audit_finite.specs.Replay.{GoesByParts};
-ghost use Rattle.audit_finite.specs.Shown.{KeepsLengths, SeenLengths};
+ghost use Rattle.audit_rules.specs.Granting.{TellsConflicts};
+ghost use Rattle.audit_rules.specs.Replay.{GoesByParts};
+ghost use Rattle.audit_rules.specs.Shown.{KeepsLengths, SeenLengths};
 ghost use Rattle.audit_rules.specs.Laws.{machine_by};
 ghost use Rattle.audit_rules.specs.Tests.{conflict_of, failed_by, verdict_of};
 ghost use Rattle.audit_rules.specs.Verdicts.{IsSerialReport, IsVerdict, LogKeepsAll, LogFails, TellSameJournals};
-ghost use Rattle.audit_verdict.specs.declared.law.Verdict.{Verdict};
-ghost use Rattle.audit_verdict.specs.declared.law.Verdict.TheVariants.{Serial};
+ghost use Rattle.mate_journal.specs.declared.law.Verdict.{Verdict};
+ghost use Rattle.mate_journal.specs.declared.law.Verdict.TheVariants.{Serial};
 
 /// The order of calls to devices follows from the other laws: it is never the first to fail.
 pub fn devices_follow()

@@ -12,8 +12,8 @@ use Rattle.audit_laws.proofs.WorldReports.{world-serial}
 use Rattle.audit_laws.specs.Reading.{IsReadWith}
 use Rattle.audit_rules.specs.Verdicts.{IsVerdict}
 use Rattle.audit_rules.proofs.VerdictLemmas.{one-verdict}
-use Rattle.audit_verdict.specs.declared.law.Law.{Law}
-use Rattle.audit_verdict.specs.declared.law.Verdict.TheVariants as verdict
+use Rattle.mate_journal.specs.declared.law.Law.{Law}
+use Rattle.mate_journal.specs.declared.law.Verdict.TheVariants as verdict
 use Rattle.command_laws.specs.Texts.{IsOutputText, IsRunText, run_end}
 use Rattle.command_laws.proofs.OneAudit.{named_agree, verdict_same}
 use Rattle.mate_cli.specs.Audit.{report_of_file, serial, audit_of, audit_by, audit}
@@ -55,9 +55,9 @@ use Rattle.script_reader.specs.Steps.{NodeScript}
 use Rattle.script_reader.specs.declared.fault.Cause.{Cause}
 use Rattle.script_reader.specs.declared.fault.Cause.TheVariants.{Word, Range}
 use Rattle.vm_desc.specs.declared.description.Description.{Description}
-use Rattle.world_lines.specs.WorldLines.{WorldProgress, WorldSaid, SaysNodes, a_world_line, behind_verb, some_nodes}
-use Rattle.world_lines.specs.declared.stage.Stage.{Stage}
-use Rattle.world_lines.specs.declared.stage.Stage.TheVariants as stage
+use Rattle.world_reader.specs.WorldLines.{WorldProgress, WorldSaid, SaysNodes, a_world_line, behind_verb, some_nodes}
+use Rattle.world_reader.specs.declared.stage.Stage.{Stage}
+use Rattle.world_reader.specs.declared.stage.Stage.TheVariants as stage
 use Rattle.world_programs.specs.Injected.{world_programs}
 use Rattle.world_programs.specs.Named.{begins_world, are_of_world, is_of_world, programs_by, programs_named}
 use Rattle.world_programs.specs.WorldFiles.{world}

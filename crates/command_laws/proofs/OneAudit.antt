@@ -9,10 +9,10 @@ use Rattle.audit_rules.specs.Laws.{InstallsProgram, KeepsLaw, machine_by}
 use Rattle.audit_rules.specs.Verdicts.{LogKeeps, LogKeepsAll, LogFails, NodesKeep, IsVerdict, TellSameJournals}
 use Rattle.audit_rules.proofs.ReportLemmas.{same-verdict}
 use Rattle.audit_rules.proofs.VerdictLemmas.{one-verdict}
-use Rattle.audit_verdict.specs.declared.law.Law.{Law}
-use Rattle.audit_verdict.specs.declared.law.Law.TheVariants as law
-use Rattle.audit_verdict.specs.declared.law.Verdict.{Verdict}
-use Rattle.audit_verdict.specs.declared.law.Verdict.TheVariants as verdict
+use Rattle.mate_journal.specs.declared.law.Law.{Law}
+use Rattle.mate_journal.specs.declared.law.Law.TheVariants as law
+use Rattle.mate_journal.specs.declared.law.Verdict.{Verdict}
+use Rattle.mate_journal.specs.declared.law.Verdict.TheVariants as verdict
 use Rattle.command_laws.specs.SameText.{SameText}
 use Rattle.command_laws.proofs.OneCommand.{writes_agree}
 use Rattle.command_laws.proofs.OneWorld.{world_text_agrees}

@@ -28,7 +28,7 @@ use Rattle.mate_steps.specs.Parts.{Folder}
 use Rattle.mate_steps.proofs.OneAnswer.{then_agrees}
 use Rattle.report_summary.specs.Summary.{summary_text}
 use Rattle.run_steps.specs.Running.{IsReportOf}
-use Rattle.run_writing.specs.Writing.{OfRun}
+use Rattle.report_summary.specs.Writing.{OfRun}
 use Rattle.vm_desc.specs.declared.description.Description.{Description}
 use Rattle.world_sim.specs.Promise.{IsReportOfWorld}
 

@@ -14,3 +14,4 @@ pub mod WaitsApart
 pub mod Staying
 pub mod Settling
 pub mod FewAtOnce
+pub mod GrowthLemmas

@@ -3,3 +3,4 @@ pub mod Apart
 pub mod Progress
 pub mod Waiting
 pub mod ReadingOrder
+pub mod InRange

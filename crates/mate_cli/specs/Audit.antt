@@ -1,8 +1,8 @@
 -- The command `audit`: whether a report shows serial behaviour of what a script runs on a machine.
 use Rattle.std.specs.Prelude.{ℕ, Bool, List, codes, Result, Ok, Err, ⊤}
 use Rattle.audit_rules.specs.Verdicts.{IsVerdict}
-use Rattle.audit_verdict.specs.declared.law.Law.{Law}
-use Rattle.audit_verdict.specs.declared.law.Verdict.TheVariants as verdict
+use Rattle.mate_journal.specs.declared.law.Law.{Law}
+use Rattle.mate_journal.specs.declared.law.Verdict.TheVariants as verdict
 use Rattle.mate_documents.specs.Outputs.{writes}
 use Rattle.mate_documents.specs.declared.output.Output.{Output}
 use Rattle.mate_journal.specs.declared.program.Program.{Program}

@@ -26,9 +26,9 @@ use Rattle.mate_journal.specs.declared.report.Report.{Report}
 use Rattle.report_summary.specs.Summary.{summary_text}
 use Rattle.report_text.specs.Text.{text}
 use Rattle.run_steps.specs.Running.{IsReportOf}
-use Rattle.run_writing.specs.Writing.{OfRun, IsWrittenPart, IsWrittenShort, IsNothingRun}
-use Rattle.run_writing.specs.declared.write_fault.WriteFault.{WriteFault}
-use Rattle.run_writing.specs.declared.write_fault.WriteFault.TheVariants as fault
+use Rattle.report_summary.specs.Writing.{OfRun, IsWrittenPart, IsWrittenShort, IsNothingRun}
+use Rattle.report_summary.specs.declared.write_fault.WriteFault.{WriteFault}
+use Rattle.report_summary.specs.declared.write_fault.WriteFault.TheVariants as fault
 use Rattle.vm_desc.specs.declared.description.Description.{Description}
 use Rattle.world_sim.specs.Promise.{IsReportOfWorld}
 

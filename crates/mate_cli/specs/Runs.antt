@@ -7,7 +7,7 @@ use Rattle.report_text.specs.Brief.{brief}
 use Rattle.mate_journal.specs.declared.report.Report.{Report}
 use Rattle.mate_refusals.specs.declared.refusal.Refusal.{Refusal}
 use Rattle.mate_steps.specs.Steps.{obtained, ◌▸◌}
-use Rattle.run_writing.specs.Writing.{OfRun, IsEnded}
+use Rattle.report_summary.specs.Writing.{OfRun, IsEnded}
 use Rattle.vm_desc.specs.declared.description.Description.{Description}
 
 -- the report of a run

@@ -16,7 +16,7 @@ use mate_journal::Programs;
 use mate_refusals::{Refusal, Status};
 use report_summary::Summary;
 use run_steps::write_steps;
-use run_writing::{WriteFault, ended};
+use report_summary::{WriteFault, ended};
 use script_reader::Steps;
 use std::alloc::Global;
 use vm_desc::Description;

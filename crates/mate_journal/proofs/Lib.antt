@@ -1,3 +1,5 @@
 pub mod OneRun
 pub mod JournalLemmas
 pub mod OpenLemmas
+pub mod PiecesLemmas
+pub mod StoresLemmas

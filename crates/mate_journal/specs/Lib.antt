@@ -16,3 +16,6 @@ pub mod Tidy
 pub mod NodeReport
 pub mod OpenLog
 pub mod Ranges
+pub mod Pieces
+pub mod Packed
+pub mod LawWords

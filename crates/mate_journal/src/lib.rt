@@ -2,22 +2,29 @@
 #![tactic(auto)]
 
 pub mod air;
+mod cuts;
 pub mod entry;
+pub mod images;
+pub mod law;
 pub mod node_log;
 pub mod open_log;
 pub mod past;
+mod pieces;
 pub mod program;
 pub mod report;
 pub mod shared_script;
 pub mod stored_image;
+pub mod stores;
 
 pub use air::{Air, Aired, Airs};
 pub use entry::{DropCause, Entry, Stamped, VoidCause};
+pub use images::{ImageRef, Images};
+pub use law::{Law, Verdict};
 pub use node_log::NodeLog;
 pub use open_log::OpenLog;
-pub use packed_log::{ImageRef, Images, StoreRef, Stores};
 pub use past::Past;
 pub use program::{Program, Programs};
 pub use report::{IntoFault, NodeLogs, RECORDS_MAX, Report, RunFault};
 pub use shared_script::SharedScript;
 pub use stored_image::StoredImage;
+pub use stores::{StoreRef, Stores};

@@ -5,8 +5,8 @@ ghost use Rattle.mate_journal.specs.Log.{Log, IsSameLog};
 ghost use Rattle.mate_journal.specs.declared.entry.Entry.TheVariants as told;
 
 use crate::entry::{Entry, Stamped};
+use crate::{Images, Stores};
 use mate_num::{HandlerId, Image, NoMemory, Stamp, Store};
-use packed_log::{Images, Stores};
 use std::alloc::Global;
 use std::marker::Model;
 

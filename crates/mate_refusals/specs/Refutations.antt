@@ -1,7 +1,7 @@
 -- Why a report doesn't show serial behaviour, as the program reports it.
 use Rattle.std.specs.Prelude.{ℕ, List, ◌++◌, codes, decimal}
-use Rattle.audit_verdict.specs.Words.{law_word}
-use Rattle.audit_verdict.specs.declared.law.Law.{Law}
+use Rattle.mate_journal.specs.LawWords.{law_word}
+use Rattle.mate_journal.specs.declared.law.Law.{Law}
 use Rattle.mate_refusals.specs.LineEnds.{number_line}
 use Rattle.mate_refusals.specs.declared.refutation.Refutation.{Refutation}
 use Rattle.mate_refusals.specs.declared.refutation.Refutation.TheVariants as refutation

@@ -5,7 +5,7 @@ ghost use Rattle.mate_files.specs.Pen.{Prints};
 ghost use Rattle.mate_refusals.specs.Refutations.{node_words};
 
 use crate::line_ends::print_numbered;
-use audit_verdict::Law;
+use mate_journal::Law;
 use mate_files::{Pen, Sink};
 
 /// Why a report is refuted.

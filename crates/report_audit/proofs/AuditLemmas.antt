@@ -8,8 +8,8 @@ use Rattle.mate_journal.specs.Log.{Log}
 use Rattle.mate_journal.specs.declared.program.Program.{Program}
 use Rattle.mate_journal.specs.declared.report.Report.{Report}
 use Rattle.audit_rules.specs.Verdicts.{LogKeepsAll, LogFails, NodesKeep}
-use Rattle.audit_verdict.specs.declared.law.Law.{Law}
-use Rattle.audit_verdict.specs.declared.law.Law.TheVariants as law
+use Rattle.mate_journal.specs.declared.law.Law.{Law}
+use Rattle.mate_journal.specs.declared.law.Law.TheVariants as law
 
 -- the tests in their order
 abbrev pub first_of_tests : Bool → Bool → Bool → Bool → Bool → Option Law

@@ -7,11 +7,11 @@ use Rattle.mate_num.specs.declared.store.Store.{Store}
 use Rattle.mate_journal.specs.Grants.{started_number}
 use Rattle.mate_journal.specs.Journal.{TimedEntry, journal_of, journal_entry}
 use Rattle.mate_journal.specs.declared.entry.Stamped.{Stamped}
-use Rattle.audit_finite.specs.Granting.{is_granted, grants_in_order}
-use Rattle.audit_finite.specs.Rerun.{runs_right, serial_after, replays_right}
-use Rattle.audit_finite.specs.Roll as told
-use Rattle.audit_finite.specs.Roll.{nobody, rolled}
-use Rattle.audit_finite.specs.Shown.{HasLengthsOf, shows_right, stores_right}
+use Rattle.audit_rules.specs.Granting.{is_granted, grants_in_order}
+use Rattle.audit_rules.specs.Rerun.{runs_right, serial_after, replays_right}
+use Rattle.audit_rules.specs.Roll as told
+use Rattle.audit_rules.specs.Roll.{nobody, rolled}
+use Rattle.audit_rules.specs.Shown.{HasLengthsOf, shows_right, stores_right}
 use Rattle.audit_rules.specs.Tests.{conflict_of}
 use Rattle.audit_roll.specs.Views.{roll_in}
 use Rattle.audit_programs.specs.Trials.{HasReadUpTo, machine_for, events_from, told_at}

@@ -7,7 +7,7 @@ use Rattle.mate_journal.specs.Log.{Log}
 use Rattle.mate_journal.specs.declared.entry.Stamped.{Stamped}
 use Rattle.mate_journal.specs.declared.program.Program.{Program}
 use Rattle.journal_laws.specs.Growth.{event_of}
-use Rattle.audit_finite.specs.Roll.{Roll, nobody, rolled}
+use Rattle.audit_rules.specs.Roll.{Roll, nobody, rolled}
 use Rattle.audit_rules.specs.Tests.{installs_right, images_right}
 use Rattle.report_audit.specs.Versions.{HasVersions}
 

@@ -1,7 +1,7 @@
 -- The versions that are installed, by the number of their handler.
 use Rattle.std.specs.Prelude.{◌≡◌, ◌<◌, ℕ, List, length, slice_index_or}
 use Rattle.mate_num.specs.declared.id.HandlerId.{HandlerId}
-use Rattle.audit_finite.specs.Roll.{Roll}
+use Rattle.audit_rules.specs.Roll.{Roll}
 use Rattle.audit_rules.specs.Tests.{version_installed}
 
 -- the list has the version of each of 8 handlers, 0 for none

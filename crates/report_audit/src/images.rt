@@ -6,7 +6,7 @@ ghost use Rattle.mate_journal.specs.Journal.{journal_of, journal_entry};
 ghost use Rattle.mate_journal.specs.Tidy.{IsTidyLog};
 ghost use Rattle.journal_laws.specs.Growth.{IsNamedBelow};
 ghost use Rattle.node_programs.specs.Sources.{is_held_as};
-ghost use Rattle.audit_finite.specs.Roll.{Roll, nobody, rolled};
+ghost use Rattle.audit_rules.specs.Roll.{Roll, nobody, rolled};
 ghost use Rattle.audit_rules.specs.Tests as told;
 ghost use Rattle.audit_roll.specs.Views.{HasHandlerBelow};
 ghost use Rattle.report_audit.specs.Versions.{HasVersions};

@@ -4,17 +4,16 @@ ghost use Rattle.std.specs.Prelude.{◌≡◌, ◌&&◌, length, Some, None, IfO
 ghost use Rattle.std.specs.List.{All};
 ghost use Rattle.mate_journal.specs.Journal.{journal_entry};
 ghost use Rattle.journal_laws.specs.Growth.{IsNamedBelow};
-ghost use Rattle.audit_finite.specs.Granting as grant;
-ghost use Rattle.audit_finite.specs.Shown as seen;
-ghost use Rattle.audit_finite.specs.Shown.{HasLengthsOf};
+ghost use Rattle.audit_rules.specs.Granting as grant;
+ghost use Rattle.audit_rules.specs.Shown as seen;
+ghost use Rattle.audit_rules.specs.Shown.{HasLengthsOf};
 ghost use Rattle.audit_programs.specs.Trials.{IsTried, HasReadUpTo, HasKept, IsSeatReady, machine_for};
 ghost use Rattle.audit_roll.specs.Views.{roll_in};
-ghost use Rattle.audit_verdict.specs.declared.law.Law.TheVariants as law;
+ghost use Rattle.mate_journal.specs.declared.law.Law.TheVariants as law;
 ghost use Rattle.audit_rules.specs.Tests.{conflict_of, failed_by};
 
-use audit_grants::{all_held_back, is_granted, start_of};
+use crate::{all_held_back, all_so_far, is_granted, run_at, shows_right, start_of, zero_store};
 use audit_programs::{ReadyRoll, Trial};
-use audit_replay::{all_so_far, run_at, shows_right, zero_store};
 use audit_rules::Law;
 use mate_journal::Entry;
 use mate_num::{NoMemory, Store};

@@ -10,3 +10,4 @@ pub mod ItemLemmas
 pub mod WrittenWords
 pub mod WrittenFields
 pub mod WrittenStores
+pub mod SpellingLemmas

@@ -10,7 +10,7 @@ use Rattle.std.proofs.lemmas.Str.Parse.{IsNumeralModel, numerals_by_value}
 use Rattle.std.proofs.lemmas.Fmt.{digits_decimal, digits_value-decimal, decimal-digits_value, decimal_nonempty, first_decimal, decimal_digit}
 use Rattle.std.proofs.lemmas.Bool.{and_parts, and_from, lt-ltb, eqb-true, cond-true, cond-false, cases_Bool, cases_lt}
 use Rattle.std.proofs.lemmas.Bool.Decides.{nat_tests}
-use Rattle.decimal_text.specs.Spelling.{spelled}
+use Rattle.report_fields.specs.Spelling.{spelled}
 use Rattle.report_fields.specs.Numbers.{is_plain_numeral, has_plain_lead, below_limit, unsigned_of, below_of, negative, positive, value_of}
 use Rattle.report_fields.proofs.OptionLemmas.{steps, when_some, below_some}
 

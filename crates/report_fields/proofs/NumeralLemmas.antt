@@ -5,7 +5,7 @@ use Rattle.std.proofs.lemmas.Bool.Decides.{Decides-eqb}
 use Rattle.std.specs.Char.{is_ascii_digit}
 use Rattle.std.specs.List.{list_all, prefix_len}
 use Rattle.std.specs.Str.Parse.{digits_value}
-use Rattle.decimal_text.specs.Spelling.{spelled}
+use Rattle.report_fields.specs.Spelling.{spelled}
 use Rattle.report_fields.specs.Numbers.{has_plain_lead, unsigned_of}
 use Rattle.report_fields.specs.Numerals.{IsLeading, IsFirstNumeral}
 use Rattle.report_fields.specs.Words.{words_left, first, rest}

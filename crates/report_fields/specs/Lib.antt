@@ -5,3 +5,4 @@ pub mod Hex
 pub mod Names
 pub mod Fields
 pub mod Stores
+pub mod Spelling

@@ -5,6 +5,7 @@ pub mod fields;
 mod hex_words;
 mod names;
 pub mod numbers;
+mod spelling;
 pub mod store_words;
 pub mod words;
 

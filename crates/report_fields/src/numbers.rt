@@ -5,7 +5,7 @@ ghost use Rattle.std.specs.Char.{is_ascii_digit, digit_value};
 ghost use Rattle.report_fields.specs.Numbers.{has_plain_lead, unsigned_of, below_of, negative, positive, value_of};
 ghost use Rattle.report_fields.specs.Numerals.{IsLeading, IsFirstNumeral};
 
-use decimal_text::spelled;
+use crate::spelling::spelled;
 
 /// Whether the word is one byte, or more that do not begin with `0`.
 fn has_plain_lead(word: &[u8]) -> bool

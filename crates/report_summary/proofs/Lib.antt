@@ -1,2 +1,3 @@
 pub mod TallyLemmas
 pub mod SummaryLemmas
+pub mod WritingLemmas

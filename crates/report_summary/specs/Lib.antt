@@ -1,3 +1,4 @@
 pub mod Tally
 pub mod Summary
 pub mod Runs
+pub mod Writing

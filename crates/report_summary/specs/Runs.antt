@@ -1,7 +1,7 @@
 -- What was counted of a run.
 use Rattle.vm_desc.specs.declared.description.Description.{Description}
 use Rattle.mate_journal.specs.declared.report.Report.{Report}
-use Rattle.run_writing.specs.Writing.{OfRun, IsEnded}
+use Rattle.report_summary.specs.Writing.{OfRun, IsEnded}
 use Rattle.report_summary.specs.Summary.{IsSmall, SumsReport}
 use Rattle.report_summary.specs.declared.summary.Summary.{Summary}
 

@@ -1,8 +1,12 @@
-//! The summary of a report, counted while its run goes on.
+//! The report of a run: written while the run goes on, and summed up.
 #![tactic(auto)]
 
+pub mod pass;
 pub mod summary;
 pub mod tally;
+pub mod write_fault;
 
+pub use pass::{Pass, nothing_run};
 pub use summary::{RunTally, Summary};
 pub use tally::{AirTally, LogTally};
+pub use write_fault::{WriteFault, ended, stopped};

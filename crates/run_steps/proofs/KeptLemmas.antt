@@ -17,9 +17,9 @@ use Rattle.node_invariant.specs.Meaning.{machine_in}
 use Rattle.node_invariant.specs.Keeps.{event_at}
 use Rattle.open_node.specs.Journal.{KeepsJournal}
 use Rattle.open_node.specs.View.{NodeView, IsSameNode, Tells}
-use Rattle.report_ranges.specs.Growth.{IsSizeOf, IsInRangeFrom, IsInRange}
-use Rattle.report_ranges.specs.declared.growth.LogSize.{LogSize}
-use Rattle.report_ranges.proofs.GrowthLemmas.{same-in-range, forgotten-in-range, log-goes-on}
+use Rattle.journal_laws.specs.InRange.{IsSizeOf, IsInRangeFrom, IsInRange}
+use Rattle.journal_laws.specs.declared.growth.LogSize.{LogSize}
+use Rattle.journal_laws.proofs.GrowthLemmas.{same-in-range, forgotten-in-range, log-goes-on}
 use Rattle.open_node.proofs.KeptLemmas.{entries-kept}
 use Rattle.report_text.specs.Words.{stamp_words, handler_name, number, word, image_word, image_text, seen_words, entry_words}
 use Rattle.report_text.specs.Text.{entry_line, event_piece}

@@ -33,8 +33,8 @@ use Rattle.node_invariant.specs.Keeps.{reading, IsTimely}
 use Rattle.open_node.specs.View.{NodeView, heard_of, HasPace, Tells}
 use Rattle.open_node.specs.Calls.{Pacing}
 use Rattle.open_node.specs.Journal.{KeepsJournal}
-use Rattle.report_ranges.specs.Growth.{IsInRange}
-use Rattle.report_ranges.proofs.GrowthLemmas.{none-in-range}
+use Rattle.journal_laws.specs.InRange.{IsInRange}
+use Rattle.journal_laws.proofs.GrowthLemmas.{none-in-range}
 use Rattle.node_programs.specs.ScriptSteps.{AreProgramsOf, step_of, steps_of}
 use Rattle.node_programs.specs.Sources.{meaning_by}
 use Rattle.node_programs.proofs.MeaningLemmas.{meaning_by-right}

@@ -20,7 +20,7 @@ use Rattle.journal_laws.specs.Growth.{EndsWithPace}
 use Rattle.node_invariant.specs.Meaning.{machine_in}
 use Rattle.node_invariant.specs.Keeps.{IsTimely}
 use Rattle.open_node.specs.View.{NodeView, heard_of, HasPace}
-use Rattle.report_ranges.specs.Growth.{IsInRange}
+use Rattle.journal_laws.specs.InRange.{IsInRange}
 use Rattle.node_programs.specs.Sources.{meaning_by}
 use Rattle.node_programs.specs.ScriptSteps.{AreProgramsOf, step_of, steps_of}
 

@@ -2,3 +2,4 @@ pub mod WalkLemmas
 pub mod AirLemmas
 pub mod ChangeLemmas
 pub mod StartLemmas
+pub mod CallLemmas

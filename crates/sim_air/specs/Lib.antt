@@ -1,3 +1,4 @@
 pub mod Air
 pub mod Changes
 pub mod Starting
+pub mod Calls

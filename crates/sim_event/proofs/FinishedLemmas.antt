@@ -22,8 +22,8 @@ use Rattle.world_rules.specs.State.{Moment, WorldState, node_at, effect_at, mess
 use Rattle.sim_air.specs.Air.{radio_event, timed_events, aired_at, SendsAll}
 use Rattle.sim_air.specs.Changes.{AddsToAir, CancelsAll, if_begins}
 use Rattle.sim_air.specs.declared.changes.Ends.{Ends}
-use Rattle.sim_calls.specs.declared.calls.Calls.{Calls}
-use Rattle.sim_calls.specs.Calls.{AreCallsOf}
+use Rattle.sim_air.specs.declared.calls.Calls.{Calls}
+use Rattle.sim_air.specs.Calls.{AreCallsOf}
 use Rattle.sim_mote.specs.declared.effect.Effect.{Effect}
 use Rattle.sim_mote.specs.declared.mote.Mote.{Mote}
 use Rattle.sim_event.specs.Pieces.{length_of, interval_items, period_items, pump_items}

@@ -13,7 +13,7 @@ use Rattle.world_rules.specs.State.{Moment, WorldState, node_at, effect_at, air_
 use Rattle.world_rules.specs.State.{after_moment}
 use Rattle.sim_air.specs.Air.{radio_event, aired_at, IsAirOf, AreFitPackets}
 use Rattle.sim_air.specs.Changes.{AreNear}
-use Rattle.sim_calls.specs.Calls.{AreCallsOf}
+use Rattle.sim_air.specs.Calls.{AreCallsOf}
 use Rattle.journal_laws.specs.Waiting.{WaitApart, AreAwaited, asked_of}
 use Rattle.sim_handling.specs.Handling.{IsEffectOf}
 use Rattle.sim_mote.specs.declared.effect.Effect.{Effect}

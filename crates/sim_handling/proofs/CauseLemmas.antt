@@ -39,7 +39,7 @@ use Rattle.world_rules.specs.Effect.{Node, NodeEffect, Deed, Nothing, no_effect,
 use Rattle.world_rules.specs.Run.{DeedMakes}
 use Rattle.world_rules.specs.State.{timer_after, is_pump}
 use Rattle.sim_air.specs.Air.{radio_event}
-use Rattle.sim_calls.specs.Calls.{AreCallsOf}
+use Rattle.sim_air.specs.Calls.{AreCallsOf}
 use Rattle.world_state_laws.specs.Coming.{code_world, MayComeTo, AwaitsAlone}
 use Rattle.sim_mote.specs.declared.effect.Effect.{Effect}
 use Rattle.sim_mote.specs.declared.mote.Mote.{Mote}

@@ -26,7 +26,7 @@ use Rattle.capsule_exchange.specs.Knowledge.{knowledge, held_of, Learns, with_se
 use Rattle.vm_desc.specs.declared.description.Description.{Description}
 use Rattle.world_rules.specs.World.{World}
 use Rattle.world_rules.specs.State.{is_some_length}
-use Rattle.sim_calls.specs.Calls.{AreCallsOf}
+use Rattle.sim_air.specs.Calls.{AreCallsOf}
 use Rattle.sim_mote.specs.declared.effect.Effect.{Effect}
 use Rattle.sim_mote.specs.declared.mote.Mote.{Mote}
 

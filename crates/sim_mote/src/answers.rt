@@ -13,7 +13,7 @@ ghost use Rattle.open_node.specs.Calls.{told_by_entries};
 ghost use Rattle.vm_desc.specs.declared.description.Description.{Description as Machine};
 ghost use Rattle.world_rules.specs.World.{World};
 ghost use Rattle.world_rules.specs.State.{answers_due, calls_in};
-ghost use Rattle.sim_calls.specs.Calls.{AreCallsOf, HasSensors};
+ghost use Rattle.sim_air.specs.Calls.{AreCallsOf, HasSensors};
 ghost use Rattle.sim_air.specs.Air.{timed_event, timed_events};
 ghost use Rattle.sim_air.specs.Changes.{AddsToAir};
 ghost use Rattle.journal_laws.specs.Waiting.{WaitApart, WaitsWithin, IsAwaitedBy, AreAwaited, asked_of};
@@ -24,7 +24,7 @@ use mate_num::{CONTEXTS_MAX, ContextId, FunId, NoMemory};
 use open_node::OpenNode;
 use radio_sim::{Event, Radio};
 use sim_air::schedule;
-use sim_calls::Calls;
+use sim_air::Calls;
 use vm_desc::Description;
 use world_script::Series;
 

@@ -22,7 +22,7 @@ use mate_journal::Air;
 use mate_num::{ContextId, HandlerId, Image, NoMemory, Payload, Stamp};
 use open_node::OpenNode;
 use packet_codec::Packet;
-use sim_calls::Calls;
+use sim_air::Calls;
 use std::alloc::Global;
 use trickle_timer::{Fire, Trickle};
 use vm_desc::Description;

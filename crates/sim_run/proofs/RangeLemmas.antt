@@ -18,9 +18,9 @@ use Rattle.open_node.specs.Calls.{Pacing}
 use Rattle.open_node.specs.Journal.{KeepsJournal}
 use Rattle.event_queue.proofs.WheelLemmas.{slice_get_set_same}
 use Rattle.radio_sim.specs.Radio.{Ether}
-use Rattle.report_ranges.specs.Growth.{IsSizeOf, IsInRangeFrom, IsInRange}
-use Rattle.report_ranges.specs.declared.growth.LogSize.{LogSize}
-use Rattle.report_ranges.proofs.GrowthLemmas.{none-in-range, forgotten-in-range, log-goes-on, at-hand, goes-on}
+use Rattle.journal_laws.specs.InRange.{IsSizeOf, IsInRangeFrom, IsInRange}
+use Rattle.journal_laws.specs.declared.growth.LogSize.{LogSize}
+use Rattle.journal_laws.proofs.GrowthLemmas.{none-in-range, forgotten-in-range, log-goes-on, at-hand, goes-on}
 use Rattle.world_laws.proofs.Among.{all-at}
 use Rattle.sim_mote.specs.Motes.{TellsAlone}
 use Rattle.sim_mote.specs.declared.mote.Mote.{Mote}

@@ -1,7 +1,7 @@
 -- What the nodes and the radio of a world recorded is in the ranges of its types.
 use Rattle.std.specs.Prelude.{◌≤◌, List, length, All}
 use Rattle.mate_journal.specs.Ranges.{HasAiredRanges}
-use Rattle.report_ranges.specs.Growth.{IsInRange}
+use Rattle.journal_laws.specs.InRange.{IsInRange}
 use Rattle.sim_mote.specs.declared.mote.Mote.{Mote}
 use Rattle.sim_run.specs.declared.simulation.Simulation.{Simulation}
 

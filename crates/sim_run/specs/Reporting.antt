@@ -8,7 +8,7 @@ use Rattle.mate_journal.specs.declared.report.Report.{Report}
 use Rattle.node_invariant.specs.Meaning.{machine_in}
 use Rattle.open_node.specs.View.{heard_of, Tells}
 use Rattle.open_node.specs.Calls.{Pacing}
-use Rattle.report_ranges.specs.Growth.{IsInRange}
+use Rattle.journal_laws.specs.InRange.{IsInRange}
 use Rattle.sim_mote.specs.declared.mote.Mote.{Mote}
 use Rattle.sim_run.specs.declared.simulation.Simulation.{Simulation}
 

@@ -14,7 +14,7 @@ ghost use Rattle.sim_run.specs.Reporting.{ShowsOneStore, ShowStores, told_report
 use crate::simulation::Simulation;
 use mate_journal::{NodeLogs, Report};
 use mate_num::{NoMemory, Stamp};
-use report_ranges::{LogSize, log_is_in_range_from, report_is_in_range};
+use journal_laws::{LogSize, log_is_in_range_from, report_is_in_range};
 use sim_mote::Mote;
 
 /// How many entries a log has at most when a store is seen.

@@ -26,7 +26,7 @@ use mate_num::{NoMemory, Stamp};
 use open_node::OpenNode;
 use packet_codec::Packet;
 use radio_sim::{Event, Radio};
-use report_ranges::{LogSize, air_is_in_range_from, log_is_in_range_from};
+use journal_laws::{LogSize, air_is_in_range_from, log_is_in_range_from};
 use sim_air::{begin_node, schedule_lines};
 use sim_event::perform;
 use sim_mote::{Effect, Mote};

@@ -7,12 +7,12 @@ use Rattle.script_reader.specs.Words.{WordReading, TakenWords, a_number}
 use Rattle.script_reader.specs.declared.fault.Cause.{Cause}
 use Rattle.script_reader.specs.declared.fault.Cause.TheVariants.{Node, Range}
 use Rattle.world_script.specs.declared.world.What.TheVariants.{Show}
-use Rattle.world_lines.specs.declared.command.Command.{Command}
-use Rattle.world_lines.specs.declared.refusal.Refusal.{Refusal}
-use Rattle.world_lines.specs.declared.refusal.Refusal.TheVariants as refusal
-use Rattle.world_lines.specs.Draft.{ReadsWithMemory, world_said_of}
-use Rattle.world_lines.specs.WorldLines.{WorldSaid, SaysPlanned, a_link, a_far_end, a_setting, an_event, behind_time, at_node, a_world_line}
-use Rattle.world_lines.specs.WorldWords.{a_node, a_time}
+use Rattle.world_reader.specs.declared.command.Command.{Command}
+use Rattle.world_reader.specs.declared.refusal.Refusal.{Refusal}
+use Rattle.world_reader.specs.declared.refusal.Refusal.TheVariants as refusal
+use Rattle.world_reader.specs.Draft.{ReadsWithMemory, world_said_of}
+use Rattle.world_reader.specs.WorldLines.{WorldSaid, SaysPlanned, a_link, a_far_end, a_setting, an_event, behind_time, at_node, a_world_line}
+use Rattle.world_reader.specs.WorldWords.{a_node, a_time}
 use Rattle.world_callers.specs.Lines.{linked_world, RefusesLine}
 
 pub refused_line : (cause : Cause) (reading : WordReading WorldSaid) (before after : List (List ℕ)) (r : Result Command Refusal) → reading before ≡ Err cause

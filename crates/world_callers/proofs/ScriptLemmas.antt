@@ -12,8 +12,8 @@ use Rattle.script_reader.specs.declared.fault.Cause.TheVariants.{OldVersion, Tim
 use Rattle.script_reader.specs.declared.fault.ScriptFault.{ScriptFault}
 use Rattle.script_reader.specs.declared.fault.ScriptFault.TheVariants.{BadLine, NoMemory}
 use Rattle.world_script.specs.declared.world.World.{World}
-use Rattle.world_lines.specs.WorldLines.{some_nodes, a_random, an_until, a_series, a_setting, an_event, an_injection, behind_time, at_node, a_world_line}
-use Rattle.world_lines.specs.WorldWords.{a_node, a_time, a_sensor, sensor_from}
+use Rattle.world_reader.specs.WorldLines.{some_nodes, a_random, an_until, a_series, a_setting, an_event, an_injection, behind_time, at_node, a_world_line}
+use Rattle.world_reader.specs.WorldWords.{a_node, a_time, a_sensor, sensor_from}
 use Rattle.world_reader.specs.WorldScript.{after_world_line, world_script_in}
 use Rattle.world_rules.specs.World.{series_in}
 use Rattle.world_callers.specs.Lines.{RefusesWorld, backwards, injected_again, two_series}

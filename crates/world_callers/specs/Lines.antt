@@ -4,11 +4,11 @@ use Rattle.script_reader.specs.declared.fault.Cause.{Cause}
 use Rattle.script_reader.specs.declared.fault.ScriptFault.{ScriptFault}
 use Rattle.script_reader.specs.declared.fault.ScriptFault.TheVariants as fault
 use Rattle.world_script.specs.declared.world.World.{World}
-use Rattle.world_lines.specs.declared.command.Command.{Command}
-use Rattle.world_lines.specs.declared.refusal.Refusal.{Refusal}
-use Rattle.world_lines.specs.declared.refusal.Refusal.TheVariants as refusal
-use Rattle.world_lines.specs.declared.stage.Stage.TheVariants.{Settings}
-use Rattle.world_lines.specs.WorldLines.{WorldProgress}
+use Rattle.world_reader.specs.declared.command.Command.{Command}
+use Rattle.world_reader.specs.declared.refusal.Refusal.{Refusal}
+use Rattle.world_reader.specs.declared.refusal.Refusal.TheVariants as refusal
+use Rattle.world_reader.specs.declared.stage.Stage.TheVariants.{Settings}
+use Rattle.world_reader.specs.WorldLines.{WorldProgress}
 
 -- 3 nodes with a link from 0 to 1, up to 9 ms, of which 5 are over
 abbrev pub linked_world : WorldProgress

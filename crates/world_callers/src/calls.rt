@@ -6,10 +6,10 @@ ghost use Rattle.mate_num.specs.declared.id.FunId.{FunId as FunName};
 ghost use Rattle.vm_desc.specs.declared.function.FunKind.TheVariants as kind;
 ghost use Rattle.world_rules.specs.State.{series_value};
 ghost use Rattle.world_rules.specs.World.{World, called_kind, stream_word};
-ghost use Rattle.sim_calls.specs.Calls.{AreCallsOf, HasSensors, words_taken};
+ghost use Rattle.sim_air.specs.Calls.{AreCallsOf, HasSensors, words_taken};
 
 use mate_num::FunId;
-use sim_calls::{CallAnswer, Calls};
+use sim_air::{CallAnswer, Calls};
 use vm_desc::Description;
 use world_script::Series;
 

@@ -2,13 +2,13 @@
 
 ghost use Rattle.std.specs.Prelude.{◌≡◌, IfErr};
 ghost use Rattle.script_reader.specs.declared.fault.Cause.TheVariants.{Node, Range};
-ghost use Rattle.world_lines.specs.declared.refusal.Refusal.TheVariants.{NoMemory};
-ghost use Rattle.world_lines.specs.Draft.{world_progress_of, KeepsWorld, AreTables};
+ghost use Rattle.world_reader.specs.declared.refusal.Refusal.TheVariants.{NoMemory};
+ghost use Rattle.world_reader.specs.Draft.{world_progress_of, KeepsWorld, AreTables};
 ghost use Rattle.world_callers.specs.Lines.{linked_world, RefusesLine};
 
 use script_reader::Words;
 use vm_desc::Description;
-use world_lines::{Command, Draft, Refusal};
+use world_reader::{Command, Draft, Refusal};
 
 /// A link from 0 to 1 stands already.
 pub fn a_link_stands_once(draft: &Draft, desc: &Description) -> Result<Command<'static>, Refusal>

@@ -7,3 +7,15 @@ pub mod Arrivals
 pub mod Timing
 pub mod Packets
 pub mod Given
+pub mod Newest
+pub mod Versions
+pub mod Held
+pub mod Installs
+pub mod Lines
+pub mod Transmissions
+pub mod PacketRecords
+pub mod TimerRecords
+pub mod Hops
+pub mod Spread
+pub mod HopBound
+pub mod Premises

@@ -6,7 +6,7 @@ use Rattle.std.proofs.lemmas.Bool.{cases_lt}
 use Rattle.std.proofs.lemmas.List.{length-replicate, length_push}
 use Rattle.std.proofs.lemmas.List.Elements.{All-nil, All-cons, All-append, All-weaker}
 use Rattle.world_maker.specs.Source.{source_of, source_with, source_head, assignment, first_sensor}
-use Rattle.world_maker_laws.proofs.NameLemmas.{name_is_one, sensor_name}
+use Rattle.world_maker.proofs.NameLemmas.{name_is_one, sensor_name}
 use Rattle.std.specs.List.{list_all}
 use Rattle.std.proofs.lemmas.Bool.{and_parts}
 use Rattle.vm_desc.specs.Names.{is_name}
@@ -24,7 +24,7 @@ use Rattle.mate_steps.specs.declared.code.CompiledScript.{CompiledScript}
 use Rattle.mate_steps.proofs.AcceptanceLemmas.{one_tree, apart}
 use Rattle.node_programs.specs.Right.{IsRightProgram, AreRightPrograms}
 use Rattle.script_programs.specs.Programs.{IsInstalled}
-use Rattle.world_maker_laws.specs.Sound.{IsSoundSource}
+use Rattle.world_maker.specs.Sound.{IsSoundSource}
 use Rattle.ts_checker.specs.Accepted.{IsAccepted}
 use Rattle.ts_compiler.specs.Compiled.{NeedsDeeperStack, HasLongCode}
 use Rattle.ts_compiler.specs.declared.fault.CompileFault.{CompileFault}

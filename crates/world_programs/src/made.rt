@@ -5,7 +5,7 @@ ghost use Rattle.world_maker.specs.Source.{source_of};
 ghost use Rattle.mate_refusals.specs.declared.refusal.Refusal.TheVariants.{NoMemory};
 ghost use Rattle.mate_steps.specs.Steps.{obtained};
 ghost use Rattle.node_programs.specs.Right.{IsRightProgram};
-ghost use Rattle.world_maker_laws.specs.Sound.{IsSoundSource};
+ghost use Rattle.world_maker.specs.Sound.{IsSoundSource};
 ghost use Rattle.vm_desc.specs.declared.description.Description.{Description as DescriptionValue};
 ghost use Rattle.world_maker.specs.Made.{made_sources};
 ghost use Rattle.world_programs.specs.Made.{made, IsMadeOf, AreOfVersion, AreOfVersions};
@@ -19,7 +19,7 @@ use script_programs::SharedSource;
 use std::alloc::Global;
 use vm_desc::Description;
 use world_maker::generate;
-use world_maker_laws::sources_law;
+use world_maker::sources_law;
 use world_script::World;
 
 /// A world with its programs.

@@ -24,11 +24,11 @@ use Rattle.script_reader.specs.NodeScript.{with_file}
 use Rattle.script_reader.specs.NodeReader.{files_after}
 use Rattle.script_reader.specs.Script.{AnswersScript}
 use Rattle.script_reader.proofs.StepLemmas.{length-with_file, files_grow}
-use Rattle.world_lines.specs.declared.stage.Stage.{Stage}
-use Rattle.world_lines.specs.declared.stage.Stage.TheVariants as stage
-use Rattle.world_lines.specs.WorldLines.{WorldSaid, SaysNodes, SaysRandom, SaysUntil, SaysSuppress, SaysLink, SaysSeries, SaysPlanned, WorldProgress, is_linked, is_free}
+use Rattle.world_reader.specs.declared.stage.Stage.{Stage}
+use Rattle.world_reader.specs.declared.stage.Stage.TheVariants as stage
+use Rattle.world_reader.specs.WorldLines.{WorldSaid, SaysNodes, SaysRandom, SaysUntil, SaysSuppress, SaysLink, SaysSeries, SaysPlanned, WorldProgress, is_linked, is_free}
 use Rattle.vm_desc.proofs.ListLemmas.{AllPairs-head, AllPairs-tail}
-use Rattle.world_lines.specs.Draft.{is_of_pair, HasNoLists, IsBare, IsNotedAt, KeepsWorld, IsRightEvent, IsRightWorldSaid}
+use Rattle.world_reader.specs.Draft.{is_of_pair, HasNoLists, IsBare, IsNotedAt, KeepsWorld, IsRightEvent, IsRightWorldSaid}
 use Rattle.world_reader.specs.WorldScript.{turned_back, links_of, with_series, newest_with, with_told, no_world, world_at_end, HasPlace}
 
 -- ---- lists

@@ -1,3 +1,4 @@
 pub mod SeriesLemmas
 pub mod KeepsLemmas
 pub mod LineEnd
+pub mod ValueLemmas

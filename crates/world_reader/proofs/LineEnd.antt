@@ -7,9 +7,9 @@ use Rattle.script_reader.specs.Lines.{lines, split_words, is_skipped}
 use Rattle.script_reader.specs.Script.{FollowsLine}
 use Rattle.script_reader.proofs.LineLemmas.{IsAt, goes_on}
 use Rattle.script_reader.proofs.StepLemmas.{length-with_file, few_files}
-use Rattle.world_lines.specs.WorldLines.{WorldSaid, SaysNodes, SaysRandom, SaysUntil, SaysSuppress, SaysLink, SaysSeries, SaysPlanned, WorldProgress, a_world_line}
+use Rattle.world_reader.specs.WorldLines.{WorldSaid, SaysNodes, SaysRandom, SaysUntil, SaysSuppress, SaysLink, SaysSeries, SaysPlanned, WorldProgress, a_world_line}
 use Rattle.world_reader.specs.WorldScript.{with_told, when_told, after_world_line, no_world, world_at_end, world_script_in}
-use Rattle.world_lines.specs.Draft.{KeepsWorld, IsRightWorldSaid}
+use Rattle.world_reader.specs.Draft.{KeepsWorld, IsRightWorldSaid}
 use Rattle.world_reader.proofs.KeepsLemmas.{keeps_told, keeps_no_world}
 
 -- what was planned and named before a line with a number

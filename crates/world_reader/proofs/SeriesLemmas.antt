@@ -7,8 +7,8 @@ use Rattle.std.proofs.Math.Seq.{take-suc}
 use Rattle.world_script.specs.declared.world.World.{World}
 use Rattle.world_script.specs.declared.world.Series.{Series}
 use Rattle.world_script.specs.World.{with_values}
-use Rattle.world_lines.specs.WorldLines.{WorldProgress, is_linked}
-use Rattle.world_lines.specs.Draft.{is_of_pair, place_from, AreTables}
+use Rattle.world_reader.specs.WorldLines.{WorldProgress, is_linked}
+use Rattle.world_reader.specs.Draft.{is_of_pair, place_from, AreTables}
 use Rattle.world_reader.specs.WorldScript.{with_series}
 
 -- ---- values behind a series

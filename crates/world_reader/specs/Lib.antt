@@ -1,1 +1,4 @@
 pub mod WorldScript
+pub mod WorldWords
+pub mod WorldLines
+pub mod Draft

@@ -14,11 +14,11 @@ use Rattle.script_reader.specs.Lines.{lines, is_skipped}
 use Rattle.script_reader.specs.Script.{script_from}
 use Rattle.script_reader.specs.Words.{TakenWords}
 use Rattle.script_reader.specs.NodeScript.{with_file}
-use Rattle.world_lines.specs.declared.stage.Stage.{Stage}
-use Rattle.world_lines.specs.declared.stage.Stage.TheVariants as stage
-use Rattle.world_lines.specs.WorldLines.{WorldSaid, SaysNodes, SaysRandom, SaysUntil, SaysSuppress, SaysLink, SaysSeries, SaysPlanned}
-use Rattle.world_lines.specs.WorldLines.{WorldProgress, a_world_line}
-use Rattle.world_lines.specs.Draft.{is_of_pair}
+use Rattle.world_reader.specs.declared.stage.Stage.{Stage}
+use Rattle.world_reader.specs.declared.stage.Stage.TheVariants as stage
+use Rattle.world_reader.specs.WorldLines.{WorldSaid, SaysNodes, SaysRandom, SaysUntil, SaysSuppress, SaysLink, SaysSeries, SaysPlanned}
+use Rattle.world_reader.specs.WorldLines.{WorldProgress, a_world_line}
+use Rattle.world_reader.specs.Draft.{is_of_pair}
 
 abbrev pub turned_back : Link → Link
 turned_back l = record { from = l.to; to = l.from; loss = l.loss }

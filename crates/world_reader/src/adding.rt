@@ -2,13 +2,13 @@
 
 ghost use Rattle.std.specs.Prelude.{◌≡◌, ◌<◌, false, length, IfErr, OnOk, option_map};
 ghost use Rattle.world_script.specs.World.{with_values};
-ghost use Rattle.world_lines.specs.WorldLines.{SaysLink, SaysSeries, SaysPlanned};
-ghost use Rattle.world_lines.specs.Draft.{world_progress_of, world_said_of, AreTables};
+ghost use Rattle.world_reader.specs.WorldLines.{SaysLink, SaysSeries, SaysPlanned};
+ghost use Rattle.world_reader.specs.Draft.{world_progress_of, world_said_of, AreTables};
 ghost use Rattle.world_reader.specs.WorldScript.{newest_with, with_told, HasPlace};
 
+use crate::{Command, Draft, Stage};
 use mate_num::{NoMemory, Text};
 use script_reader::{ScriptFault, note_newest};
-use world_lines::{Command, Draft, Stage};
 use world_script::{Link, Planned, Series, SeriesList, What};
 
 /// Adds what a line says. After `NoMemory` nothing is said of the world so far.

@@ -5,15 +5,15 @@ ghost use Rattle.mate_files.specs.declared.files.TheConstants.{FILE_MAX};
 ghost use Rattle.script_reader.specs.Lines.{split_words};
 ghost use Rattle.script_reader.specs.Script.{AnswersScript, FollowsLine};
 ghost use Rattle.world_script.specs.World.{IsRightWorld};
-ghost use Rattle.world_lines.specs.Draft.{world_progress_of, KeepsWorld, AreTables};
+ghost use Rattle.world_reader.specs.Draft.{world_progress_of, KeepsWorld, AreTables};
 ghost use Rattle.world_reader.specs.WorldScript.{after_world_line, world_script_in, world_at_end, no_world};
 
 use crate::adding::take;
+use crate::{Draft, Refusal, Stage};
 use mate_num::Items;
 use script_reader::{Cause, Lines, ScriptFault, Words};
 use std::alloc::Global;
 use vm_desc::Description;
-use world_lines::{Draft, Refusal, Stage};
 use world_script::{SeriesList, World};
 
 /// The world that the script in `bytes`, of at most 1,048,576 bytes, plans.

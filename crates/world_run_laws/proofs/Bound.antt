@@ -29,17 +29,17 @@ use Rattle.world_laws.specs.Causes.{HasEvent}
 use Rattle.world_laws.specs.Times.{last_time}
 use Rattle.world_laws.proofs.Among.{all-at}
 use Rattle.world_laws.proofs.Points.{earlier-come}
-use Rattle.world_air_laws.specs.PacketRecords.{HasReached}
-use Rattle.world_air_laws.proofs.Arrive.{reached_is_done}
-use Rattle.world_install_laws.specs.Installs.{WasInstalled}
-use Rattle.world_install_laws.specs.Lines.{IsPlanTimely}
-use Rattle.world_install_laws.specs.Versions.{InjectsAt}
-use Rattle.world_install_laws.proofs.Lines.{lines_in_order}
-use Rattle.world_hop_laws.specs.Hops.{IsAway}
-use Rattle.world_hop_laws.specs.HopBound.{IsUndisturbed}
-use Rattle.world_hop_laws.specs.Premises.{IsInjectedProgram, IsOpenScript, IsRightScript, InstalledBy}
-use Rattle.world_hop_laws.proofs.HopBound.{times-rise}
-use Rattle.world_hop_laws.proofs.Premises.{IsPlannedAt, planned-at, SaysInject, says-inject, open_scripts, plans_rightly, injected_is_installed}
+use Rattle.world_laws.specs.PacketRecords.{HasReached}
+use Rattle.world_laws.proofs.Arrive.{reached_is_done}
+use Rattle.world_laws.specs.Installs.{WasInstalled}
+use Rattle.world_laws.specs.Lines.{IsPlanTimely}
+use Rattle.world_laws.specs.Versions.{InjectsAt}
+use Rattle.world_laws.proofs.Lines.{lines_in_order}
+use Rattle.world_laws.specs.Hops.{IsAway}
+use Rattle.world_laws.specs.HopBound.{IsUndisturbed}
+use Rattle.world_laws.specs.Premises.{IsInjectedProgram, IsOpenScript, IsRightScript, InstalledBy}
+use Rattle.world_laws.proofs.HopBound.{times-rise}
+use Rattle.world_laws.proofs.Premises.{IsPlannedAt, planned-at, SaysInject, says-inject, open_scripts, plans_rightly, injected_is_installed}
 use Rattle.world_state_laws.proofs.Programs.{right-script}
 use Rattle.world_run_laws.specs.Bound.{InjectsOn, IsLeftAlone, TellsInstallBy, ReportsKeepTheBound, ReportsShowTheBound}
 use Rattle.world_run_laws.proofs.Journals.{NoFall, HasEntry, holds-installed, journal-climbs, entries-behind, holds-on, entry-before, install-entry}

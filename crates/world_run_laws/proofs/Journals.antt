@@ -15,8 +15,8 @@ use Rattle.world_rules.specs.Effect.{Deed, Nothing, Installing, Posting, Answeri
 use Rattle.world_rules.specs.State.{Moment, node_at, effect_at, state}
 use Rattle.world_rules.specs.Run.{FirstThen, DeedMakes, HaveCome, EndsJournal, IsJournalOf, stamp_of, journal}
 use Rattle.world_laws.proofs.Journals.{journal-here, journal-other, reads_journals}
-use Rattle.world_install_laws.specs.Installs.{TellsInstall}
-use Rattle.world_install_laws.proofs.Agree.{NoInstall, NoneInstall, by_made, occasions-none, installs-rest, settles-none, held-of, held-is}
+use Rattle.world_laws.specs.Installs.{TellsInstall}
+use Rattle.world_laws.proofs.Agree.{NoInstall, NoneInstall, by_made, occasions-none, installs-rest, settles-none, held-of, held-is}
 
 -- ---- one entry
 

@@ -28,9 +28,9 @@ use Rattle.world_laws.proofs.Among.{Among, among-left, among-of_time, none-among
 use Rattle.world_laws.proofs.Comes.{come-along}
 use Rattle.world_laws.proofs.Due.{at}
 use Rattle.world_laws.proofs.Points.{run-past, last-before}
-use Rattle.world_hop_laws.proofs.HopBound.{head-is, tail-is}
-use Rattle.world_install_laws.specs.Lines.{IsPlanTimely}
-use Rattle.world_install_laws.proofs.Lines.{later-lines, lines_in_order}
+use Rattle.world_laws.proofs.HopBound.{head-is, tail-is}
+use Rattle.world_laws.specs.Lines.{IsPlanTimely}
+use Rattle.world_laws.proofs.Lines.{later-lines, lines_in_order}
 
 -- ---- a line is due at the start
 

@@ -23,7 +23,7 @@ use Rattle.world_laws.specs.Times.{last_time}
 use Rattle.world_laws.proofs.Among.{Among, among-append}
 use Rattle.world_laws.proofs.Points.{run-past, last-before}
 use Rattle.world_laws.proofs.Journals.{journal-here, journal-other}
-use Rattle.world_air_laws.specs.PacketRecords.{HasReached}
+use Rattle.world_laws.specs.PacketRecords.{HasReached}
 use Rattle.world_state_laws.specs.SourceWorld.{source_world}
 use Rattle.world_run_laws.specs.Bound.{ShowsTime, whole, aired, told, ShownIsReached}
 

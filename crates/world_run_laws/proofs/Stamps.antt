@@ -6,7 +6,7 @@ use Rattle.world_rules.specs.Effect.{event_node}
 use Rattle.world_rules.specs.State.{Moment, state}
 use Rattle.world_rules.specs.Run.{HaveCome, stamp_of}
 use Rattle.world_laws.specs.Times.{last_time}
-use Rattle.world_hop_laws.proofs.Premises.{right_set}
+use Rattle.world_laws.proofs.Premises.{right_set}
 use Rattle.world_laws.proofs.Points.{last-before, run-timed}
 
 -- the stamp and the node are those of one of the events

@@ -15,9 +15,9 @@ use Rattle.world_script.specs.declared.world.Planned.{Planned}
 use Rattle.world_script.specs.declared.world.What.TheVariants as what
 use Rattle.world_script.specs.World.{IfInjects}
 use Rattle.world_rules.specs.Report.{IsWorldReport}
-use Rattle.world_air_laws.specs.PacketRecords.{HasReached}
-use Rattle.world_hop_laws.specs.Hops.{IsAway}
-use Rattle.world_hop_laws.specs.Premises.{IsOpenScript}
+use Rattle.world_laws.specs.PacketRecords.{HasReached}
+use Rattle.world_laws.specs.Hops.{IsAway}
+use Rattle.world_laws.specs.Premises.{IsOpenScript}
 use Rattle.node_programs.specs.WorldPrograms.{AreProgramsOfWorld}
 use Rattle.world_state_laws.specs.SourceWorld.{source_world}
 

@@ -17,10 +17,10 @@ use Rattle.mate_journal.specs.Tidy.{NumbersInOrder, below}
 use Rattle.mate_files.specs.Sink.{Puts}
 use Rattle.mate_files.specs.declared.sink.SinkFault.{SinkFault}
 use Rattle.run_record.specs.declared.record.Record.{Record}
-use Rattle.run_writing.specs.Writing.{HasWritten, PutsLastLine, WritesReport, lines_before, last_line, write_fault_of}
-use Rattle.run_writing.specs.declared.pass.Pass.{Pass}
-use Rattle.run_writing.specs.declared.write_fault.WriteFault.{WriteFault}
-use Rattle.run_writing.proofs.WritingLemmas.{written-nothing, written-more, stopped-within, ended-whole}
+use Rattle.report_summary.specs.Writing.{HasWritten, PutsLastLine, WritesReport, lines_before, last_line, write_fault_of}
+use Rattle.report_summary.specs.declared.pass.Pass.{Pass}
+use Rattle.report_summary.specs.declared.write_fault.WriteFault.{WriteFault}
+use Rattle.report_summary.proofs.WritingLemmas.{written-nothing, written-more, stopped-within, ended-whole}
 use Rattle.mate_journal.specs.declared.air.Aired.{Aired}
 use Rattle.mate_journal.specs.declared.report.Report.{Report}
 use Rattle.mate_journal.specs.declared.program.Program.{Program}

@@ -19,7 +19,7 @@ use Rattle.radio_sim.specs.Radio.{Ether}
 use Rattle.report_reading.proofs.BackLemmas.{all_lines_same}
 use Rattle.report_text.specs.Words.{stamp_words, handler_name, number, word, image_word, image_text, seen_words, entry_words}
 use Rattle.report_text.specs.Text.{air_line, entry_line, event_piece, lines}
-use Rattle.run_writing.proofs.WritingLemmas.{written-as}
+use Rattle.report_summary.proofs.WritingLemmas.{written-as}
 use Rattle.sim_mote.specs.declared.mote.Mote.{Mote}
 use Rattle.sim_run.specs.Keeping.{LetsGo}
 use Rattle.sim_run.specs.Reporting.{mote_logs}

@@ -10,7 +10,7 @@ use Rattle.mate_journal.specs.Ranges.{HasLogRanges, HasAiredRanges, HasReportRan
 use Rattle.mate_journal.specs.Tidy.{below}
 use Rattle.mate_journal.specs.declared.air.Aired.{Aired}
 use Rattle.mate_journal.specs.declared.report.Report.{Report}
-use Rattle.report_ranges.proofs.GrowthLemmas.{same-ranges}
+use Rattle.journal_laws.proofs.GrowthLemmas.{same-ranges}
 use Rattle.report_reading.specs.Parts.{IsSameReport}
 use Rattle.report_reading.proofs.BackLemmas.{all_lines_same, text_same}
 use Rattle.report_text.specs.Text.{air_line, entry_line, entry_lines, event_lines}
@@ -19,15 +19,15 @@ use Rattle.run_record.proofs.RecordLemmas.{all-long}
 use Rattle.mate_journal.specs.declared.program.Program.{Program}
 use Rattle.node_programs.specs.WorldPrograms.{AreProgramsOfWorld}
 use Rattle.run_record.specs.declared.record.Record.{Record}
-use Rattle.run_writing.specs.declared.pass.Pass.{Pass}
+use Rattle.report_summary.specs.declared.pass.Pass.{Pass}
 use Rattle.world_run_laws.specs.Promise.{IsReportOfWorld}
 use Rattle.world_script.specs.declared.world.World.{World as Script}
 use Rattle.sim_run.specs.Reporting.{told_report}
 use Rattle.world_state_laws.specs.Coming.{code_world}
 use Rattle.world_sim.specs.Writing.{WritesRecorded}
-use Rattle.run_writing.specs.Writing.{OfRun, IsWrittenPart, IsWrittenShort, IsNothingRun, WritesReport, last_event, lines_before, written_text}
-use Rattle.run_writing.specs.declared.write_fault.WriteFault.{WriteFault}
-use Rattle.run_writing.specs.declared.write_fault.WriteFault.TheVariants.{LogFull, NoMemory, Sink}
+use Rattle.report_summary.specs.Writing.{OfRun, IsWrittenPart, IsWrittenShort, IsNothingRun, WritesReport, last_event, lines_before, written_text}
+use Rattle.report_summary.specs.declared.write_fault.WriteFault.{WriteFault}
+use Rattle.report_summary.specs.declared.write_fault.WriteFault.TheVariants.{LogFull, NoMemory, Sink}
 use Rattle.vm_desc.specs.declared.description.Description.{Description}
 use Rattle.world_rules.specs.World.{World}
 use Rattle.world_rules.specs.State.{Moment}

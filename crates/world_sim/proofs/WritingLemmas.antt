@@ -13,11 +13,11 @@ use Rattle.mate_files.specs.declared.sink.SinkFault.{SinkFault}
 use Rattle.report_reading.specs.Parts.{IsSameReport}
 use Rattle.run_record.specs.declared.record.Record.{Record}
 use Rattle.run_record.proofs.RecordLemmas.{all-self}
-use Rattle.run_writing.specs.Writing.{OfRun, PutsLastLine, lines_before, write_fault_of, WritesRun}
-use Rattle.run_writing.specs.declared.pass.Pass.{Pass}
-use Rattle.run_writing.specs.declared.write_fault.WriteFault.{WriteFault}
-use Rattle.run_writing.specs.declared.write_fault.WriteFault.TheVariants.{NoMemory}
-use Rattle.run_writing.proofs.WritingLemmas.{written-more, stopped-within, cut-short, ended-full}
+use Rattle.report_summary.specs.Writing.{OfRun, PutsLastLine, lines_before, write_fault_of, WritesRun}
+use Rattle.report_summary.specs.declared.pass.Pass.{Pass}
+use Rattle.report_summary.specs.declared.write_fault.WriteFault.{WriteFault}
+use Rattle.report_summary.specs.declared.write_fault.WriteFault.TheVariants.{NoMemory}
+use Rattle.report_summary.proofs.WritingLemmas.{written-more, stopped-within, cut-short, ended-full}
 use Rattle.world_text_laws.proofs.EventLemmas.{all_stand, store_lines-next, store_lines-both}
 use Rattle.mate_journal.specs.declared.air.Aired.{Aired}
 use Rattle.mate_journal.specs.declared.program.Program.{Program}

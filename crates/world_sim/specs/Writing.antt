@@ -4,9 +4,9 @@ use Rattle.mate_journal.specs.NodeScript.{RunEnd}
 use Rattle.mate_journal.specs.Ranges.{HasReportRanges}
 use Rattle.report_text.specs.Text.{lines}
 use Rattle.run_record.specs.declared.record.Record.{Record}
-use Rattle.run_writing.specs.Writing.{OfRun, HasWritten, WritesReport}
-use Rattle.run_writing.specs.declared.pass.Pass.{Pass}
-use Rattle.run_writing.specs.declared.write_fault.WriteFault.{WriteFault}
+use Rattle.report_summary.specs.Writing.{OfRun, HasWritten, WritesReport}
+use Rattle.report_summary.specs.declared.pass.Pass.{Pass}
+use Rattle.report_summary.specs.declared.write_fault.WriteFault.{WriteFault}
 use Rattle.vm_desc.specs.declared.description.Description.{Description}
 use Rattle.world_rules.specs.World.{World}
 use Rattle.world_rules.specs.State.{Moment, state}

@@ -24,12 +24,12 @@ use Rattle.world_laws.proofs.Happens.{Happens, nothing, injected, heard, complet
 use Rattle.world_laws.proofs.Origins.{among-get, place-of}
 use Rattle.world_laws.proofs.Packets.{packets_have_reasons}
 use Rattle.world_laws.proofs.Points.{nodes-here, nodes-other, among-next, line-kind, period-kind, earlier-come}
-use Rattle.world_install_laws.specs.Versions.{IsOneImage}
-use Rattle.world_install_laws.specs.Installs.{WasInstalled}
-use Rattle.world_install_laws.proofs.Tame.{of_interval-none, delivered-packet, numbered-among}
-use Rattle.world_install_laws.proofs.Installs.{installs_its_own, held_was_installed}
-use Rattle.world_install_laws.proofs.Injected.{IsOfInjected}
-use Rattle.world_install_laws.proofs.Versions.{node-hears, IsInjectedWorld, run-injected, installs_injected}
+use Rattle.world_laws.specs.Versions.{IsOneImage}
+use Rattle.world_laws.specs.Installs.{WasInstalled}
+use Rattle.world_laws.proofs.Tame.{of_interval-none, delivered-packet, numbered-among}
+use Rattle.world_laws.proofs.Installs.{installs_its_own, held_was_installed}
+use Rattle.world_laws.proofs.Injected.{IsOfInjected}
+use Rattle.world_laws.proofs.Versions.{node-hears, IsInjectedWorld, run-injected, installs_injected}
 use Rattle.sim_air.specs.Air.{IsFitPacket, AreFitPackets}
 use Rattle.world_state_laws.proofs.Open.{run-none}
 use Rattle.world_state_laws.proofs.Heard.{AreProgramsFit, AreFitHeard, IsFitNode, EachFit, vector-fit, asks-fit, owed-fit}

@@ -30,9 +30,9 @@ use Rattle.world_rules.specs.World.{World, handlers}
 use Rattle.world_rules.specs.State.{Moment}
 use Rattle.world_laws.proofs.Among.{Among, among-append}
 use Rattle.world_laws.proofs.Points.{among-filter_map}
-use Rattle.world_install_laws.specs.Versions.{InjectsAt, IsOneImage}
-use Rattle.world_install_laws.proofs.Injected.{HoldsInjected, marked-within}
-use Rattle.world_install_laws.proofs.Versions.{IsInjectedNode}
+use Rattle.world_laws.specs.Versions.{InjectsAt, IsOneImage}
+use Rattle.world_laws.proofs.Injected.{HoldsInjected, marked-within}
+use Rattle.world_laws.proofs.Versions.{IsInjectedNode}
 use Rattle.sim_air.specs.Air.{IsFitPacket}
 use Rattle.world_state_laws.proofs.Open.{open-node}
 

@@ -11,9 +11,9 @@ use Rattle.world_rules.specs.Run.{IsNext, HaveCome}
 use Rattle.world_laws.proofs.Among.{Among}
 use Rattle.world_laws.proofs.Points.{among-next}
 use Rattle.world_laws.proofs.Happens.{Installer, installer}
-use Rattle.world_install_laws.specs.Versions.{WasInjected, InjectsAt, IsOneImage}
-use Rattle.world_install_laws.proofs.Injected.{IsOfInjected}
-use Rattle.world_install_laws.proofs.Versions.{IsInjectedWorld, node-hears, completed-injected, option-injects, run-injected}
+use Rattle.world_laws.specs.Versions.{WasInjected, InjectsAt, IsOneImage}
+use Rattle.world_laws.proofs.Injected.{IsOfInjected}
+use Rattle.world_laws.proofs.Versions.{IsInjectedWorld, node-hears, completed-injected, option-injects, run-injected}
 
 -- a line injects a program of this handler and version with this image
 pub record IsInjected (w : World) (h version : ℕ) (image : List ℕ) : Type 0 where

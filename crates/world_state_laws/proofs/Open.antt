@@ -10,10 +10,10 @@ use Rattle.world_rules.specs.Effect.{Node, NodeEffect, event_node}
 use Rattle.world_rules.specs.State.{Moment, node_at, effect_at, state}
 use Rattle.world_laws.proofs.Points.{nodes-here, nodes-other}
 use Rattle.world_laws.proofs.Happens.{Happens, nothing, injected, heard, completed, forgot, sent, happens}
-use Rattle.world_install_laws.specs.Versions.{WasInjected, IsOneImage, AreVersionsPositive}
-use Rattle.world_install_laws.proofs.Collect.{complete-stays, complete-other}
-use Rattle.world_install_laws.proofs.Injected.{collected-injected}
-use Rattle.world_install_laws.proofs.Versions.{IsInjectedNode}
+use Rattle.world_laws.specs.Versions.{WasInjected, IsOneImage, AreVersionsPositive}
+use Rattle.world_laws.proofs.Collect.{complete-stays, complete-other}
+use Rattle.world_laws.proofs.Injected.{collected-injected}
+use Rattle.world_laws.proofs.Versions.{IsInjectedNode}
 
 -- ---- no version is complete
 

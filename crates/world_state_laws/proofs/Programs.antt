@@ -26,9 +26,9 @@ use Rattle.world_script.specs.declared.world.What.{What}
 use Rattle.world_script.specs.declared.world.What.TheVariants as what
 use Rattle.world_rules.specs.World.{PlannedLine, Inject, want_of, line_planned}
 use Rattle.world_laws.proofs.Among.{all-at}
-use Rattle.world_install_laws.specs.Versions.{InjectsAt}
-use Rattle.world_hop_laws.specs.Premises.{IsInjectedProgram, IsRightScript}
-use Rattle.world_hop_laws.proofs.Premises.{injected_are_versions}
+use Rattle.world_laws.specs.Versions.{InjectsAt}
+use Rattle.world_laws.specs.Premises.{IsInjectedProgram, IsRightScript}
+use Rattle.world_laws.proofs.Premises.{injected_are_versions}
 use Rattle.world_state_laws.specs.Coming.{code_world}
 use Rattle.node_programs.specs.WorldPrograms.{IsProgramOfWhat, AreProgramsOfWorld}
 use Rattle.world_state_laws.proofs.Heard.{AreProgramsFit}

@@ -21,12 +21,12 @@ use Rattle.world_rules.specs.Run.{IsNext, HaveCome}
 use Rattle.world_laws.specs.Times.{IsRightSet, last_time}
 use Rattle.world_laws.proofs.Among.{Among}
 use Rattle.world_laws.proofs.Points.{among-next, last-before, run-timed}
-use Rattle.world_install_laws.specs.Installs.{InstallsAreNewer}
-use Rattle.world_install_laws.specs.Versions.{InjectsAt}
-use Rattle.world_install_laws.proofs.Agree.{held_agrees}
-use Rattle.world_install_laws.proofs.Versions.{run-injected}
-use Rattle.world_hop_laws.specs.HopBound.{IsRightPlan}
-use Rattle.world_hop_laws.proofs.Premises.{right_set, plans_rightly, scripts_installs_are_newer}
+use Rattle.world_laws.specs.Installs.{InstallsAreNewer}
+use Rattle.world_laws.specs.Versions.{InjectsAt}
+use Rattle.world_laws.proofs.Agree.{held_agrees}
+use Rattle.world_laws.proofs.Versions.{run-injected}
+use Rattle.world_laws.specs.HopBound.{IsRightPlan}
+use Rattle.world_laws.proofs.Premises.{right_set, plans_rightly, scripts_installs_are_newer}
 use Rattle.world_state_laws.specs.Coming.{code_world, IsTaken, AwaitsAlone, IsExpected}
 use Rattle.node_programs.specs.WorldPrograms.{AreProgramsOfWorld}
 use Rattle.world_state_laws.specs.Sound.{AreOfNodes, HaveFitMessages, HasWellFormed, NextMayCome, NodesAreSound, DuesAreOfNodes}

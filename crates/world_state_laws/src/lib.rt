@@ -5,7 +5,7 @@ ghost use Rattle.std.specs.Prelude.{List};
 ghost use Rattle.vm_desc.specs.declared.description.Description.{Description};
 ghost use Rattle.mate_journal.specs.declared.program.Program.{Program};
 ghost use Rattle.world_script.specs.declared.world.World.{World as Script};
-ghost use Rattle.world_hop_laws.specs.Premises.{IsRightScript};
+ghost use Rattle.world_laws.specs.Premises.{IsRightScript};
 ghost use Rattle.node_programs.specs.ScriptSteps.{program_at};
 ghost use Rattle.world_state_laws.specs.Coming.{code_world};
 ghost use Rattle.node_programs.specs.WorldPrograms.{AreProgramsOfWorld};

@@ -6,8 +6,8 @@ use Rattle.mate_journal.specs.Log.{Log}
 use Rattle.mate_journal.specs.Machine.{Machine}
 use Rattle.mate_journal.specs.declared.entry.Stamped.{Stamped}
 use Rattle.journal_laws.specs.Growth.{event_of}
-use Rattle.audit_finite.specs.Roll.{Roll, nobody}
-use Rattle.audit_finite.specs.Following.{follow_one_another, entries_follow}
+use Rattle.audit_rules.specs.Roll.{Roll, nobody}
+use Rattle.audit_rules.specs.Following.{follow_one_another, entries_follow}
 use Rattle.audit_roll.specs.Stamps.{rise}
 use Rattle.audit_roll.specs.Views.{roll_in}
 use Rattle.audit_roll.proofs.TestLemmas.{rising}

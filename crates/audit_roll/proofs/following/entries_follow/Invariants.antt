@@ -3,8 +3,8 @@ use Rattle.mate_journal.specs.Described.{machine_of}
 use Rattle.mate_journal.specs.Journal.{journal_of}
 use Rattle.mate_journal.specs.Machine.{Meaning}
 use Rattle.journal_laws.specs.Growth.{event_of}
-use Rattle.audit_finite.specs.Roll.{nobody}
-use Rattle.audit_finite.specs.Following.{follow_one_another}
+use Rattle.audit_rules.specs.Roll.{nobody}
+use Rattle.audit_rules.specs.Following.{follow_one_another}
 use Rattle.audit_roll.specs.Views.{roll_in}
 use Rattle.audit_roll.proofs.following.entries_follow.Given as goal
 

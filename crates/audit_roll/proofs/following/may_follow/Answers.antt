@@ -6,8 +6,8 @@ use Rattle.mate_journal.specs.Log.{Log}
 use Rattle.mate_journal.specs.Machine.{Machine}
 use Rattle.mate_journal.specs.Described.{machine_of}
 use Rattle.mate_journal.specs.declared.entry.Entry.{Entry}
-use Rattle.audit_finite.specs.Following.{may_follow, is_taken}
-use Rattle.audit_finite.specs.Roll as told
+use Rattle.audit_rules.specs.Following.{may_follow, is_taken}
+use Rattle.audit_rules.specs.Roll as told
 use Rattle.audit_roll.specs.Views.{sits_at, has_context, roll_in}
 use Rattle.audit_roll.specs.declared.phase.Stage.TheVariants as stage
 use Rattle.audit_roll.specs.declared.roll.Roll.{Roll}

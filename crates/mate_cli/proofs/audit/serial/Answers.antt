@@ -1,5 +1,5 @@
 use Rattle.std.proofs.Common.{ℕ, inl, refl}
-use Rattle.audit_verdict.specs.declared.law.Law.{Law}
+use Rattle.mate_journal.specs.declared.law.Law.{Law}
 use Rattle.mate_cli.proofs.audit.serial.Goals as goal
 
 pub returns-in-Ok-Refuted : goal.returns-in-Ok-Refuted

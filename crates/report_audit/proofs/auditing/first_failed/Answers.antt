@@ -1,10 +1,10 @@
 use Rattle.std.proofs.Common.{◌≤◌, ℕ, Bool, sym, subst, ◌∙◌}
 use Rattle.mate_journal.specs.Journal.{journal_of}
-use Rattle.audit_finite.specs.Following.{entries_follow}
-use Rattle.audit_finite.specs.Granting.{grants_in_order}
-use Rattle.audit_finite.specs.Rerun.{replays_right}
-use Rattle.audit_finite.specs.Roll.{nobody}
-use Rattle.audit_finite.specs.Shown.{stores_right}
+use Rattle.audit_rules.specs.Following.{entries_follow}
+use Rattle.audit_rules.specs.Granting.{grants_in_order}
+use Rattle.audit_rules.specs.Rerun.{replays_right}
+use Rattle.audit_rules.specs.Roll.{nobody}
+use Rattle.audit_rules.specs.Shown.{stores_right}
 use Rattle.audit_rules.specs.Laws.{machine_by}
 use Rattle.audit_rules.specs.Tests.{conflict_of, images_right}
 use Rattle.node_programs.specs.Sources.{meaning_by}

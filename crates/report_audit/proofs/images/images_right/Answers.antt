@@ -4,7 +4,7 @@ use Rattle.journal_laws.specs.Growth.{IsNamedBelow}
 use Rattle.journal_laws.proofs.TidyLemmas.{NamesInLog-numbered}
 use Rattle.audit_programs.proofs.LoopLemmas.{shown}
 use Rattle.audit_programs.proofs.TrialLemmas.{named-at}
-use Rattle.audit_finite.specs.Roll.{nobody}
+use Rattle.audit_rules.specs.Roll.{nobody}
 use Rattle.report_audit.proofs.ImageLemmas.{no-versions, settles-next}
 use Rattle.report_audit.proofs.images.images_right.Goals as goal
 

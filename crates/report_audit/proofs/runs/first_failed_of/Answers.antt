@@ -4,10 +4,10 @@ use Rattle.std.proofs.lemmas.List.{get_or_default}
 use Rattle.mate_journal.specs.Grants.{started_number}
 use Rattle.mate_journal.specs.Journal.{JournalEntry}
 use Rattle.mate_journal.specs.declared.entry.Stamped.{Stamped}
-use Rattle.audit_finite.specs.Granting.{is_granted}
-use Rattle.audit_finite.specs.Rerun.{runs_right, serial_after}
-use Rattle.audit_finite.specs.Roll as told
-use Rattle.audit_finite.specs.Shown.{shows_right}
+use Rattle.audit_rules.specs.Granting.{is_granted}
+use Rattle.audit_rules.specs.Rerun.{runs_right, serial_after}
+use Rattle.audit_rules.specs.Roll as told
+use Rattle.audit_rules.specs.Shown.{shows_right}
 use Rattle.audit_rules.specs.Tests.{conflict_of}
 use Rattle.audit_roll.specs.Views.{roll_in}
 use Rattle.audit_programs.specs.Trials.{machine_for}

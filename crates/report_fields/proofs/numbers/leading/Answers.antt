@@ -1,5 +1,5 @@
 use Rattle.std.proofs.Common.{◌<◌, ◌^◌, sym, ◌∙◌, rules}
-use Rattle.decimal_text.proofs.SpellingLemmas.{spelled-more}
+use Rattle.report_fields.proofs.SpellingLemmas.{spelled-more}
 use Rattle.report_fields.proofs.numbers.leading.Goals as goal
 
 pub loop-place-preserved : goal.loop-place-preserved

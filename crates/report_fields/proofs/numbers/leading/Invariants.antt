@@ -1,4 +1,4 @@
-use Rattle.decimal_text.proofs.SpellingLemmas.{HasSpelled}
+use Rattle.report_fields.proofs.SpellingLemmas.{HasSpelled}
 use Rattle.report_fields.proofs.numbers.leading.Given as goal
 
 abbrev pub invariant-loop-place : goal.invariant-loop-place

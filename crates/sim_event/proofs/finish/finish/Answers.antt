@@ -8,7 +8,7 @@ use Rattle.world_rules.specs.World.{World, series_in}
 use Rattle.world_rules.specs.State.{node_at, messages, answers_due, calls_in}
 use Rattle.sim_air.specs.Air.{IsAirOf, SendsAll, timed_events}
 use Rattle.sim_air.specs.Changes.{AddsToAir}
-use Rattle.sim_calls.specs.Calls.{AreCallsOf, HasSensors}
+use Rattle.sim_air.specs.Calls.{AreCallsOf, HasSensors}
 use Rattle.journal_laws.specs.Waiting.{AreAwaited}
 use Rattle.world_state_laws.specs.Coming.{code_world}
 use Rattle.sim_event.proofs.FinishLemmas.{stands-same, stands-added}

@@ -6,8 +6,8 @@ use Rattle.event_queue.specs.declared.queue.Timed.{Timed}
 use Rattle.radio_sim.specs.declared.event.Event.{Event}
 use Rattle.radio_sim.specs.declared.event.Event.TheVariants as radio
 use Rattle.open_node.specs.View.{heard_of}
-use Rattle.sim_calls.specs.declared.calls.CallAnswer.{CallAnswer}
-use Rattle.sim_calls.specs.Calls.{call_answer}
+use Rattle.sim_air.specs.declared.calls.CallAnswer.{CallAnswer}
+use Rattle.sim_air.specs.Calls.{call_answer}
 use Rattle.sim_air.specs.Air.{timed_event}
 use Rattle.sim_air.specs.Changes.{AddsToAir}
 use Rattle.sim_mote.specs.Answering.{answer_item}

@@ -3,7 +3,7 @@ use Rattle.std.specs.Prelude.{Option}
 use Rattle.mate_num.specs.declared.id.FunId.{FunId}
 use Rattle.mate_journal.specs.Journal.{journal_entry}
 use Rattle.open_node.specs.View.{heard_of}
-use Rattle.sim_calls.specs.Calls.{AreCallsOf}
+use Rattle.sim_air.specs.Calls.{AreCallsOf}
 use Rattle.sim_air.specs.Air.{timed_events}
 use Rattle.sim_air.specs.Changes.{AddsToAir}
 use Rattle.sim_air.proofs.ChangeLemmas.{adds-nothing}

@@ -8,7 +8,7 @@ use Rattle.mate_journal.specs.declared.entry.Stamped.{Stamped}
 use Rattle.radio_sim.specs.declared.event.Event.{Event}
 use Rattle.open_node.specs.View.{heard_of}
 use Rattle.world_rules.specs.State.{answers_due, calls_in}
-use Rattle.sim_calls.specs.Calls.{AreCallsOf}
+use Rattle.sim_air.specs.Calls.{AreCallsOf}
 use Rattle.sim_air.specs.Air.{timed_events}
 use Rattle.sim_air.specs.Changes.{AddsToAir}
 use Rattle.sim_air.proofs.ChangeLemmas.{adds-nothing, adds-both}

@@ -4,7 +4,7 @@ use Rattle.mate_journal.specs.Log.{Log}
 use Rattle.open_node.specs.View.{heard_of}
 use Rattle.world_rules.specs.World.{World}
 use Rattle.world_rules.specs.State.{answers_due, calls_in}
-use Rattle.sim_calls.specs.Calls.{AreCallsOf, HasSensors}
+use Rattle.sim_air.specs.Calls.{AreCallsOf, HasSensors}
 use Rattle.sim_air.specs.Air.{timed_events}
 use Rattle.sim_air.specs.Changes.{AddsToAir}
 use Rattle.journal_laws.specs.Waiting.{WaitApart, AreAwaited}

@@ -2,9 +2,9 @@ use Rattle.std.proofs.Common.{◌≡◌, ℕ, ◌+◌, ◌*◌, ◌∙◌, ap, s
 use Rattle.std.specs.Prelude.{◌%◌, ◌/◌, pos}
 use Rattle.vm_desc.specs.declared.function.FunKind.TheVariants as kind
 use Rattle.world_rules.specs.World.{stream_word, latency_of}
-use Rattle.sim_calls.specs.Calls.{words_taken}
-use Rattle.sim_calls.specs.declared.calls.CallAnswer.{CallAnswer}
-use Rattle.sim_calls.proofs.CallLemmas.{answer-value}
+use Rattle.sim_air.specs.Calls.{words_taken}
+use Rattle.sim_air.specs.declared.calls.CallAnswer.{CallAnswer}
+use Rattle.sim_air.proofs.CallLemmas.{answer-value}
 use Rattle.world_callers.proofs.calls.a_call_is_answered_by_its_kind.Goals as goal
 
 pub returns-clause-clock : goal.returns-clause-clock

@@ -1,7 +1,7 @@
 use Rattle.std.proofs.Common.{List, ℕ, ap, ◌∙◌}
 use Rattle.script_reader.specs.Lines.{split_words}
-use Rattle.world_lines.specs.Draft.{world_progress_of}
-use Rattle.world_lines.specs.WorldLines.{WorldProgress, a_world_line}
+use Rattle.world_reader.specs.Draft.{world_progress_of}
+use Rattle.world_reader.specs.WorldLines.{WorldProgress, a_world_line}
 use Rattle.world_callers.specs.Lines.{linked_world}
 use Rattle.world_callers.proofs.LineLemmas.{taken_line, shown_then}
 use Rattle.world_callers.proofs.lines.the_same_time_may_come_again.Goals as goal

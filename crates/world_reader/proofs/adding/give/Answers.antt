@@ -2,7 +2,7 @@ use Rattle.std.proofs.Common.{◌≡◌, ℕ, ◌+◌, ◌*◌, ◌-◌, get_or,
 use Rattle.world_script.specs.World.{with_values}
 use Rattle.world_reader.specs.WorldScript.{with_series}
 use Rattle.world_reader.proofs.SeriesLemmas.{with_world_series, at_place, no_place, new_series, tables_grown, tables_kept, on_ok}
-use Rattle.world_lines.specs.Draft.{world_progress_of}
+use Rattle.world_reader.specs.Draft.{world_progress_of}
 use Rattle.world_reader.proofs.adding.give.Goals as goal
 
 pub append_all-requires : goal.append_all-requires

@@ -1,6 +1,6 @@
 use Rattle.std.proofs.Common.{◌≡◌, false, ap, sym, ◌∙◌}
 use Rattle.script_reader.specs.Lines.{split_words, is_skipped}
-use Rattle.world_lines.specs.Draft.{world_progress_of, world_said_of}
+use Rattle.world_reader.specs.Draft.{world_progress_of, world_said_of}
 use Rattle.world_reader.proofs.KeepsLemmas.{has_place}
 use Rattle.world_reader.proofs.LineEnd.{line_told}
 use Rattle.world_reader.proofs.reader.read_line.Goals as goal

@@ -1,7 +1,7 @@
 use Rattle.std.proofs.Common.{◌<◌, length, arith}
 use Rattle.std.proofs.lemmas.Result.{err_from_is_err_and}
-use Rattle.world_lines.specs.Draft.{world_progress_of}
-use Rattle.world_lines.specs.WorldLines.{WorldProgress}
+use Rattle.world_reader.specs.Draft.{world_progress_of}
+use Rattle.world_reader.specs.WorldLines.{WorldProgress}
 use Rattle.world_reader.specs.WorldScript.{after_world_line, world_at_end, world_script_in}
 use Rattle.script_reader.proofs.LineLemmas.{is_refused, is_over}
 use Rattle.world_reader.proofs.KeepsLemmas.{right_at_end, answers_at_end}

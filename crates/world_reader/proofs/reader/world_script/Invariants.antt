@@ -1,5 +1,5 @@
 use Rattle.std.proofs.Common.{length}
-use Rattle.world_lines.specs.Draft.{world_progress_of, AreTables}
+use Rattle.world_reader.specs.Draft.{world_progress_of, AreTables}
 use Rattle.world_reader.proofs.LineEnd.{IsAtWorldLine}
 use Rattle.world_reader.proofs.reader.world_script.Given as goal
 

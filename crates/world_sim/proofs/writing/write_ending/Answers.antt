@@ -1,7 +1,7 @@
 use Rattle.std.proofs.Common.{◌≡◌, ◌<◌, ℕ, suc, ◌+◌, List, length, Ok, Err, refl, sym, ap, subst, arith, All, true}
 use Rattle.mate_files.specs.Sink.{Puts}
 use Rattle.mate_journal.specs.NodeScript.{Whole}
-use Rattle.run_writing.specs.declared.pass.Pass.{Pass}
+use Rattle.report_summary.specs.declared.pass.Pass.{Pass}
 use Rattle.sim_mote.specs.declared.mote.Mote.{Mote}
 use Rattle.world_text_laws.specs.EventText.{store_lines}
 use Rattle.sim_run.specs.Reporting.{mote_logs}

@@ -1,4 +1,4 @@
-use Rattle.audit_finite.proofs.InstalledLemmas.{nobody-LiveAreInstalled}
+use Rattle.audit_rules.proofs.InstalledLemmas.{nobody-LiveAreInstalled}
 use Rattle.audit_programs.proofs.TrialLemmas.{HasReadUpTo-begins}
 use Rattle.audit_programs.proofs.ready_roll.ReadyRoll.begin.Goals as goal
 

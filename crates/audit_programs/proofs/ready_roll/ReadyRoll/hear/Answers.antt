@@ -3,11 +3,11 @@ use Rattle.std.specs.Prelude.{slice_index_or}
 use Rattle.std.proofs.lemmas.List.{get_or_default}
 use Rattle.mate_journal.specs.Journal.{JournalEntry, journal_entry}
 use Rattle.mate_journal.specs.declared.entry.Stamped.{Stamped}
-use Rattle.audit_finite.specs.Roll.{rolled}
-use Rattle.audit_finite.proofs.InstalledLemmas.{LiveAreInstalled-step}
+use Rattle.audit_rules.specs.Roll.{rolled}
+use Rattle.audit_rules.proofs.InstalledLemmas.{LiveAreInstalled-step}
 use Rattle.audit_roll.specs.Views.{roll_in}
 use Rattle.audit_roll.specs.declared.roll.Roll.{Roll}
-use Rattle.whole_runs.specs.Ready.{installed_programs}
+use Rattle.audit_programs.specs.Ready.{installed_programs}
 use Rattle.audit_programs.specs.Trials.{AreReady, machine_for, told_at}
 use Rattle.audit_programs.specs.declared.ready_roll.ReadyRoll.{ReadyRoll}
 use Rattle.audit_programs.proofs.TrialLemmas.{HasReadUpTo-next, OnOk-map, entry-at, named-below}

@@ -2,7 +2,7 @@ use Rattle.std.proofs.Common.{subst, sym}
 use Rattle.mate_journal.specs.Machine.{HeldProgram}
 use Rattle.mate_journal.specs.declared.program.Program.{Program}
 use Rattle.node_programs.specs.Sources.{held_as}
-use Rattle.whole_runs.specs.Ready.{IsReadyAs, installed_programs}
+use Rattle.audit_programs.specs.Ready.{IsReadyAs, installed_programs}
 use Rattle.audit_programs.specs.Naming.{named_program}
 use Rattle.audit_programs.proofs.ReadyLemmas.{IsReadyAs-image}
 use Rattle.audit_programs.proofs.TrialLemmas.{MakesReady-again, OnOk-map}

@@ -3,9 +3,9 @@ use Rattle.mate_journal.specs.Journal.{journal_entry}
 use Rattle.mate_journal.specs.Machine.{HeldProgram}
 use Rattle.mate_journal.specs.Tidy.{IsEntryInRange}
 use Rattle.mate_journal.specs.declared.entry.Entry.{Entry}
-use Rattle.audit_finite.specs.Roll as told
+use Rattle.audit_rules.specs.Roll as told
 use Rattle.audit_roll.specs.Views.{roll_in}
-use Rattle.whole_runs.specs.Ready.{installed_programs}
+use Rattle.audit_programs.specs.Ready.{installed_programs}
 use Rattle.audit_programs.specs.Naming.{named_program}
 use Rattle.audit_programs.specs.Trials.{AreReady}
 use Rattle.audit_programs.proofs.TrialLemmas.{HasKept-made, AreReady-made, OnOk-map}

@@ -1,5 +1,0 @@
-use Rattle.audit_finite.proofs.GrantLemmas.{grants_told}
-use Rattle.audit_finite.proofs.laws.grants_are_told.Goals as goal
-
-pub returns : goal.returns
-returns c = grants_told

@@ -1,5 +1,0 @@
-use Rattle.audit_finite.proofs.InstalledLemmas.{nobody-LiveAreInstalled, LiveAreInstalled-step}
-use Rattle.audit_finite.proofs.laws.programs_are_installed.Goals as goal
-
-pub returns : goal.returns
-returns c = record { begins = nobody-LiveAreInstalled; goes_on = LiveAreInstalled-step }

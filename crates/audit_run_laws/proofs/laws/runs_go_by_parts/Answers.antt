@@ -1,5 +1,0 @@
-use Rattle.audit_run_laws.proofs.PartLemmas.{code-GoesByParts}
-use Rattle.audit_run_laws.proofs.laws.runs_go_by_parts.Goals as goal
-
-pub returns : goal.returns
-returns c = code-GoesByParts

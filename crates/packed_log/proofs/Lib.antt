@@ -1,2 +1,0 @@
-pub mod PiecesLemmas
-pub mod StoresLemmas

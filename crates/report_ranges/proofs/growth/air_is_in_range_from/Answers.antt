@@ -1,7 +1,0 @@
-use Rattle.std.proofs.Common.{subst}
-use Rattle.std.specs.Prelude.{All}
-use Rattle.mate_journal.specs.Ranges.{HasAiredRanges}
-use Rattle.report_ranges.proofs.growth.air_is_in_range_from.Goals as goal
-
-pub returns-then-count-air : goal.returns-then-count-air
-returns-then-count-air c = subst (All HasAiredRanges) c.split_at.ensures.back c.airs_are_in_range.ensures

@@ -1,9 +1,0 @@
-use Rattle.std.proofs.Common.{take}
-use Rattle.std.specs.Prelude.{All}
-use Rattle.std.specs.Prelude.{ℤ}
-use Rattle.arrayvec.specs.ArrayVec.{ArrayVec}
-use Rattle.mate_journal.specs.Ranges.{AreValues}
-use Rattle.report_ranges.proofs.ranges.buffers_are_in_range.Given as goal
-
-abbrev pub invariant-loop-buffer : goal.invariant-loop-buffer
-invariant-loop-buffer l = All (λ (b : ArrayVec ℤ). AreValues b.items) (take l.buffer l.store.buffers.items)

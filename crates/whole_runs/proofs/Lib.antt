@@ -1,3 +1,0 @@
-pub mod GoingLemmas
-pub mod FillingLemmas
-pub mod ReadyLemmas

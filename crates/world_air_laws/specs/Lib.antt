@@ -1,3 +1,0 @@
-pub mod Transmissions
-pub mod PacketRecords
-pub mod TimerRecords

@@ -1,4 +1,0 @@
-pub mod Hops
-pub mod Spread
-pub mod HopBound
-pub mod Premises

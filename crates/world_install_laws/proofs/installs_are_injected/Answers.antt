@@ -1,7 +1,0 @@
-use Rattle.world_install_laws.proofs.Versions.{installs_injected}
-use Rattle.world_install_laws.proofs.Newest.{installs_at_most}
-use Rattle.world_install_laws.proofs.Agree.{held_agrees}
-use Rattle.world_install_laws.proofs.installs_are_injected.Goals as goal
-
-pub returns : goal.returns
-returns c = record { injected = λ w one. installs_injected w one; most = λ w one. installs_at_most w one; held = λ w. held_agrees w }

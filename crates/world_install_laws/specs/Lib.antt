@@ -1,5 +1,0 @@
-pub mod Newest
-pub mod Versions
-pub mod Held
-pub mod Installs
-pub mod Lines

@@ -1,0 +1,35 @@
+//! How fast a version spreads: a hop in three of the longest intervals, and so over any number of hops.
+
+ghost use Rattle.world_rules.specs.World.{World};
+ghost use Rattle.world_laws.specs.HopBound.{HopBound, IsRightPlan};
+ghost use Rattle.world_laws.specs.Premises.{CapsulesHaveFewFragments, InjectedAreVersions, InjectedIsInstalled, OpenScriptsAreOpen};
+ghost use Rattle.world_laws.specs.Premises.{RightScriptsPlanRightly, ScriptsInstallsAreNewer};
+ghost use Rattle.world_laws.specs.Spread.{HopsInTime, IsOpenWorld, SpreadsInTime};
+ghost use Rattle.world_laws.specs.Newest.{IsWorldVersion, Version};
+
+/// With suppression off and no loss, a node holds a version that a neighbour held, three of the longest intervals later,
+/// and so on over any number of hops, where no node is reset and nothing newer is injected.
+pub fn versions_spread()
+    ensures hop { (w : World) (v : Version) → IsOpenWorld w → IsWorldVersion w v → HopsInTime w v }
+    ensures hops { (w : World) (v : Version) → IsOpenWorld w → IsWorldVersion w v → SpreadsInTime w v }
+{}
+
+/// An injected version reaches a node d hops away within d times three of the longest intervals, where suppression is off
+/// and nothing is lost, and until then no node is reset and nothing newer is injected for the handler.
+pub fn injected_versions_arrive()
+    ensures { (w : World) → IsOpenWorld w → IsRightPlan w → HopBound w }
+{}
+
+/// What the bound takes for granted holds in the world of every description with a right script and its programs, where the
+/// script has suppression off and no link that loses. There each node within reach has its Install entry in time,
+/// and holds this version or a newer one ever after. A right
+/// script is one that the reader accepts, with programs of its lines whose images are capsules': these have 1 to 22
+/// fragments, and whatever the losses, no install of such a script is refused.
+pub fn scripts_keep_the_bound()
+    ensures lossless { OpenScriptsAreOpen }
+    ensures plan { RightScriptsPlanRightly }
+    ensures fragments { CapsulesHaveFewFragments }
+    ensures versions { InjectedAreVersions }
+    ensures newer { ScriptsInstallsAreNewer }
+    ensures installed { InjectedIsInstalled }
+{}

@@ -1,3 +1,0 @@
-pub mod WorldWords
-pub mod WorldLines
-pub mod Draft

@@ -1,3 +1,0 @@
-pub mod NameLemmas
-pub mod CutLemmas
-pub mod SoundLemmas

@@ -1,0 +1,180 @@
+//! What the events of a world's script say.
+
+ghost use Rattle.std.specs.Prelude.{◌≡◌, ◌<◌, ◌≤◌, ◌^◌, codes, length, None, IfOk, slice_index};
+ghost use Rattle.script_reader.specs.Lines.{split_words};
+ghost use Rattle.script_reader.specs.Words.{ReadsWords};
+ghost use Rattle.world_script.specs.World.{IsRightWhat, IfInjects};
+ghost use Rattle.world_reader.specs.WorldLines.{SaysPlanned, an_injection, a_posting, a_noise, at_node, behind_time, an_event, by_its_verb};
+ghost use Rattle.world_reader.specs.Draft.{world_progress_of, world_said_of, IsRightWorldSaid, KeepsWorld};
+
+use crate::command::Command;
+use crate::draft::Draft;
+use crate::world_words::{node_in, noise_in, time_in};
+use script_reader::{Cause, Words, newest_of};
+use vm_desc::Description;
+use world_script::{Planned, What};
+
+impl Draft {
+    // What an event's line says.
+    pub(crate) fn event<'a>(
+        &self,
+        desc: &Description,
+        verb: &str,
+        words: &mut Words<'a>,
+    ) -> Result<Command<'a>, Cause>
+        requires keeps { KeepsWorld desc.now (world_progress_of self.now) }
+        requires files { length self.now.world.files < 2 ^ 32 }
+        ensures value { ReadsWords world_said_of (by_its_verb verb.now (codes "at") (an_event desc.now (world_progress_of self.now)))
+            (split_words words.old) result (split_words words.new) }
+        ensures right { IfOk result (λ c. IsRightWorldSaid desc.now (world_progress_of self.now) (world_said_of c)) }
+    {
+        if verb == "at" {
+            self.timed(desc, words)
+        } else {
+            Err(Cause::Word)
+        }
+    }
+
+    #[tactic(auto, unfolding(crate::specs::WorldLines::an_event))]
+    fn timed<'a>(&self, desc: &Description, words: &mut Words<'a>) -> Result<Command<'a>, Cause>
+        requires keeps { KeepsWorld desc.now (world_progress_of self.now) }
+        requires files { length self.now.world.files < 2 ^ 32 }
+        ensures value { ReadsWords world_said_of (an_event desc.now (world_progress_of self.now)) (split_words words.old) result
+            (split_words words.new) }
+        ensures right { IfOk result (λ c. IsRightWorldSaid desc.now (world_progress_of self.now) (world_said_of c)) }
+    {
+        let time = time_in(self.world.until, self.time, words)?;
+        let verb = words.word()?;
+        self.behind_time(desc, time, verb, words)
+    }
+
+    // What the words behind an event's time and verb say.
+    #[tactic(auto, unfolding(crate::specs::WorldLines::behind_time))]
+    fn behind_time<'a>(
+        &self,
+        desc: &Description,
+        time: u32,
+        verb: &str,
+        words: &mut Words<'a>,
+    ) -> Result<Command<'a>, Cause>
+        requires keeps { KeepsWorld desc.now (world_progress_of self.now) }
+        requires files { length self.now.world.files < 2 ^ 32 }
+        requires low { self.now.time ≤ time }
+        requires high { time ≤ self.now.world.until }
+        ensures value { ReadsWords world_said_of (behind_time desc.now (world_progress_of self.now) time verb.now) (split_words words.old) result
+            (split_words words.new) }
+        ensures right { IfOk result (λ c. IsRightWorldSaid desc.now (world_progress_of self.now) (world_said_of c)) }
+    {
+        if verb == "inject" {
+            self.injection(desc, time, words)
+        } else if verb == "post" {
+            self.posting(desc, time, words)
+        } else if verb == "show" {
+            self.at_node(desc, time, What::Show, words)
+        } else if verb == "reset" {
+            self.at_node(desc, time, What::Reset, words)
+        } else if verb == "noise" {
+            self.noise(desc, time, words)
+        } else {
+            Err(Cause::Word)
+        }
+    }
+
+    #[tactic(auto, unfolding(crate::specs::WorldLines::an_injection))]
+    fn injection<'a>(
+        &self,
+        desc: &Description,
+        time: u32,
+        words: &mut Words<'a>,
+    ) -> Result<Command<'a>, Cause>
+        requires keeps { KeepsWorld desc.now (world_progress_of self.now) }
+        requires files { length self.now.world.files < 2 ^ 32 }
+        requires low { self.now.time ≤ time }
+        requires high { time ≤ self.now.world.until }
+        ensures value { ReadsWords world_said_of (an_injection desc.now (world_progress_of self.now) time) (split_words words.old) result
+            (split_words words.new) }
+        ensures right { IfOk result (λ c. IsRightWorldSaid desc.now (world_progress_of self.now) (world_said_of c)) }
+    {
+        let node = node_in(self.world.nodes, words)?;
+        let handler = words.handler(desc)?;
+        let version = words.version(newest_of(&self.newest, handler))?;
+        let file = words.word()?;
+        let what = What::Inject {
+            program: self.world.files.len() as u32,
+            handler,
+            version,
+        };
+        Ok(Command::Plan {
+            planned: Planned { time, node, what },
+            file: Some(file),
+        })
+    }
+
+    #[tactic(auto, unfolding(crate::specs::WorldLines::a_posting))]
+    fn posting<'a>(
+        &self,
+        desc: &Description,
+        time: u32,
+        words: &mut Words<'a>,
+    ) -> Result<Command<'a>, Cause>
+        requires keeps { KeepsWorld desc.now (world_progress_of self.now) }
+        requires low { self.now.time ≤ time }
+        requires high { time ≤ self.now.world.until }
+        ensures value { ReadsWords world_said_of (a_posting desc.now self.now.world time) (split_words words.old) result (split_words words.new) }
+        ensures right { IfOk result (λ c. IsRightWorldSaid desc.now (world_progress_of self.now) (world_said_of c)) }
+    {
+        let node = node_in(self.world.nodes, words)?;
+        let handler = words.handler(desc)?;
+        let payload = words.payload()?;
+        Ok(planned(time, node, What::Post { handler, payload }))
+    }
+
+    #[tactic(auto, unfolding(crate::specs::WorldLines::a_noise))]
+    fn noise<'a>(
+        &self,
+        desc: &Description,
+        time: u32,
+        words: &mut Words<'a>,
+    ) -> Result<Command<'a>, Cause>
+        requires keeps { KeepsWorld desc.now (world_progress_of self.now) }
+        requires low { self.now.time ≤ time }
+        requires high { time ≤ self.now.world.until }
+        ensures value { ReadsWords world_said_of (a_noise desc.now self.now.world time) (split_words words.old) result (split_words words.new) }
+        ensures right { IfOk result (λ c. IsRightWorldSaid desc.now (world_progress_of self.now) (world_said_of c)) }
+    {
+        let node = node_in(self.world.nodes, words)?;
+        let bytes = noise_in(desc, words)?;
+        Ok(planned(time, node, What::Noise { bytes }))
+    }
+
+    // What a node is to do that needs no further word.
+    #[tactic(auto, unfolding(crate::specs::WorldLines::at_node))]
+    fn at_node<'a>(
+        &self,
+        desc: &Description,
+        time: u32,
+        what: What,
+        words: &mut Words<'a>,
+    ) -> Result<Command<'a>, Cause>
+        requires keeps { KeepsWorld desc.now (world_progress_of self.now) }
+        requires low { self.now.time ≤ time }
+        requires high { time ≤ self.now.world.until }
+        requires right { IsRightWhat desc.now (length self.now.world.files) what }
+        requires newer { IfInjects what (λ handler version. slice_index (world_progress_of self.now).newest handler.0 < version) }
+        ensures value { ReadsWords world_said_of (at_node self.now.world time what) (split_words words.old) result (split_words words.new) }
+        ensures right { IfOk result (λ c. IsRightWorldSaid desc.now (world_progress_of self.now) (world_said_of c)) }
+    {
+        let node = node_in(self.world.nodes, words)?;
+        Ok(planned(time, node, what))
+    }
+}
+
+// What is planned for a node and names no file.
+fn planned<'a>(time: u32, node: u8, what: What) -> Command<'a>
+    ensures { world_said_of result ≡ SaysPlanned (record { time = time; node = node; what = what }) None }
+{
+    Command::Plan {
+        planned: Planned { time, node, what },
+        file: None,
+    }
+}

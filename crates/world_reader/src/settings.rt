@@ -1,0 +1,136 @@
+//! What the settings of a world's script say.
+
+ghost use Rattle.std.specs.Prelude.{◌≡◌, ◌<◌, ◌≤◌, ◌^◌, length, true, IfOk};
+ghost use Rattle.script_reader.specs.Lines.{split_words};
+ghost use Rattle.script_reader.specs.Words.{ReadsWords};
+ghost use Rattle.world_reader.specs.declared.stage.Stage.TheVariants as stages;
+ghost use Rattle.world_reader.specs.WorldLines.{a_switch, is_free, is_linked, a_far_end, a_link, a_series, a_setting};
+ghost use Rattle.world_reader.specs.Draft.{ReadsWithMemory, world_progress_of, world_said_of, IsRightWorldSaid, KeepsWorld, AreTables};
+
+use crate::command::Command;
+use crate::draft::Draft;
+use crate::refusal::Refusal;
+use crate::world_words::{node_in, sensor_in, values_in};
+use script_reader::{Cause, Words};
+use vm_desc::Description;
+use world_script::{Link, Series};
+
+impl Draft {
+    // What a setting or the first event says.
+    #[tactic(auto, unfolding(crate::specs::WorldLines::a_setting))]
+    pub(crate) fn setting<'a>(
+        &self,
+        desc: &Description,
+        verb: &str,
+        words: &mut Words<'a>,
+    ) -> Result<Command<'a>, Refusal>
+        requires keeps { KeepsWorld desc.now (world_progress_of self.now) }
+        requires tables { AreTables self.now.linked self.now.places self.now.world }
+        requires files { length self.now.world.files < 2 ^ 32 }
+        requires stage { self.now.stage ≡ stages.Settings }
+        ensures value { ReadsWithMemory world_said_of (a_setting desc.now (world_progress_of self.now) verb.now) (split_words words.old)
+            result (split_words words.new) }
+        ensures right { IfOk result (λ c. IsRightWorldSaid desc.now (world_progress_of self.now) (world_said_of c)) }
+    {
+        if verb == "suppress" {
+            Ok(Command::Suppress(switch_in(words)?))
+        } else if verb == "link" {
+            Ok(self.link(desc, false, words)?)
+        } else if verb == "both" {
+            Ok(self.link(desc, true, words)?)
+        } else if verb == "series" {
+            self.series(desc, words)
+        } else {
+            Ok(self.event(desc, verb, words)?)
+        }
+    }
+
+    #[tactic(auto, unfolding(crate::specs::WorldLines::a_link))]
+    fn link<'a>(
+        &self,
+        desc: &Description,
+        both: bool,
+        words: &mut Words<'a>,
+    ) -> Result<Command<'a>, Cause>
+        requires keeps { KeepsWorld desc.now (world_progress_of self.now) }
+        requires tables { AreTables self.now.linked self.now.places self.now.world }
+        requires stage { self.now.stage ≡ stages.Settings }
+        ensures value { ReadsWords world_said_of (a_link self.now.world both) (split_words words.old) result (split_words words.new) }
+        ensures right { IfOk result (λ c. IsRightWorldSaid desc.now (world_progress_of self.now) (world_said_of c)) }
+    {
+        let from = node_in(self.world.nodes, words)?;
+        let to = self.far_end(both, from, words)?;
+        let loss = words.number(0, 1000, Cause::Range)?;
+        let link = Link {
+            from,
+            to,
+            loss: loss as u16,
+        };
+        Ok(Command::Link { link, both })
+    }
+
+    // The node at a link's other end.
+    #[tactic(auto, unfolding(crate::specs::WorldLines::a_far_end))]
+    fn far_end(&self, both: bool, from: u8, words: &mut Words<'_>) -> Result<u8, Cause>
+        requires from { from < 64 }
+        requires low { 1 ≤ self.now.world.nodes }
+        requires high { self.now.world.nodes ≤ 64 }
+        requires tables { AreTables self.now.linked self.now.places self.now.world }
+        ensures value { ReadsWords (λ n. n) (a_far_end self.now.world both from) (split_words words.old) result (split_words words.new) }
+        ensures below { IfOk result (λ to. to < self.now.world.nodes) }
+        ensures free { IfOk result (λ to. is_free self.now.world.links both from to ≡ true) }
+    {
+        let to = node_in(self.world.nodes, words)?;
+        if self.is_free(both, from, to) {
+            Ok(to)
+        } else {
+            Err(Cause::Range)
+        }
+    }
+
+    // Whether a link may join the nodes, and if `both` is true the one back as well.
+    fn is_free(&self, both: bool, from: u8, to: u8) -> bool
+        requires from { from < 64 }
+        requires to { to < 64 }
+        requires tables { AreTables self.now.linked self.now.places self.now.world }
+        ensures { result ≡ is_free self.now.world.links both from to }
+    {
+        from != to && !self.is_linked(from, to) && !(both && self.is_linked(to, from))
+    }
+
+    fn is_linked(&self, from: u8, to: u8) -> bool
+        requires from { from < 64 }
+        requires to { to < 64 }
+        requires tables { AreTables self.now.linked self.now.places self.now.world }
+        ensures { result ≡ is_linked from to self.now.world.links }
+    {
+        self.linked[from as usize * 64 + to as usize]
+    }
+
+    #[tactic(auto, unfolding(crate::specs::WorldLines::a_series))]
+    fn series<'a>(&self, desc: &Description, words: &mut Words<'a>) -> Result<Command<'a>, Refusal>
+        requires keeps { KeepsWorld desc.now (world_progress_of self.now) }
+        requires stage { self.now.stage ≡ stages.Settings }
+        ensures value { ReadsWithMemory world_said_of (a_series desc.now self.now.world) (split_words words.old) result (split_words words.new) }
+        ensures right { IfOk result (λ c. IsRightWorldSaid desc.now (world_progress_of self.now) (world_said_of c)) }
+    {
+        let node = node_in(self.world.nodes, words)?;
+        let fun = sensor_in(desc, words)?;
+        let values = values_in(self.alloc, words)?;
+        Ok(Command::Series(Series { node, fun, values }))
+    }
+}
+
+#[tactic(auto, unfolding(crate::specs::WorldLines::a_switch))]
+fn switch_in(words: &mut Words<'_>) -> Result<bool, Cause>
+    ensures { ReadsWords (λ on. on) a_switch (split_words words.old) result (split_words words.new) }
+{
+    let word = words.word()?;
+    if word == "on" {
+        Ok(true)
+    } else if word == "off" {
+        Ok(false)
+    } else {
+        Err(Cause::Word)
+    }
+}
