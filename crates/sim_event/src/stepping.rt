@@ -14,7 +14,7 @@ use crate::event::perform;
 use mate_journal::{NodeLog, Programs};
 use mate_num::{NoMemory, Stamp};
 use radio_sim::Event;
-use report_ranges::{LogSize, air_is_in_range_from, log_is_in_range_from};
+use journal_laws::{LogSize, air_is_in_range_from, log_is_in_range_from};
 use sim_mote::Effect;
 use sim_run::{Simulation, Written};
 use vm_desc::Description;

@@ -11,7 +11,7 @@ use Rattle.world_rules.specs.World.{World, handlers}
 use Rattle.world_rules.specs.Effect.{event_node}
 use Rattle.world_rules.specs.State.{Moment, WorldState, node_at, effect_at, air_made, messages, timer_after, still_pumps, node_after, after_moment}
 use Rattle.sim_air.specs.Air.{radio_event, aired_at, IsAirOf, AreFitPackets}
-use Rattle.sim_calls.specs.Calls.{AreCallsOf}
+use Rattle.sim_air.specs.Calls.{AreCallsOf}
 use Rattle.journal_laws.specs.Waiting.{WaitApart, AreAwaited, asked_of}
 use Rattle.sim_mote.specs.Standing.{IsEffectOf}
 use Rattle.sim_mote.specs.declared.effect.Effect.{Effect}

@@ -23,7 +23,7 @@ use Rattle.world_rules.specs.World.{World, handlers, handler_id, is_receiver}
 use Rattle.world_rules.specs.Effect.{Node, NodeEffect, Installing, node_effect, resets}
 use Rattle.world_rules.specs.Run.{DeedMakes}
 use Rattle.world_rules.specs.State.{timer_after, still_pumps}
-use Rattle.sim_calls.specs.Calls.{AreCallsOf}
+use Rattle.sim_air.specs.Calls.{AreCallsOf}
 use Rattle.world_state_laws.specs.Coming.{code_world, IsTaken}
 use Rattle.sim_mote.specs.declared.effect.Effect.{Effect}
 use Rattle.sim_mote.specs.declared.mote.Mote.{Mote}

@@ -11,7 +11,7 @@ use Rattle.world_rules.specs.Effect.{Node, NodeEffect, node_effect, begun_length
 use Rattle.world_rules.specs.State.{Moment, WorldState, is_some_length}
 use Rattle.sim_air.specs.Air.{radio_event, IsAirOf}
 use Rattle.sim_air.specs.Changes.{AreNear}
-use Rattle.sim_calls.specs.Calls.{AreCallsOf}
+use Rattle.sim_air.specs.Calls.{AreCallsOf}
 use Rattle.sim_mote.specs.declared.effect.Effect.{Effect}
 use Rattle.sim_mote.specs.declared.mote.Mote.{Mote}
 

@@ -25,7 +25,7 @@ use mate_num::NoMemory;
 use open_node::OpenNode;
 use packet_codec::Packet;
 use radio_sim::{Event, Radio};
-use report_ranges::air_is_in_range_from;
+use journal_laws::air_is_in_range_from;
 use sim_air::{begin_node, schedule_lines};
 use sim_mote::Mote;
 use std::alloc::Global;

@@ -4,7 +4,7 @@ ghost use Rattle.std.specs.Prelude.{◌≡◌, ◌≤◌, ◌<◌, ◌+◌, leng
 ghost use Rattle.mate_files.specs.Sink.{Puts};
 ghost use Rattle.mate_journal.specs.NodeScript.{Whole};
 ghost use Rattle.report_text.specs.Text.{event_piece};
-ghost use Rattle.run_writing.specs.Writing.{PutsLastLine, last_line};
+ghost use Rattle.report_summary.specs.Writing.{PutsLastLine, last_line};
 ghost use Rattle.world_state_laws.specs.Coming.{code_world};
 ghost use Rattle.node_programs.specs.WorldPrograms.{AreProgramsOfWorld};
 ghost use Rattle.sim_mote.specs.declared.mote.Mote.{Mote as MoteState};
@@ -23,7 +23,7 @@ use mate_journal::Programs;
 use mate_num::{NoMemory, Stamp};
 use report_text::{write_end, write_event};
 use run_record::Record;
-use run_writing::{Pass, WriteFault, ended, stopped};
+use report_summary::{Pass, WriteFault, ended, stopped};
 use sim_mote::Mote;
 use sim_run::{Simulation, forget_all, see_stores};
 use std::alloc::Global;

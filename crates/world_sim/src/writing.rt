@@ -1,13 +1,13 @@
 //! The run of a world whose lines are written as its events end, and whose report may be handed out.
 
 ghost use Rattle.std.specs.Prelude.{◌≤◌, ◌<◌, Some, Err};
-ghost use Rattle.run_writing.specs.Writing.{RunsInto};
+ghost use Rattle.report_summary.specs.Writing.{RunsInto};
 ghost use Rattle.node_programs.specs.WorldPrograms.{AreProgramsOfWorld};
 ghost use Rattle.world_run_laws.specs.Promise.{IsReportOfWorld};
 
 use mate_files::Sink;
 use mate_journal::{IntoFault, Programs, Report};
-use run_writing::nothing_run;
+use report_summary::nothing_run;
 use std::alloc::Global;
 use vm_desc::Description;
 use world_pieces::start_recorded;

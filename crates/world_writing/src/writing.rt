@@ -2,7 +2,7 @@
 
 ghost use Rattle.std.specs.Prelude.{◌≡◌, ◌≤◌, ◌<◌, ◌+◌, Some, OnOk, Err, false};
 ghost use Rattle.mate_journal.specs.Log.{IsEmpty};
-ghost use Rattle.run_writing.specs.Writing.{WritesRun};
+ghost use Rattle.report_summary.specs.Writing.{WritesRun};
 ghost use Rattle.world_rules.specs.Report.{IsWorldReport};
 ghost use Rattle.world_state_laws.specs.Coming.{code_world};
 ghost use Rattle.node_programs.specs.WorldPrograms.{AreProgramsOfWorld};
@@ -19,9 +19,9 @@ use mate_files::Sink;
 use mate_journal::{NodeLog, Programs, RECORDS_MAX};
 use mate_num::Stamp;
 use radio_sim::Event;
-use report_ranges::stamp_is_in_range;
+use journal_laws::stamp_is_in_range;
 use run_record::Record;
-use run_writing::{Pass, WriteFault, stopped};
+use report_summary::{Pass, WriteFault, stopped};
 use sim_event::step;
 use sim_mote::Effect;
 use sim_run::{Simulation, Written};
