@@ -3,9 +3,9 @@
 ghost use Rattle.std.specs.Prelude.{◌≡◌, false};
 ghost use Rattle.audit_programs.specs.Trials.{HasReadUpTo};
 
-use report_audit::is_granted;
 use audit_programs::{ReadyRoll, Trial};
 use mate_journal::Entry;
+use report_audit::is_granted;
 
 /// Starts in a row rise.
 pub fn a_start_of_an_equal_number_is_not_granted(

@@ -5,8 +5,8 @@ ghost use Rattle.mate_files.specs.Pen.{Prints};
 ghost use Rattle.mate_refusals.specs.Refutations.{node_words};
 
 use crate::line_ends::print_numbered;
-use mate_journal::Law;
 use mate_files::{Pen, Sink};
+use mate_journal::Law;
 
 /// Why a report is refuted.
 #[derive(Clone, Copy)]

@@ -21,10 +21,10 @@ ghost use Rattle.report_summary.specs.Tally.{IsLogTally, IsUpTo};
 ghost use Rattle.run_steps.specs.Keeping.{IsNewNode, StaysAsToldTo};
 
 use crate::events::make_step;
+use journal_laws::{LogSize, log_is_in_range_from, stamp_is_in_range};
 use mate_journal::{NodeLog, Programs};
 use mate_num::{NoMemory, Stamp};
 use open_node::OpenNode;
-use journal_laws::{LogSize, log_is_in_range_from, stamp_is_in_range};
 use report_summary::LogTally;
 use script_reader::Step;
 use std::alloc::Global;

@@ -11,10 +11,10 @@ ghost use Rattle.sim_run.specs.Telling.{HasComeOn, LogsAreKept};
 ghost use Rattle.sim_event.specs.Placing.{NamesPart, named_node};
 
 use crate::event::perform;
+use journal_laws::{LogSize, air_is_in_range_from, log_is_in_range_from};
 use mate_journal::{NodeLog, Programs};
 use mate_num::{NoMemory, Stamp};
 use radio_sim::Event;
-use journal_laws::{LogSize, air_is_in_range_from, log_is_in_range_from};
 use sim_mote::Effect;
 use sim_run::{Simulation, Written};
 use vm_desc::Description;

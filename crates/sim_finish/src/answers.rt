@@ -23,8 +23,7 @@ use mate_journal::{Entry, Stamped};
 use mate_num::{CONTEXTS_MAX, ContextId, FunId, NoMemory};
 use open_node::OpenNode;
 use radio_sim::{Event, Radio};
-use sim_air::schedule;
-use sim_air::Calls;
+use sim_air::{Calls, schedule};
 use vm_desc::Description;
 use world_script::Series;
 

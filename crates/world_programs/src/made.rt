@@ -18,8 +18,7 @@ use mate_steps::compiled_bytes;
 use script_programs::SharedSource;
 use std::alloc::Global;
 use vm_desc::Description;
-use world_maker::generate;
-use world_maker::sources_law;
+use world_maker::{generate, sources_law};
 use world_script::World;
 
 /// A world with its programs.

@@ -15,13 +15,13 @@ ghost use Rattle.sim_run.specs.Telling.{LogsAreKept};
 ghost use Rattle.world_pieces.specs.Recording.{IsRecorded, has_record};
 ghost use Rattle.world_pieces.specs.Writing.{IsStepWritten, WritesRecorded};
 
+use journal_laws::stamp_is_in_range;
 use mate_files::Sink;
 use mate_journal::{NodeLog, Programs, RECORDS_MAX};
 use mate_num::Stamp;
 use radio_sim::Event;
-use journal_laws::stamp_is_in_range;
-use run_record::Record;
 use report_summary::{Pass, WriteFault, stopped};
+use run_record::Record;
 use sim_event::step;
 use sim_mote::Effect;
 use sim_run::{Simulation, Written};
