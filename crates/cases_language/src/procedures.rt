@@ -1,7 +1,7 @@
 //! Sources as scripts with procedures.
 
 use cases_files::marked_bytes;
-use mate_num::FILE_MAX;
+use mate_files::FILE_MAX;
 use std::alloc::{AllocError, Global};
 use ts_parser::{SourceFault, parse_procedures, tokens_in};
 use ts_syntax::{Dialect, ProcScript};

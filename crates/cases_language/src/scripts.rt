@@ -1,7 +1,7 @@
 //! Sources as scripts, without a machine.
 
 use cases_files::marked_bytes;
-use mate_num::FILE_MAX;
+use mate_files::FILE_MAX;
 use memory_files::MemSink;
 use std::alloc::{AllocError, Global};
 use ts_parser::{SourceFault, parse, tokens};

@@ -2,7 +2,7 @@
 
 use cases_files::marked_bytes;
 use cases_trees::block_text;
-use mate_num::FILE_MAX;
+use mate_files::FILE_MAX;
 use mate_steps::{SourceRefusal, accept};
 use std::alloc::{AllocError, Global};
 use ts_checked::Checked;

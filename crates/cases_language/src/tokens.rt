@@ -1,7 +1,7 @@
 //! Texts and their tokens.
 
 use cases_files::marked_bytes;
-use mate_num::FILE_MAX;
+use mate_files::FILE_MAX;
 use std::alloc::{AllocError, Global};
 use ts_lexer::{TokenFault, tokens};
 use ts_syntax::{Token, TokenKind};

@@ -2,8 +2,9 @@
 
 ghost use Rattle.std.specs.Prelude.{◌≡◌};
 
+use mate_files::FILE_MAX;
 use mate_journal::{Air, Aired};
-use mate_num::{FILE_MAX, HOUR, NoMemory, PacketBytes, Stamp};
+use mate_num::{HOUR, NoMemory, PacketBytes, Stamp};
 use radio_sim::{Cancel, Event, Radio};
 use std::alloc::Global;
 use vm_desc::Description;

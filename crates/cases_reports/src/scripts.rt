@@ -2,7 +2,7 @@
 //! the signs in them.
 
 use cases_files::{cause_word, quoted};
-use mate_num::FILE_MAX;
+use mate_files::FILE_MAX;
 use script_reader::{ScriptFault, Step, node_script};
 use std::alloc::{AllocError, Global};
 use vm_desc::Description;

@@ -7,7 +7,7 @@ use crate::programs::{are_of, programs_of_script};
 use crate::same::are_same;
 use crate::stopped::stopped;
 use mate_journal::{Programs, Report, RunFault};
-use mate_num::FILE_MAX;
+use mate_files::FILE_MAX;
 use mate_steps::machine_of;
 use memory_files::MemFiles;
 use report_reading::read;

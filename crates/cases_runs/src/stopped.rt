@@ -6,7 +6,7 @@ ghost use Rattle.node_programs.specs.WorldPrograms.{AreProgramsOfWorld};
 use crate::same::are_same;
 use crate::scarce::ScarceSink;
 use mate_journal::{IntoFault, Programs, Report};
-use mate_num::FILE_MAX;
+use mate_files::FILE_MAX;
 use memory_files::MemSink;
 use report_reading::read;
 use std::alloc::{AllocError, Global};

@@ -2,7 +2,7 @@
 
 use crate::parts::parts_of;
 use cases_files::cause_word;
-use mate_num::FILE_MAX;
+use mate_files::FILE_MAX;
 use script_reader::ScriptFault;
 use std::alloc::{AllocError, Global};
 use vm_desc::Description;

@@ -1,7 +1,7 @@
 //! The script in a file, and the programs of the files that it names.
 
 ghost use Rattle.std.specs.Prelude.{◌≡◌, ◌≤◌, ℕ, List, [], ◌∷◌, length, codes, None, Some, Err, All, IfOk, IfSome};
-ghost use Rattle.mate_num.specs.declared.bounds.TheConstants.{FILE_MAX};
+ghost use Rattle.mate_files.specs.declared.files.TheConstants.{FILE_MAX};
 ghost use Rattle.ts_checked.specs.Checked.{checked_tree};
 ghost use Rattle.ts_checker.specs.Accepted.{IsAccepted};
 ghost use Rattle.script_reader.specs.NodeScript.{node_script_in};

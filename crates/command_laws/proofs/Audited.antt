@@ -63,7 +63,7 @@ use Rattle.world_programs.specs.Named.{begins_world, are_of_world, is_of_world, 
 use Rattle.world_programs.specs.WorldFiles.{world}
 use Rattle.world_reader.specs.WorldScript.{world_script_in, after_world_line, when_told, no_world, world_at_end}
 use Rattle.world_script.specs.declared.world.World.{World}
-use Rattle.world_sim.specs.Promise.{IsReportOfWorld}
+use Rattle.world_run_laws.specs.Promise.{IsReportOfWorld}
 
 -- ---- a script is a node's or a world's by its first word
 

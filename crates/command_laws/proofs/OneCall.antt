@@ -30,7 +30,7 @@ use Rattle.report_summary.specs.Summary.{summary_text}
 use Rattle.run_steps.specs.Running.{IsReportOf}
 use Rattle.report_summary.specs.Writing.{OfRun}
 use Rattle.vm_desc.specs.declared.description.Description.{Description}
-use Rattle.world_sim.specs.Promise.{IsReportOfWorld}
+use Rattle.world_run_laws.specs.Promise.{IsReportOfWorld}
 
 command_agrees : WorldsHaveOneReport → (names : Names) (t : Task) → AnswersAgree SameText (command (steady names) t) (command (steady names) t)
 command_agrees law names (Node fold short vm script) = node_agrees names fold short vm script

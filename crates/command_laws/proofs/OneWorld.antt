@@ -40,10 +40,9 @@ use Rattle.world_programs.specs.WorldFiles.{IsBadWorld, world_text, world}
 use Rattle.world_programs.specs.declared.made.MadeWorld.{MadeWorld}
 use Rattle.world_reader.specs.WorldScript.{world_script_in}
 use Rattle.world_rules.specs.Report.{IsWorldReport}
-use Rattle.world_rules.specs.World.{world_of}
-use Rattle.world_rules.specs.World.{World as Rules}
+use Rattle.world_rules.specs.World.{world_of, World as Rules}
 use Rattle.world_script.specs.declared.world.World.{World}
-use Rattle.world_sim.specs.Promise.{IsReportOfWorld}
+use Rattle.world_run_laws.specs.Promise.{IsReportOfWorld}
 use Rattle.world_state_laws.specs.SourceWorld.{source_world}
 
 -- ---- the run

@@ -10,7 +10,7 @@ use Rattle.report_text.specs.Text.{text}
 use Rattle.run_steps.specs.Running.{IsReportOf}
 use Rattle.report_summary.specs.Writing.{OfRun}
 use Rattle.vm_desc.specs.declared.description.Description.{Description}
-use Rattle.world_sim.specs.Promise.{IsReportOfWorld}
+use Rattle.world_run_laws.specs.Promise.{IsReportOfWorld}
 
 -- how a run ended by itself
 abbrev pub run_end : (full : Bool) → RunEnd

@@ -1,7 +1,7 @@
 //! The law that `audit` finds serial what a run wrote.
 
 ghost use Rattle.std.specs.Prelude.{◌≡◌, ◌≤◌, List, ℕ, Bool, false, length, codes, Some, Result, Ok};
-ghost use Rattle.mate_num.specs.declared.bounds.TheConstants.{FILE_MAX};
+ghost use Rattle.mate_files.specs.declared.files.TheConstants.{FILE_MAX};
 ghost use Rattle.command_laws.specs.Texts.{IsOutputText};
 ghost use Rattle.mate_cli.specs.Audit.{audit};
 ghost use Rattle.mate_cli.specs.Node.{node};

@@ -1,4 +1,3 @@
-pub mod StackLemmas
 pub mod MachineLemmas
 pub mod OperandLemmas
 pub mod StepLemmas

@@ -127,7 +127,7 @@ impl Memory {
 }
 
 // The first `depth` values, with one more after them.
-#[tactic(auto, using(crate::proofs::StackLemmas::put_reverse))]
+#[tactic(auto, using(mate_code::proofs::StackLemmas::put_reverse))]
 fn put(stack: &mut [i16; 16], depth: usize, value: i16)
     requires { depth < 16 }
     ensures { reverse (take (depth + 1) stack.new) ≡ value ∷ reverse (take depth stack.old) }
@@ -136,7 +136,7 @@ fn put(stack: &mut [i16; 16], depth: usize, value: i16)
 }
 
 // The last of the first `depth` values.
-#[tactic(auto, using(crate::proofs::StackLemmas::last_reverse))]
+#[tactic(auto, using(mate_code::proofs::StackLemmas::last_reverse))]
 fn last(stack: &[i16; 16], depth: usize) -> i16
     requires some { 1 ≤ depth }
     requires fits { depth ≤ 16 }
@@ -146,7 +146,7 @@ fn last(stack: &[i16; 16], depth: usize) -> i16
 }
 
 // The values from `first` on, up to `depth`.
-#[tactic(auto, using(crate::proofs::StackLemmas::between_is))]
+#[tactic(auto, using(mate_code::proofs::StackLemmas::between_is))]
 fn between(stack: &[i16; 16], first: usize, depth: usize) -> &[i16]
     requires first { first ≤ depth }
     requires fits { depth ≤ 16 }

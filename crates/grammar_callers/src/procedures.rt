@@ -1,7 +1,7 @@
 //! Sources that exclude a wrong body of `read` of `ts_procs`.
 
 ghost use Rattle.std.specs.Prelude.{◌≡◌, ◌⊎◌, ◌≤◌, length, MatchResult};
-ghost use Rattle.mate_num.specs.declared.bounds.TheConstants.{FILE_MAX};
+ghost use Rattle.mate_files.specs.declared.files.TheConstants.{FILE_MAX};
 ghost use Rattle.proc_names.specs.declared.fault.ProcFault.TheVariants.{TooDeep, NoMemory};
 ghost use Rattle.ts_procs.specs.Reading.{IsDeepAt};
 

@@ -1,6 +1,6 @@
 -- What lock sets gain, and that verified code names resources that a machine can have.
-use Rattle.std.proofs.Common.{◌≡◌, ◌≢◌, ℕ, zero, suc, ◌+◌, ◌<◌, ◌≤◌, List, [], ◌∷◌, Bool, true, false, ◌||◌, eqb, Option, None, Some, length, take, get_or, IsTrue, ◌⊎◌, inl, inr, refl, sym, ◌∙◌, ap, subst, arith, rules}
-use Rattle.std.specs.Prelude.{nat_lt}
+use Rattle.std.proofs.Common.{◌≡◌, ◌≢◌, ℕ, zero, suc, ◌+◌, ◌<◌, ◌≤◌, List, [], ◌∷◌, Bool, true, false, ◌||◌, eqb, Option, None, Some, length, take, get_or, IsTrue, inl, inr, refl, sym, ◌∙◌, ap, subst, arith}
+use Rattle.std.specs.Prelude.{nat_lt, is_some}
 use Rattle.std.specs.List.{list_any}
 use Rattle.std.proofs.lemmas.Bool.{eqb-true, eq-eqb, ne_eqb, ltb-true, lt-ltb, cases_Bool, and_parts}
 use Rattle.std.proofs.lemmas.List.{take_all}
@@ -17,14 +17,14 @@ use Rattle.mate_num.specs.declared.shape.FunShape.{FunShape}
 use Rattle.mate_num.specs.declared.shape.Shape.{Shape}
 use Rattle.mate_num.specs.Uses.{AddsResource, IsSameUses, no_uses, is_same_resource, function_shape, is_device_of, is_same_device}
 use Rattle.mate_code.specs.declared.instr.Instr.{Instr}
-use Rattle.mate_code.specs.declared.instr.Instr.TheVariants.{GetS, SetS, BGet, BSet, BAdd, BTake, BSize, BClear, FunBuf}
+use Rattle.mate_code.specs.declared.instr.Instr.TheVariants.{Halt, GetS, SetS, BGet, BSet, BAdd, BTake, BSize, BClear, FunBuf}
 use Rattle.mate_code.specs.CodeUses.{use_of, reads_in, writes_in}
 use Rattle.mate_code.specs.declared.uses.Use.TheVariants.{Nothing, Gets, Changes, Calls, Sends}
 use Rattle.mate_code.specs.declared.uses.Use.{Use}
 use Rattle.mate_code.specs.Flow.{is_in_range}
 use Rattle.mate_code.specs.Instr.{size_of}
-use Rattle.mate_code.specs.Run.{Code, fetch}
-use Rattle.mate_code.specs.Verification.{AreFrom}
+use Rattle.mate_code.specs.Run.{Code, fetch, size_of_code}
+use Rattle.mate_code.specs.Verification.{AreFrom, is_start}
 use Rattle.mate_code.proofs.CellLemmas.{is_same-refl}
 use Rattle.mate_code.proofs.VerificationLemmas.{fetch-range}
 use Rattle.code_verifier.specs.Verified.{VerifiedCode, IsVerifiedCode}
@@ -34,7 +34,7 @@ use Rattle.vm_desc.specs.Limits.{is_function}
 use Rattle.mate_num.specs.Shapes.{is_device as is_there}
 use Rattle.vm_desc.specs.Shapes.{fun_shape, shape_of}
 use Rattle.vm_desc.proofs.DescriptionLemmas.{bounds_of, function_at}
-use Rattle.lock_inference.specs.Locks.{held_uses, AreLocksOf, device_in, names_resource, Gains}
+use Rattle.lock_inference.specs.Locks.{held_uses, AreLocksOf, IsGathered, device_in, names_resource, Gains}
 
 -- ---- one resource more
 
@@ -130,6 +130,46 @@ fetch-at at (p ∷ code) (suc k) d from lt =
     let other : eqb p.0 (get_or code k d).0 ≡ false = ne_eqb p.0 (get_or code k d).0 (λ e. absurd (omega (arith, range.0))) in
     rw other found
 
+-- the k-th instruction stands behind those before it
+place-at : (at : ℕ) (code : Code) (k : ℕ) (d : ℕ × Instr) → AreFrom at code → k < length code → (get_or code k d).0 ≡ at + size_of_code (take k code)
+place-at at [] k d from lt = absurd (omega arith)
+place-at at (p ∷ code) zero d from lt = let e : p.0 ≡ at = from.0 in omega arith
+place-at at (p ∷ code) (suc k) d from lt =
+    let later = place-at (at + size_of p.1) code k d from.1 (omega arith) in
+    let e : size_of_code (p ∷ take k code) ≡ size_of p.1 + size_of_code (take k code) = refl in
+    omega arith
+
+-- and takes its size
+size-next : (code : Code) (k : ℕ) (d : ℕ × Instr) → k < length code → size_of_code (take (suc k) code) ≡ size_of_code (take k code) + size_of (get_or code k d).1
+size-next [] k d lt = absurd (omega arith)
+size-next (p ∷ code) zero d lt = let e : size_of_code (take (suc zero) (p ∷ code)) ≡ size_of p.1 = omega arith in omega arith
+size-next (p ∷ code) (suc k) d lt =
+    let later = size-next code k d (omega arith) in
+    let e : size_of_code (take (suc (suc k)) (p ∷ code)) ≡ size_of p.1 + size_of_code (take (suc k) code) = refl in
+    let f : size_of_code (take (suc k) (p ∷ code)) ≡ size_of p.1 + size_of_code (take k code) = refl in
+    omega (arith, later, e, f)
+
+-- instructions that take fewer bytes are not all
+fewer-size : (code : Code) (k : ℕ) → size_of_code (take k code) < size_of_code code → k < length code
+fewer-size [] zero lt = absurd (omega arith)
+fewer-size [] (suc k) lt = absurd (omega arith)
+fewer-size (p ∷ code) zero lt = omega arith
+fewer-size (p ∷ code) (suc k) lt =
+    let e : size_of_code (take (suc k) (p ∷ code)) ≡ size_of p.1 + size_of_code (take k code) = refl in
+    let f : size_of_code (p ∷ code) ≡ size_of p.1 + size_of_code code = refl in
+    let later = fewer-size code k (omega (arith, lt, e, f)) in
+    omega (arith, later)
+
+-- instructions that take as many bytes are all
+whole-size : (code : Code) (k : ℕ) → size_of_code code ≤ size_of_code (take k code) → length code ≤ k
+whole-size [] k le = omega arith
+whole-size (p ∷ code) zero le = absurd (let f : size_of_code (p ∷ code) ≡ size_of p.1 + size_of_code code = refl in omega (arith, f, le))
+whole-size (p ∷ code) (suc k) le =
+    let e : size_of_code (take (suc k) (p ∷ code)) ≡ size_of p.1 + size_of_code (take k code) = refl in
+    let f : size_of_code (p ∷ code) ≡ size_of p.1 + size_of_code code = refl in
+    let later = whole-size code k (omega (arith, le, e, f)) in
+    omega (arith, later)
+
 below : (n limit most : ℕ) → limit ≤ most → IsTrue (nat_lt n limit) → IsTrue (nat_lt n most)
 below n limit most le h = let k : n < limit = ltb-true n limit h in lt-ltb n most (omega arith)
 
@@ -147,14 +187,12 @@ names shape (FunBuf f b) shared buffers h = below b.0 shape.buffers 8 buffers h
 names shape _ shared buffers h = refl
 
 -- so in verified code
-pub verified-names : (d : Description) (v : VerifiedCode) (pairs : Code) (k : ℕ) (x : ℕ × Instr) (u : Use) → v.shape ≡ shape_of d → IsVerifiedCode v → pairs ≡ v.code → k < length pairs → u ≡ use_of (get_or pairs k x).1 → IsTrue (names_resource u)
-verified-names d v pairs k x u shape is same lt e =
-    let found = fetch-at 0 pairs k x (subst (AreFrom 0) (sym same) is.are_verified.is_verified.places) lt in
-    let there : fetch v.code (get_or pairs k x).0 ≡ Some (get_or pairs k x).1 = ap (λ (code : Code). fetch code (get_or pairs k x).0) (sym same) ∙ found in
-    let right = is.is_sound.each (get_or pairs k x).0 (get_or pairs k x).1 there in
+pub verified-names : (d : Description) (v : VerifiedCode) (place : ℕ) (i : Instr) (u : Use) → v.shape ≡ shape_of d → IsVerifiedCode v → fetch v.code place ≡ Some i → u ≡ use_of i → IsTrue (names_resource u)
+verified-names d v place i u shape is there e =
+    let right = is.is_sound.each place i there in
     let P : Use → Type 0 = λ w. IsTrue (names_resource w) in
-    let Q : Shape → Type 0 = λ s. IsTrue (is_in_range s (get_or pairs k x).1) in
-    subst P (sym e) (names (shape_of d) (get_or pairs k x).1 (bounds_of d).shared_high (bounds_of d).buffers_high (subst Q shape right.names))
+    let Q : Shape → Type 0 = λ s. IsTrue (is_in_range s i) in
+    subst P (sym e) (names (shape_of d) i (bounds_of d).shared_high (bounds_of d).buffers_high (subst Q shape right.names))
 
 -- ---- the device of a function
 
@@ -187,24 +225,52 @@ device-none d functions fun same past =
 
 -- ---- the loop over them
 
-pub locks-none : (shape : Shape) (set : LockSet) → IsSameUses (held_uses set) no_uses → AreLocksOf shape [] set
-locks-none shape set empty = record { reads = empty.reads; writes = empty.writes }
-
-pub locks-more : (shape : Shape) (code pairs : Code) (k : ℕ) (d : ℕ × Instr) (old new : LockSet) (u : Use) → pairs ≡ code → k < length pairs → u ≡ use_of (get_or pairs k d).1 → AreLocksOf shape (take k code) old → Gains shape old new u → AreLocksOf shape (take (k + 1) code) new
-locks-more shape code pairs k d old new u same lt e so_far gains =
-    let lt' : k < length code = (let n : length pairs ≡ length code = ap length same in omega arith) in
-    let e' : u ≡ use_of (get_or code k d).1 = e ∙ ap (λ (c : Code). use_of (get_or c k d).1) same in
+locks-more : (shape : Shape) (code : Code) (k : ℕ) (d : ℕ × Instr) (old new : LockSet) (u : Use) → k < length code → u ≡ use_of (get_or code k d).1 → AreLocksOf shape (take k code) old → Gains shape old new u → AreLocksOf shape (take (k + 1) code) new
+locks-more shape code k d old new u lt e so_far gains =
     let reader = λ (r : Resource) (p : ℕ × Instr). reads_in (use_of p.1) r in
     let writer = λ (r : Resource) (p : ℕ × Instr). writes_in shape (use_of p.1) r in
     record {
       reads = λ r. gains.reads r ∙ ap (λ (b : Bool). b || reads_in u r) (so_far.reads r)
-          ∙ ap (λ (x : Use). list_any (reader r) (take k code) || reads_in x r) e' ∙ sym (list_any_more (reader r) code k d lt');
+          ∙ ap (λ (x : Use). list_any (reader r) (take k code) || reads_in x r) e ∙ sym (list_any_more (reader r) code k d lt);
       writes = λ r. gains.writes r ∙ ap (λ (b : Bool). b || writes_in shape u r) (so_far.writes r)
-          ∙ ap (λ (x : Use). list_any (writer r) (take k code) || writes_in shape x r) e' ∙ sym (list_any_more (writer r) code k d lt');
+          ∙ ap (λ (x : Use). list_any (writer r) (take k code) || writes_in shape x r) e ∙ sym (list_any_more (writer r) code k d lt);
     }
 
-pub locks-all : (shape : Shape) (code pairs : Code) (k : ℕ) (set : LockSet) → pairs ≡ code → length pairs ≤ k → AreLocksOf shape (take k code) set → AreLocksOf shape code set
-locks-all shape code pairs k set same le so_far =
-    let le' : length code ≤ k = (let n : length pairs ≡ length code = ap length same in omega arith) in
+pub gathered-none : (shape : Shape) (code : Code) (set : LockSet) → IsSameUses (held_uses set) no_uses → IsGathered shape code 0 set
+gathered-none shape code set empty = record { many = 0; place_is = omega arith; locks = record { reads = empty.reads; writes = empty.writes } }
+
+-- the instruction at the place is the next one
+next-there : (shape : Shape) (code : Code) (place : ℕ) (set : LockSet) (so_far : IsGathered shape code place set) → AreFrom 0 code → place < size_of_code code
+    → (so_far.many < length code) × (fetch code place ≡ Some (get_or code so_far.many (0, Halt)).1)
+next-there shape code place set so_far from lt =
+    let k = so_far.many in
+    let few = fewer-size code k (let e = so_far.place_is in omega (arith, e, lt)) in
+    let same : (get_or code k (0, Halt)).0 ≡ place = (let at = place-at 0 code k (0, Halt) from few in let e = so_far.place_is in omega (arith, at, e)) in
+    (few, ap (fetch code) (sym same) ∙ fetch-at 0 code k (0, Halt) from few)
+
+pub starts-there : (shape : Shape) (v : VerifiedCode) (place len : ℕ) (bytes : List ℕ) (set : LockSet) → IsGathered shape v.code place set → IsVerifiedCode v → bytes ≡ v.bytes → len ≡ length bytes → place < len → IsTrue (is_start v.code place)
+starts-there shape v place len bytes set so_far is same len_is lt =
+    let below : place < size_of_code v.code = (let size = is.are_verified.size in let e = ap length same in omega (arith, size, e, len_is, lt)) in
+    let next = next-there shape v.code place set so_far is.are_verified.is_verified.places below in
+    ap (λ (o : Option Instr). is_some o) next.1
+
+pub gathered-more : (shape : Shape) (v : VerifiedCode) (place len : ℕ) (bytes : List ℕ) (i : Instr) (old new : LockSet) (u : Use) → IsGathered shape v.code place old → IsVerifiedCode v → bytes ≡ v.bytes → len ≡ length bytes → place < len
+    → fetch v.code place ≡ Some i → u ≡ use_of i → Gains shape old new u → IsGathered shape v.code (place + size_of i) new
+gathered-more shape v place len bytes i old new u so_far is same len_is lt there e gains =
+    let k = so_far.many in
+    let below : place < size_of_code v.code = (let size = is.are_verified.size in let e = ap length same in omega (arith, size, e, len_is, lt)) in
+    let next = next-there shape v.code place old so_far is.are_verified.is_verified.places below in
+    let i_is : i ≡ (get_or v.code k (0, Halt)).1 = (let f : Some i ≡ Some (get_or v.code k (0, Halt)).1 = sym there ∙ next.1 in cc) in
+    let sized = size-next v.code k (0, Halt) next.0 in
+    let one : suc k ≡ k + 1 = omega arith in
+    record {
+      many = k + 1;
+      place_is = ap (λ (j : Instr). place + size_of j) i_is ∙ ap (λ (n : ℕ). n + size_of (get_or v.code k (0, Halt)).1) so_far.place_is ∙ sym sized ∙ ap (λ (n : ℕ). size_of_code (take n v.code)) one;
+      locks = locks-more shape v.code k (0, Halt) old new u next.0 (e ∙ ap use_of i_is) so_far.locks gains;
+    }
+
+pub locks-all : (shape : Shape) (v : VerifiedCode) (place len : ℕ) (bytes : List ℕ) (set : LockSet) → IsVerifiedCode v → bytes ≡ v.bytes → len ≡ length bytes → len ≤ place → IsGathered shape v.code place set → AreLocksOf shape v.code set
+locks-all shape v place len bytes set is same len_is past so_far =
+    let whole : length v.code ≤ so_far.many = whole-size v.code so_far.many (let size = is.are_verified.size in let e = ap length same in let at = so_far.place_is in omega (arith, size, e, len_is, past, at)) in
     let P : Code → Type 0 = λ c. AreLocksOf shape c set in
-    subst P (take_all k code le') so_far
+    subst P (take_all so_far.many v.code whole) so_far.locks

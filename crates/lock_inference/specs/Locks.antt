@@ -1,5 +1,5 @@
 -- The locks of code: what a lock set holds, and what it gains from an instruction.
-use Rattle.std.specs.Prelude.{◌≡◌, Bool, true, ◌||◌, Option, None, Some}
+use Rattle.std.specs.Prelude.{◌≡◌, ℕ, take, Bool, true, ◌||◌, Option, None, Some}
 use Rattle.mate_num.specs.declared.lock_set.LockSet.{LockSet}
 use Rattle.mate_num.specs.declared.resource.Resource.{Resource}
 use Rattle.mate_num.specs.declared.id.DeviceId.{DeviceId}
@@ -8,7 +8,7 @@ use Rattle.mate_num.specs.declared.shape.Shape.{Shape}
 use Rattle.mate_num.specs.Uses.{Uses, IsSameUses}
 use Rattle.mate_num.specs.Locks as locks
 use Rattle.mate_num.specs.Locks.{is_resource}
-use Rattle.mate_code.specs.Run.{Code}
+use Rattle.mate_code.specs.Run.{Code, size_of_code}
 use Rattle.mate_code.specs.declared.uses.Use.{Use}
 use Rattle.mate_code.specs.CodeUses as code_uses
 use Rattle.mate_code.specs.CodeUses.{cell_in, reads_in, writes_in}
@@ -20,6 +20,12 @@ held_uses set = locks.lock_uses set
 -- the set holds as read exactly what the code reads, and as written exactly what it writes
 abbrev pub AreLocksOf : Shape → Code → LockSet → Type 0
 AreLocksOf shape code set = IsSameUses (held_uses set) (code_uses.uses_of shape code)
+
+-- a place of the code: the set holds what the instructions before it read and write
+pub record IsGathered (shape : Shape) (code : Code) (place : ℕ) (set : LockSet) : Type 0 where
+  pub many : ℕ
+  pub place_is : place ≡ size_of_code (take many code)
+  pub locks : AreLocksOf shape (take many code) set
 
 -- a machine can have the resource, if there is one
 abbrev pub is_some_resource : Option Resource → Bool

@@ -19,10 +19,12 @@ pub fn locks(desc: &Description, code: &Verified) -> LockSet
     ensures { AreLocksOf (shape_of desc.now) code.now.code result }
 {
     let mut set = LockSet::empty();
-    let instrs = code.instrs();
-    let pairs = instrs.as_slice();
-    'instrs: for (_, instr) in pairs {
+    let len = code.code().len() as u16;
+    let mut place: u16 = 0;
+    'instrs: while place < len {
+        let instr = code.instr(place);
         set = with_use(set, desc, instr.uses());
+        place += instr.size() as u16;
     }
     set
 }

@@ -30,7 +30,7 @@ use Rattle.report_summary.specs.Writing.{OfRun, IsWrittenPart, IsWrittenShort, I
 use Rattle.report_summary.specs.declared.write_fault.WriteFault.{WriteFault}
 use Rattle.report_summary.specs.declared.write_fault.WriteFault.TheVariants as fault
 use Rattle.vm_desc.specs.declared.description.Description.{Description}
-use Rattle.world_sim.specs.Promise.{IsReportOfWorld}
+use Rattle.world_run_laws.specs.Promise.{IsReportOfWorld}
 
 abbrev pub command : Folder → Task → Result Output Refusal → Type 0
 command f (Node fold brief vm script) = node f fold brief vm script

@@ -12,7 +12,7 @@ use Rattle.world_programs.specs.Injected.{world_programs}
 use Rattle.world_programs.specs.Made.{made}
 use Rattle.world_programs.specs.WorldFiles.{world}
 use Rattle.world_script.specs.declared.world.World.{World}
-use Rattle.world_sim.specs.Promise.{IsReportOfWorld}
+use Rattle.world_run_laws.specs.Promise.{IsReportOfWorld}
 
 -- what is written of the run
 abbrev pub world_output : Bool → Description → World → List Program → Result Output Refusal → Type 0

@@ -1,6 +1,6 @@
 //! The writing of an output, and its status.
 
-ghost use Rattle.world_sim.specs.Promise.{IsReportOfWorld};
+ghost use Rattle.world_run_laws.specs.Promise.{IsReportOfWorld};
 ghost use Rattle.run_steps.specs.Running.{IsReportOf};
 ghost use Rattle.node_programs.specs.WorldPrograms.{AreProgramsOfWorld};
 ghost use Rattle.std.specs.Prelude.{true};
@@ -21,7 +21,7 @@ use script_reader::Steps;
 use std::alloc::Global;
 use vm_desc::Description;
 use world_script::World;
-use world_sim::write_world;
+use world_writing::write_world;
 
 /// Writes an output.
 #[inline(never)]

@@ -12,3 +12,4 @@ pub mod EffectLemmas
 pub mod VerificationLemmas
 pub mod BoundLemmas
 pub mod BytesVerificationLemmas
+pub mod StackLemmas

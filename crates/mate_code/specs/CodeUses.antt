@@ -15,41 +15,36 @@ use Rattle.mate_code.specs.Row.{row_of}
 
 -- what an instruction with this access and this operand has to do with what handlers share
 abbrev pub use_by : Access → ℕ → Use
-use_by access.Nothing n = Nothing
-use_by access.Private n = Nothing
 use_by access.GetsVariable n = Gets (Shared record { 0 = n })
 use_by access.SetsVariable n = Changes (Shared record { 0 = n })
 use_by access.GetsBuffer n = Gets (Buffer record { 0 = n })
 use_by access.SetsBuffer n = Changes (Buffer record { 0 = n })
 use_by (access.Calls f) n = Calls f
 use_by (access.Sends f) n = Sends f record { 0 = n }
+use_by _ n = Nothing
 
 abbrev pub use_of : Instr → Use
 use_of i = use_by (row_of (kind_of i)).access (operand_of i)
 
 -- the cell that an instruction names
 abbrev pub cell_in : Use → Option Resource
-cell_in Nothing = None
 cell_in (Gets r) = Some r
 cell_in (Changes r) = Some r
-cell_in (Calls f) = None
 cell_in (Sends f b) = Some (Buffer b)
+cell_in _ = None
 
 -- it reads r: the cell that it gets from, or the buffer that it sends
 abbrev pub reads_in : Use → Resource → Bool
-reads_in Nothing r = false
 reads_in (Gets cell) r = is_same_resource cell r
-reads_in (Changes cell) r = false
-reads_in (Calls f) r = false
 reads_in (Sends f b) r = is_same_resource (Buffer b) r
+reads_in _ r = false
 
 -- it writes r: the cell that it changes, or the device of the function that it calls
 abbrev pub writes_in : Shape → Use → Resource → Bool
-writes_in shape Nothing r = false
-writes_in shape (Gets cell) r = false
 writes_in shape (Changes cell) r = is_same_resource cell r
 writes_in shape (Calls f) r = is_device_of (function_shape shape f) r
 writes_in shape (Sends f b) r = is_device_of (function_shape shape f) r
+writes_in shape _ r = false
 
 -- what code reads and writes: what some instruction of it does
 abbrev pub uses_of : Shape → List (ℕ × Instr) → Uses

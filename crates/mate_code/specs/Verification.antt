@@ -40,17 +40,15 @@ given Clash n = Clash
 
 -- the depth at a place; 0 if none was given
 abbrev pub depth_in : DepthMark → ℕ
-depth_in Blank = 0
 depth_in (Depth n) = n
-depth_in Clash = 0
+depth_in _ = 0
 
 abbrev pub depth_at : Marks → ℕ → ℕ
 depth_at marks place = depth_in (marks place)
 
 abbrev pub is_clash : DepthMark → Bool
-is_clash Blank = false
-is_clash (Depth n) = false
 is_clash Clash = true
+is_clash _ = false
 
 -- the marks after a place is given a depth
 abbrev pub mark : ℕ → ℕ → Marks → Marks
@@ -70,27 +68,22 @@ is_start code place = is_some (fetch code place)
 
 -- the target, if there is one, is a start
 abbrev pub has_target : Code → Flow → Bool
-has_target code Next = true
-has_target code Ends = true
 has_target code (Branches target) = is_start code target
 has_target code (Jumps target) = is_start code target
 has_target code (Returns target) = is_start code target
+has_target code _ = true
 
 -- the target lies forward, and that of a going back doesn't
 abbrev pub has_direction : ℕ → Flow → Bool
-has_direction place Next = true
-has_direction place Ends = true
 has_direction place (Branches target) = nat_lt place target
 has_direction place (Jumps target) = nat_lt place target
 has_direction place (Returns target) = nat_le target place
+has_direction place _ = true
 
 -- a going back has its target's depth
 abbrev pub has_back_depth : Marks → ℕ → Flow → Bool
-has_back_depth marks depth Next = true
-has_back_depth marks depth Ends = true
-has_back_depth marks depth (Branches target) = true
-has_back_depth marks depth (Jumps target) = true
 has_back_depth marks depth (Returns target) = depth_at marks target == depth
+has_back_depth marks depth _ = true
 
 -- the refusal if the test fails, and else what comes after it
 abbrev pub demand : Bool → Refusal → Option Refusal → Option Refusal
@@ -111,10 +104,9 @@ refusal_at shape code marks place i =
 -- the marks that an instruction leaves: its depth goes on to the next place and to the target of a jump forward
 abbrev pub marks_after : Flow → ℕ → ℕ → Marks → Marks
 marks_after Next next depth marks = mark next depth marks
-marks_after Ends next depth marks = marks
 marks_after (Branches target) next depth marks = mark next depth (mark target depth marks)
 marks_after (Jumps target) next depth marks = mark target depth marks
-marks_after (Returns target) next depth marks = marks
+marks_after _ next depth marks = marks
 
 abbrev pub instr_marks : Shape → ℕ → Instr → Marks → Marks
 instr_marks shape place i marks = marks_after (flow_of i) (place + size_of i) (depth_after shape i (depth_at marks place)) marks
@@ -132,11 +124,8 @@ pass shape code marks (p ∷ rest) =
 
 -- the last instruction halts
 abbrev pub is_end : Flow → Bool
-is_end Next = false
 is_end Ends = true
-is_end (Branches target) = false
-is_end (Jumps target) = false
-is_end (Returns target) = false
+is_end _ = false
 
 abbrev pub halts : Code → Bool
 halts [] = false

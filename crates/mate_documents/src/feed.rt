@@ -3,7 +3,7 @@
 ghost use Rattle.std.specs.Prelude.{◌≤◌, length, IfOk};
 ghost use Rattle.mate_documents.specs.Feed.{feed, answers, whole_stream};
 ghost use Rattle.mate_documents.specs.Outputs.{CanBeWritten};
-ghost use Rattle.mate_num.specs.declared.bounds.TheConstants.{FILE_MAX};
+ghost use Rattle.mate_files.specs.declared.files.TheConstants.{FILE_MAX};
 ghost use Rattle.mate_steps.specs.Parts.{ReadsFiles};
 
 use crate::boxed_machine::BoxedMachine;

@@ -4,7 +4,7 @@ use Rattle.std.specs.Global.{Vec}
 use Rattle.mate_files.specs.Counts.{Rose, one_more}
 use Rattle.mate_files.specs.declared.files.FilesFault.{FilesFault}
 use Rattle.mate_files.specs.declared.files.FilesFault.TheVariants.{Failed, TooLarge, NoMemory}
-use Rattle.mate_num.specs.declared.bounds.TheConstants.{FILE_MAX}
+use Rattle.mate_files.specs.declared.files.TheConstants.{FILE_MAX}
 
 -- the bytes of each name that has some
 abbrev pub Names : Type 0

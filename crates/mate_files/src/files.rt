@@ -4,6 +4,9 @@ ghost use Rattle.mate_files.specs.Files.{Names, ReadGives};
 
 use thiserror::Error;
 
+/// The greatest length of a file that is read whole, in bytes: of a description, a source, a script, a report or a stream.
+pub const FILE_MAX: usize = 1_048_576;
+
 /// Why a file wasn't read.
 #[derive(Clone, Copy, Debug, Error)]
 pub enum FilesFault {

@@ -7,8 +7,7 @@ mod os_sink;
 mod pen;
 mod sink;
 
-pub use files::{Files, FilesFault};
-pub use mate_num::FILE_MAX;
+pub use files::{FILE_MAX, Files, FilesFault};
 pub use os_files::OsFiles;
 pub use os_sink::OsSink;
 pub use pen::Pen;

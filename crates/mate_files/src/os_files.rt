@@ -2,8 +2,7 @@
 ghost use Rattle.std.specs.Prelude.{◌≡◌, ◌≤◌, ◌<◌, ◌+◌, ◌++◌, ◌⊎◌, ℕ, List, IfOk, IfErr, length};
 ghost use Rattle.std.specs.Io.KnownBytes.{Consumes, IsAtEnd};
 
-use super::files::{Files, FilesFault};
-use mate_num::FILE_MAX;
+use super::files::{FILE_MAX, Files, FilesFault};
 use std::alloc::Global;
 use std::io::Read;
 use std::{fs, rt};

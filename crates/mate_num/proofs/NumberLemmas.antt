@@ -1,10 +1,12 @@
 -- Lemmas on 16-bit numbers: a quotient wraps as the machine's division does, and `wrap` is the residue.
-use Rattle.std.proofs.Common.{◌≡◌, ℕ, zero, suc, ◌+◌, ◌-◌, ◌*◌, ◌/◌, ◌%◌, ◌<◌, ◌≤◌, ℤ, pos, negsuc, neg_ℤ, ◌≤ℤ◌, ◌+ℤ◌, FitsSigned, int_div, Some, ap, sym, ◌∙◌, refl, arith, subst, inl, inr, lit<, lit≤}
+use Rattle.std.proofs.Common.{◌≡◌, ℕ, zero, suc, ◌+◌, ◌-◌, ◌*◌, ◌/◌, ◌%◌, ◌<◌, ◌≤◌, ℤ, pos, negsuc, neg_ℤ, ◌≤ℤ◌, ◌+ℤ◌, FitsSigned, int_div, Some, Result, Ok, ap, sym, ◌∙◌, refl, arith, subst, inl, inr, lit<, lit≤}
 use Rattle.std.specs.Int.{w16, int_wrap, cast_signed, cast_unsigned, int_wrapping_div}
 use Rattle.std.proofs.lemmas.Int.{ints, to_z-of_z, int_wrap_fits, SFits-int_wrap}
 use native.Mathlib.Nat.{div-le_self, eq-or-lt_of_le, mod-lt}
 use Rattle.std.proofs.lemmas.Bool.{cases_lt}
 use Rattle.mate_num.specs.Number.{wrap, IsNumber, IsCongruent, quotient, num}
+use Rattle.mate_num.specs.declared.call.FaultKind.{FaultKind}
+use Rattle.mate_num.specs.declared.num16.Num16.{Num16}
 
 -- a quotient of 16-bit numbers: one past the greatest at most
 abbrev IsNear : ℤ → Type 0
@@ -91,3 +93,7 @@ wrap-only m n h c =
     let e : m +ℤ pos (c.0 * 65536) ≡ n +ℤ pos (c.1 * 65536) = c.2 in
     let f : wrap n +ℤ pos (w.0 * 65536) ≡ n +ℤ pos (w.1 * 65536) = w.2 in
     same_residue m (wrap n) (c.0 + w.1) (w.0 + c.1) h (wrap-IsNumber n) (omega (arith, ints))
+
+-- the value that a function gives is the operator's
+pub value-is : (v w : Num16) → v ≡ w → ◌≡◌ {A = Result ℤ FaultKind} (Ok w.0) (Ok v.0)
+value-is v w e = ap (λ (n : Num16). Ok n.0) (sym e)

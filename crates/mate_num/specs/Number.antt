@@ -35,8 +35,7 @@ remainder a (negsuc b) = Some (num (int_rem a (negsuc b)))
 -- every number but 0 counts as true
 abbrev pub is_truth : ℤ → Bool
 is_truth (pos zero) = false
-is_truth (pos (suc n)) = true
-is_truth (negsuc n) = true
+is_truth _ = true
 
 -- true is 1, false is 0
 abbrev pub truth : Bool → Num16
@@ -46,6 +45,5 @@ truth false = num (pos 0)
 -- a = b, as a test
 abbrev pub int_same : ℤ → ℤ → Bool
 int_same (pos a) (pos b) = a == b
-int_same (pos a) (negsuc b) = false
-int_same (negsuc a) (pos b) = false
 int_same (negsuc a) (negsuc b) = a == b
+int_same _ _ = false

@@ -10,14 +10,9 @@ use Rattle.mate_num.specs.declared.shape.Shape.{Shape}
 -- the same resource
 abbrev pub is_same_resource : Resource → Resource → Bool
 is_same_resource (Shared v) (Shared w) = v.0 == w.0
-is_same_resource (Shared v) (Buffer b) = false
-is_same_resource (Shared v) (Device d) = false
-is_same_resource (Buffer b) (Shared w) = false
 is_same_resource (Buffer b) (Buffer c) = b.0 == c.0
-is_same_resource (Buffer b) (Device d) = false
-is_same_resource (Device d) (Shared w) = false
-is_same_resource (Device d) (Buffer b) = false
 is_same_resource (Device d) (Device e) = d.0 == e.0
+is_same_resource _ _ = false
 
 -- r is the device, if there is one
 abbrev pub is_same_device : Option DeviceId → Resource → Bool

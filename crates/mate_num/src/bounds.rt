@@ -41,8 +41,11 @@ pub const SHORT_IMAGE: usize = 528;
 /// The greatest number of fragments that an image is sent in.
 pub const FRAGMENTS_MAX: usize = 22;
 
-/// The greatest length of a file that is read whole, in bytes: of a description, a source, a script, a report or a stream.
-pub const FILE_MAX: usize = 1_048_576;
+/// The greatest number of nodes of a world.
+pub const NODES_MAX: usize = 64;
+
+/// The greatest length of a radio packet, in bytes.
+pub const PACKET_MAX: usize = 64;
 
 /// An hour, in ms: no event of a world comes later, and no period of a timer and no trickle interval is longer.
 pub const HOUR: u32 = 3_600_000;
@@ -56,8 +59,8 @@ pub type Code = ArrayVec<u8, CODE_MAX>;
 /// A capsule as it is stored and sent.
 pub type Image = ArrayVec<u8, IMAGE_MAX>;
 
-/// A radio packet: at most 64 bytes.
-pub type PacketBytes = ArrayVec<u8, 64>;
+/// The bytes of a radio packet.
+pub type PacketBytes = ArrayVec<u8, PACKET_MAX>;
 
 const _: () = prove!(CODE_MAX + 16 == IMAGE_MAX);
 

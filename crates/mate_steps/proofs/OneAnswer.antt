@@ -10,7 +10,7 @@ use Rattle.mate_refusals.proofs.CauseLemmas.{fault_told-once}
 use Rattle.mate_refusals.specs.declared.description_cause.DescriptionCause.{DescriptionCause}
 use Rattle.vm_desc.proofs.DescriptionLemmas.{parts_of-same}
 use Rattle.mate_files.specs.Files.{Names}
-use Rattle.mate_num.specs.declared.bounds.TheConstants.{FILE_MAX}
+use Rattle.mate_files.specs.declared.files.TheConstants.{FILE_MAX}
 use Rattle.mate_steps.specs.OneAnswer.{Alike, AnswersAgree, steady}
 use Rattle.mate_steps.specs.Parts.{IsRead, IsUnread, file, machine_text, built_in, machine}
 use Rattle.mate_steps.specs.Steps.{judged, Then, goes_on, stops}

@@ -9,7 +9,7 @@ use Rattle.vm_desc.specs.Whole.{parts_of, builtin_parts}
 use Rattle.vm_desc.specs.declared.description.Description.{Description}
 use Rattle.mate_files.specs.Counts.{Rose}
 use Rattle.mate_files.specs.Files.{Names, WhereTold}
-use Rattle.mate_num.specs.declared.bounds.TheConstants.{FILE_MAX}
+use Rattle.mate_files.specs.declared.files.TheConstants.{FILE_MAX}
 use Rattle.command_line.specs.Commands.{builtin_word}
 use Rattle.mate_refusals.specs.DescriptionCauses.{fault_told}
 use Rattle.mate_refusals.specs.declared.cause.Unread.{Unread}

@@ -1,7 +1,7 @@
 //! The whole way from bytes to a checked script.
 
 ghost use Rattle.std.specs.Prelude.{◌≡◌, ◌≤◌, length, IfOk};
-ghost use Rattle.mate_num.specs.declared.bounds.TheConstants.{FILE_MAX};
+ghost use Rattle.mate_files.specs.declared.files.TheConstants.{FILE_MAX};
 ghost use Rattle.vm_desc.specs.Shapes.{shape_of as shape_of_machine};
 ghost use Rattle.ts_checked.specs.Checked.{checked_shape};
 ghost use Rattle.mate_steps.specs.Answers.{TellsAcceptance};

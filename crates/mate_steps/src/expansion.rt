@@ -1,7 +1,7 @@
 //! From the file of a source with procedures to the plain script that it expands to.
 
 ghost use Rattle.std.specs.Prelude.{◌≡◌, ◌≤◌, length};
-ghost use Rattle.mate_num.specs.declared.bounds.TheConstants.{FILE_MAX};
+ghost use Rattle.mate_files.specs.declared.files.TheConstants.{FILE_MAX};
 ghost use Rattle.proc_names.specs.Named.{written_of};
 ghost use Rattle.mate_steps.specs.Expansions.{RefusesExpansion, script_with_procedures, expanded_script, expanded_bytes, expanded_source};
 ghost use Rattle.mate_steps.specs.Parts.{ReadsFiles};

@@ -1,7 +1,7 @@
 //! From the file of a source to its code.
 
 ghost use Rattle.std.specs.Prelude.{◌≡◌, ◌≤◌, length, IfOk};
-ghost use Rattle.mate_num.specs.declared.bounds.TheConstants.{FILE_MAX};
+ghost use Rattle.mate_files.specs.declared.files.TheConstants.{FILE_MAX};
 ghost use Rattle.ts_checked.specs.Checked.{checked_tree, checked_shape as shape_of_script};
 ghost use Rattle.vm_desc.specs.Shapes.{shape_of};
 ghost use Rattle.mate_steps.specs.Parts.{ReadsFiles};

@@ -5,7 +5,7 @@ use Rattle.std.specs.Str.{bytes_eq}
 use Rattle.std.specs.BTreeMap.{get_by_text}
 use Rattle.mate_files.specs.Counts.{one_more}
 use Rattle.mate_files.specs.Files.{Names}
-use Rattle.mate_num.specs.declared.bounds.TheConstants.{FILE_MAX}
+use Rattle.mate_files.specs.declared.files.TheConstants.{FILE_MAX}
 use Rattle.memory_files.specs.declared.mem_files.MemFiles.{MemFiles}
 
 -- the bytes of each name

@@ -2,7 +2,7 @@
 
 ghost use Rattle.std.specs.Prelude.{◌≡◌, ◌≤◌, [], length, IfOk, IfSome, Ok};
 ghost use Rattle.std.specs.Str.{bytes_eq};
-ghost use Rattle.mate_num.specs.declared.bounds.TheConstants.{FILE_MAX};
+ghost use Rattle.mate_files.specs.declared.files.TheConstants.{FILE_MAX};
 ghost use Rattle.mate_steps.specs.Parts.{ReadsFiles};
 ghost use Rattle.mate_steps.specs.Sources.{compiled_bytes, source};
 ghost use Rattle.script_programs.specs.Known.{AreKnown, IsKnownAt};

@@ -1,7 +1,7 @@
 //! From a file to the node script in it.
 
 ghost use Rattle.std.specs.Prelude.{◌≤◌, length, IfOk};
-ghost use Rattle.mate_num.specs.declared.bounds.TheConstants.{FILE_MAX};
+ghost use Rattle.mate_files.specs.declared.files.TheConstants.{FILE_MAX};
 ghost use Rattle.mate_steps.specs.Parts.{ReadsFiles};
 ghost use Rattle.script_programs.specs.Numbers.{NamesInOrder};
 ghost use Rattle.script_programs.specs.Scripts.{script, script_text};

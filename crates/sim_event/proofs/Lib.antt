@@ -1,10 +1,7 @@
-pub mod PieceLemmas
-pub mod FinishLemmas
-pub mod QuietLemmas
-pub mod FinishedLemmas
-pub mod RoomLemmas
 pub mod DeedLemmas
 pub mod ToldLemmas
 pub mod TurnLemmas
 pub mod NeedLemmas
 pub mod PerformLemmas
+pub mod StepLemmas
+pub mod AddingLemmas

@@ -5,11 +5,10 @@ use Rattle.std.proofs.lemmas.Bool.{false≢true}
 use Rattle.std.proofs.lemmas.List.{length-map}
 use Rattle.std.proofs.lemmas.List.FromFn.{length-map-range_with_len}
 use Rattle.mate_num.specs.declared.call.Stamp.{Stamp}
-use Rattle.mate_journal.specs.Journal.{first_state, journal_of, journal_entry}
+use Rattle.mate_journal.specs.Journal.{first_state, journal_of, journal_entry, TimedEntry as Entered}
 use Rattle.mate_journal.specs.WellFormed.{IsWellFormed}
 use Rattle.mate_journal.specs.declared.entry.Stamped.{Stamped}
 use Rattle.journal_laws.specs.Growth.{FollowsLast}
-use Rattle.mate_journal.specs.Journal.{TimedEntry as Entered}
 use Rattle.mate_journal.specs.declared.air.Aired.{Aired}
 use Rattle.mate_journal.specs.declared.program.Program.{Program}
 use Rattle.node_invariant.specs.Meaning.{machine_in}
@@ -34,12 +33,14 @@ use Rattle.world_laws.proofs.Timers.{timer_begun}
 use Rattle.sim_air.specs.Air.{radio_event}
 use Rattle.world_state_laws.specs.Coming.{code_world, IsExpected, MayComeTo}
 use Rattle.world_state_laws.specs.Sound.{IsSoundNode, HasWellFormed, NextMayCome, NodesAreSound}
-use Rattle.sim_handling.specs.Handling.{IsMoteOf, IsFitEvent, IsOpenExchange, IsPaced, Handled}
+use Rattle.sim_mote.specs.Standing.{IsMoteOf}
+use Rattle.sim_handling.specs.Handling.{IsFitEvent, IsOpenExchange, IsPaced, Handled}
 use Rattle.sim_mote.specs.Motes.{IsTellable}
 use Rattle.sim_mote.specs.declared.effect.Effect.{Effect}
 use Rattle.sim_mote.specs.declared.mote.Mote.{Mote}
-use Rattle.sim_event.specs.Performing.{IsMoteAfter, MayPerform}
-use Rattle.sim_event.proofs.RoomLemmas.{records-high, wires-few, next-timely}
+use Rattle.sim_run.specs.Standing.{IsMoteAfter}
+use Rattle.sim_event.specs.Performing.{MayPerform}
+use Rattle.sim_run.proofs.RoomLemmas.{records-high, wires-few, next-timely}
 use Rattle.sim_event.proofs.TurnLemmas.{IsFormed}
 
 -- what is expected is right as an event of the radio

@@ -1,8 +1,7 @@
 -- One event, by what its calls did.
 use Rattle.std.proofs.Common.{◌≡◌, ℕ, List, ◌∷◌, ◌++◌, length, map, refl, sym, ◌∙◌, ap, subst}
 use Rattle.mate_num.specs.declared.call.Stamp.{Stamp}
-use Rattle.mate_journal.specs.Journal.{JournalEntry, NodeState, state_after_entries, journal_of}
-use Rattle.mate_journal.specs.Journal.{TimedEntry as Entered}
+use Rattle.mate_journal.specs.Journal.{JournalEntry, NodeState, state_after_entries, journal_of, TimedEntry as Entered}
 use Rattle.mate_journal.specs.Pace.{Pace, paced_all}
 use Rattle.mate_journal.specs.Turns.{Settles}
 use Rattle.mate_journal.specs.declared.air.Aired.{Aired}
@@ -24,12 +23,14 @@ use Rattle.world_laws.proofs.Points.{nodes-here}
 use Rattle.world_laws.proofs.Journals.{journal-here}
 use Rattle.sim_air.specs.Air.{aired_at}
 use Rattle.world_state_laws.specs.Coming.{code_world}
-use Rattle.sim_handling.specs.Handling.{IsMoteOf, Handled}
+use Rattle.sim_mote.specs.Standing.{IsMoteOf, IsTakenFrom}
+use Rattle.sim_handling.specs.Handling.{Handled}
 use Rattle.sim_mote.specs.declared.effect.Effect.{Effect}
 use Rattle.sim_mote.specs.declared.mote.Mote.{Mote}
 use Rattle.open_node.specs.Calls.{told_from}
-use Rattle.sim_event.specs.Finishing.{IsTakenFrom, HasSettled, IsFinished}
-use Rattle.sim_event.specs.Performing.{IsRadioAfter, IsMoteAfter, MayPerform, Performed}
+use Rattle.sim_finish.specs.Finishing.{HasSettled, IsFinished}
+use Rattle.sim_run.specs.Standing.{IsRadioAfter, IsMoteAfter}
+use Rattle.sim_event.specs.Performing.{MayPerform, Performed}
 use Rattle.sim_event.proofs.NeedLemmas.{mote-at}
 use Rattle.sim_event.proofs.DeedLemmas.{deed-quiet}
 use Rattle.sim_event.proofs.ToldLemmas.{tells-heard, told-behind, heard-both, journal-both}

@@ -1,3 +1,2 @@
-pub mod Pieces
-pub mod Finishing
 pub mod Performing
+pub mod Placing

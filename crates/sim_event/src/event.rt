@@ -8,11 +8,11 @@ ghost use Rattle.node_programs.specs.WorldPrograms.{AreProgramsOfWorld};
 ghost use Rattle.sim_event.specs.Performing.{MayPerform, Performed};
 ghost use Rattle.sim_mote.specs.Motes.{plain_effect};
 
-use crate::finish::finish;
 use crate::turns::{have_turns, is_well_formed};
 use mate_journal::Programs;
 use mate_num::{NoMemory, Stamp};
 use radio_sim::{Event, Radio};
+use sim_finish::finish::finish;
 use sim_handling::handle;
 use sim_mote::{Effect, Mote};
 use vm_desc::Description;

@@ -2,8 +2,8 @@
 #![tactic(auto)]
 
 pub mod event;
-pub mod finish;
-mod pieces;
+pub mod stepping;
 mod turns;
 
 pub use event::perform;
+pub use stepping::step;

@@ -44,7 +44,8 @@ use Rattle.world_state_laws.specs.Coming.{code_world, MayComeTo, AwaitsAlone}
 use Rattle.sim_mote.specs.declared.effect.Effect.{Effect}
 use Rattle.sim_mote.specs.declared.mote.Mote.{Mote}
 use Rattle.sim_mote.specs.Motes.{TellsAlone, PumpsMote, plain_effect, at_fire, of_owed, timed}
-use Rattle.sim_handling.specs.Handling.{IsMoteOf, IsEffectBy, TakesProgram, DoesEffect, DoesBy, Handled}
+use Rattle.sim_mote.specs.Standing.{IsMoteOf, IsEffectBy}
+use Rattle.sim_handling.specs.Handling.{TakesProgram, DoesEffect, DoesBy, Handled}
 use Rattle.sim_handling.proofs.EffectLemmas.{seen_as, does-here, does-by, handled, quietly, does-quietly, tells-nothing}
 use Rattle.sim_handling.proofs.LineLemmas.{never, answering, does-answer}
 

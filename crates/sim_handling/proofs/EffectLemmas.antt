@@ -39,7 +39,8 @@ use Rattle.world_state_laws.specs.Coming.{code_world, IsTaken}
 use Rattle.sim_mote.specs.declared.effect.Effect.{Effect}
 use Rattle.sim_mote.specs.declared.mote.Mote.{Mote}
 use Rattle.sim_mote.specs.Motes.{TellsAlone, InstallsImage, LeavesImage, IsNotInstalled, plain_effect}
-use Rattle.sim_handling.specs.Handling.{IsMoteOf, IsEffectBy, TakesProgram, DoesEffect, DoesBy, Handled}
+use Rattle.sim_mote.specs.Standing.{IsMoteOf, IsEffectBy}
+use Rattle.sim_handling.specs.Handling.{TakesProgram, DoesEffect, DoesBy, Handled}
 use Rattle.open_node.proofs.CallLemmas.{Tells-by}
 
 -- ---- the node as the mote shows it

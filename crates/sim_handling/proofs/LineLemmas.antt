@@ -20,7 +20,8 @@ use Rattle.world_state_laws.specs.Coming.{code_world, AwaitsAlone}
 use Rattle.sim_mote.specs.declared.effect.Effect.{Effect}
 use Rattle.sim_mote.specs.declared.mote.Mote.{Mote}
 use Rattle.sim_mote.specs.Motes.{TellsAlone, ResetsMote, plain_effect}
-use Rattle.sim_handling.specs.Handling.{IsEffectBy, DoesBy}
+use Rattle.sim_mote.specs.Standing.{IsEffectBy}
+use Rattle.sim_handling.specs.Handling.{DoesBy}
 use Rattle.sim_handling.proofs.EffectLemmas.{seen_as, does-by, does-alone}
 use Rattle.sim_handling.proofs.PostLemmas.{occasions-one}
 

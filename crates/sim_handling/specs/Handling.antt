@@ -1,14 +1,13 @@
 -- An event on one node, by the rules of a world: how a mote agrees with the node, what an event may be, and
 -- what its own part leaves.
 use Rattle.std.specs.Prelude.{◌≡◌, ℕ, zero, suc, ◌+◌, ◌<◌, Bool, true, false, not, ◌&&◌, List, [], ◌∷◌, ◌++◌, length, slice_get}
-use Rattle.std.specs.Option.{option_to_list}
 use Rattle.mate_num.specs.declared.bounds.TheConstants.{CONTEXTS_MAX}
 use Rattle.mate_num.specs.declared.id.HandlerId.{HandlerId}
 use Rattle.mate_num.specs.declared.call.Stamp.{Stamp}
 use Rattle.mate_journal.specs.Machine.{HeldProgram}
 use Rattle.mate_journal.specs.Pace.{Pace}
 use Rattle.mate_journal.specs.declared.program.Program.{Program}
-use Rattle.open_node.specs.View.{NodeView, heard_of, HasPace, Tells}
+use Rattle.open_node.specs.View.{NodeView, HasPace, Tells}
 use Rattle.open_node.specs.Calls.{Pacing}
 use Rattle.trickle_timer.specs.Timer.{Timer}
 use Rattle.capsule_exchange.specs.Happenings.{Happening, IsOpen}
@@ -21,23 +20,14 @@ use Rattle.radio_sim.specs.declared.event.Event.{Event}
 use Rattle.radio_sim.specs.declared.event.Event.TheVariants as radio
 use Rattle.world_rules.specs.Cause.{Cause}
 use Rattle.world_rules.specs.World.{World, handlers, handler_id, is_receiver}
-use Rattle.world_rules.specs.Effect.{Node, NodeEffect, Installing, node_effect, begun_length, cuts, resets}
+use Rattle.world_rules.specs.Effect.{Node, NodeEffect, Installing, node_effect, resets}
 use Rattle.world_rules.specs.Run.{DeedMakes}
-use Rattle.world_rules.specs.State.{timer_after, still_pumps, is_some_length}
+use Rattle.world_rules.specs.State.{timer_after, still_pumps}
 use Rattle.sim_air.specs.Calls.{AreCallsOf}
 use Rattle.world_state_laws.specs.Coming.{code_world, IsTaken}
 use Rattle.sim_mote.specs.declared.effect.Effect.{Effect}
 use Rattle.sim_mote.specs.declared.mote.Mote.{Mote}
-
--- the mote is the node k of the world
-pub record IsMoteOf (w : World) (k : ℕ) (n : Node) (m : Mote) : Type 0 where
-  pub description : m.node.description ≡ w.description
-  pub reading : heard_of m.node ≡ n.reading
-  pub pace : HasPace m.node n.pace
-  pub timer : m.timer ≡ n.timer
-  pub exchange : m.exchange ≡ knowledge (handlers w) n.exchange
-  pub pumps : m.pumps ≡ n.pumps
-  pub calls : AreCallsOf w k n.called m.calls
+use Rattle.sim_mote.specs.Standing.{IsMoteOf, IsEffectBy, IsEffectOf}
 
 -- ---- what an event finds
 
@@ -59,17 +49,6 @@ pub record IsOpenExchange (k : Knowledge) : Type 0 where
   pub is_open : IsOpen handlers happened
 
 -- ---- what its own part leaves
-
--- the code's effect is this effect of the rules
-pub record IsEffectBy (n : Node) (e : NodeEffect) (r : Effect) : Type 0 where
-  pub first : option_to_list r.first ≡ e.first
-  pub begins : r.begins ≡ is_some_length (begun_length n e)
-  pub cuts : r.cuts ≡ cuts e.deed
-  pub resets : r.resets ≡ resets e.deed
-  pub sends : r.sends.items ≡ e.sends
-
-abbrev pub IsEffectOf : Node → Cause → World → Effect → Type 0
-IsEffectOf n c w r = IsEffectBy n (node_effect w n c) r
 
 -- the node records what the event's deed makes, and its timer, its exchange and its pump are those after the event
 pub record Handled (w : World) (k : ℕ) (n : Node) (c : Cause) (at : Stamp) (old new : Mote) (r : Effect) : Type 0 where

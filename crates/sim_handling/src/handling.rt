@@ -19,8 +19,8 @@ ghost use Rattle.world_rules.specs.World.{want_of, is_receiver as receives};
 ghost use Rattle.sim_air.specs.Air.{radio_event};
 ghost use Rattle.sim_mote.specs.Motes.{IsTellable, TellsAlone, plain_effect};
 ghost use Rattle.world_state_laws.specs.Coming.{code_world, MayComeTo};
-ghost use Rattle.sim_handling.specs.Handling.{IsMoteOf, IsFitEvent, IsOpenExchange, IsPaced, Handled, DoesBy, IsFragmentOf};
-ghost use Rattle.sim_handling.specs.Handling.{receivers_below};
+ghost use Rattle.sim_mote.specs.Standing.{IsMoteOf};
+ghost use Rattle.sim_handling.specs.Handling.{IsFitEvent, IsOpenExchange, IsPaced, Handled, DoesBy, IsFragmentOf, receivers_below};
 
 use mate_journal::{Air, Programs};
 use mate_num::{HandlerId, NoMemory, Payload, Stamp};

@@ -1,3 +1,3 @@
 pub mod NodeLemmas
 pub mod MoteLemmas
-pub mod AnswerLemmas
+pub mod StandingLemmas

@@ -1,9 +1,7 @@
 -- What the calls of a timer and of an exchange answer, in the words of the rules.
-use Rattle.std.proofs.Common.{◌≡◌, ℕ, Bool, true, false, List, refl, sym, ◌∙◌, ap, inl, inr}
+use Rattle.std.proofs.Common.{◌≡◌, ℕ, Bool, true, false, List, refl, sym, ap, inl, inr}
 use Rattle.std.specs.Prelude.{IsTrue, ◌↔◌, Option, Some, None, IsSomeAnd, bytes_eq, nat_lt, if◌then◌else◌}
-use Rattle.std.specs.Prelude.{◌==◌}
 use Rattle.std.proofs.lemmas.Bool.{cases_Bool, false≢true}
-use Rattle.std.proofs.lemmas.Bool.Decides.{eqb_tells}
 use Rattle.std.proofs.lemmas.Slice.Eq.{bytes_eq-Decides}
 use Rattle.trickle_timer.specs.Intervals as trickle
 use Rattle.trickle_timer.specs.Timer.{Timer}
@@ -25,6 +23,3 @@ begins-reset t = by (nat_lt t.set.imin t.running.length) where
   by : (b : Bool) → is_some_length (if b then Some t.set.imin else None) ≡ b
   by true = refl
   by false = refl
-
-pub same-number : (a b : ℕ) → (a == b) ≡ true → a ≡ b
-same-number a b e = elim (eqb_tells a b) [ inl t ↦ t.1 | inr t ↦ absurd (false≢true (sym t.0 ∙ e)) ]

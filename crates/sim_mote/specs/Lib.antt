@@ -1,2 +1,2 @@
 pub mod Motes
-pub mod Answering
+pub mod Standing

@@ -19,8 +19,7 @@ use Rattle.trickle_timer.specs.Timer.{Timer}
 use Rattle.std.proofs.lemmas.List.Elements.{All-append, All-cons, All-nil}
 use Rattle.mate_journal.specs.Log.{Log, IsEmpty}
 use Rattle.mate_journal.specs.OpenLog.{nothing_gone}
-use Rattle.mate_journal.specs.Journal.{journal_of, first_state, state_after_all, journal_entry}
-use Rattle.mate_journal.specs.Journal.{TimedEntry as Entered}
+use Rattle.mate_journal.specs.Journal.{journal_of, first_state, state_after_all, journal_entry, TimedEntry as Entered}
 use Rattle.mate_journal.specs.declared.entry.Stamped.{Stamped}
 use Rattle.node_invariant.specs.Meaning.{machine_in}
 use Rattle.node_invariant.specs.Keeps.{reading}
@@ -37,9 +36,8 @@ use Rattle.sim_air.proofs.ChangeLemmas.{adds-both}
 use Rattle.world_state_laws.specs.Coming.{code_world}
 use Rattle.sim_mote.specs.Motes.{BeginsMote}
 use Rattle.sim_mote.specs.declared.mote.Mote.{Mote}
-use Rattle.sim_event.specs.Performing.{IsRadioAfter, IsMoteAfter}
-use Rattle.sim_event.proofs.PieceLemmas.{due-timed}
-use Rattle.sim_event.proofs.FinishLemmas.{stands-added}
+use Rattle.sim_run.specs.Standing.{IsRadioAfter, IsMoteAfter}
+use Rattle.sim_mote.proofs.StandingLemmas.{due-timed, stands-added}
 use Rattle.sim_air.specs.Starting.{beginning, planned_items, period_item, first_periods, first_items}
 use Rattle.sim_air.proofs.StartLemmas.{planned-are}
 use Rattle.sim_run.specs.Starting.{first_air, HaveBegun}

@@ -9,8 +9,7 @@ use Rattle.event_queue.proofs.WheelLemmas.{slice_get_set_same, slice_get_set_oth
 use Rattle.mate_num.specs.declared.call.Stamp.{Stamp}
 use Rattle.vm_desc.specs.declared.description.Description.{Description}
 use Rattle.mate_journal.specs.Log.{Log, IsSameLog}
-use Rattle.mate_journal.specs.Journal.{journal_of, journal_entry}
-use Rattle.mate_journal.specs.Journal.{TimedEntry as Entered}
+use Rattle.mate_journal.specs.Journal.{journal_of, journal_entry, TimedEntry as Entered}
 use Rattle.mate_journal.specs.NodeScript.{records_max}
 use Rattle.mate_journal.specs.OpenLog.{nothing_gone, gone_of}
 use Rattle.mate_journal.specs.Tidy.{IsTidyLog}
@@ -25,9 +24,9 @@ use Rattle.world_laws.proofs.Among.{all-at}
 use Rattle.sim_air.specs.Calls.{AreCallsOf}
 use Rattle.world_rules.specs.World.{World}
 use Rattle.world_rules.specs.State.{Moment, WorldState, state}
-use Rattle.sim_event.specs.Finishing.{IsTakenFrom}
-use Rattle.sim_event.specs.Performing.{IsMoteAfter, IsRadioAfter, coming}
-use Rattle.sim_event.proofs.RoomLemmas.{records-high}
+use Rattle.sim_mote.specs.Standing.{IsTakenFrom}
+use Rattle.sim_run.specs.Standing.{IsMoteAfter, IsRadioAfter, coming}
+use Rattle.sim_run.proofs.RoomLemmas.{records-high}
 use Rattle.sim_mote.specs.declared.mote.Mote.{Mote}
 use Rattle.sim_run.specs.Keeping.{IsWhole, IsFew, HasForgotten, HaveForgotten, LetsGo, LetsGoAsTold}
 use Rattle.sim_run.specs.Reporting.{ShowStores}

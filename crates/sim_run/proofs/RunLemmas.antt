@@ -14,8 +14,8 @@ use Rattle.world_rules.specs.Run.{HaveCome, IsNext, IsDone}
 use Rattle.sim_air.specs.Air.{radio_event}
 use Rattle.sim_air.specs.Changes.{AreNear, IsNear}
 use Rattle.world_state_laws.specs.Sound.{AreOfNodes, DuesAreOfNodes}
-use Rattle.sim_event.specs.Finishing.{IsTakenFrom}
-use Rattle.sim_event.specs.Performing.{IsRadioAfter, coming}
+use Rattle.sim_mote.specs.Standing.{IsTakenFrom}
+use Rattle.sim_run.specs.Standing.{IsRadioAfter, coming}
 
 -- ---- lists of causes
 

@@ -7,8 +7,7 @@ use Rattle.mate_num.specs.declared.call.Stamp.{Stamp}
 use Rattle.vm_desc.specs.declared.description.Description.{Description}
 use Rattle.world_script.specs.declared.world.World.{World as Script}
 use Rattle.mate_journal.specs.Log.{Log}
-use Rattle.mate_journal.specs.Journal.{NodeState, journal_of}
-use Rattle.mate_journal.specs.Journal.{TimedEntry as Entered}
+use Rattle.mate_journal.specs.Journal.{NodeState, journal_of, TimedEntry as Entered}
 use Rattle.mate_journal.specs.NodeScript.{RunEnd, Whole, Full, ShowsOnce}
 use Rattle.mate_journal.specs.declared.program.Program.{Program}
 use Rattle.mate_journal.specs.declared.report.Report.{Report}
@@ -16,7 +15,7 @@ use Rattle.node_invariant.specs.Meaning.{machine_in}
 use Rattle.node_invariant.specs.Keeps.{event_at, IsTimely}
 use Rattle.journal_laws.specs.Growth.{FollowsLast}
 use Rattle.world_laws.specs.Times.{last_time}
-use Rattle.sim_event.proofs.RoomLemmas.{next-timely}
+use Rattle.sim_run.proofs.RoomLemmas.{next-timely}
 use Rattle.open_node.specs.View.{heard_of}
 use Rattle.open_node.specs.Journal.{KeepsJournal}
 use Rattle.world_rules.specs.World.{World}
@@ -25,7 +24,7 @@ use Rattle.world_rules.specs.Run.{HaveCome, IsAtEnd, IsDone, airs, journal, IsJo
 use Rattle.world_rules.specs.Report.{IsLogOf, IsWorldReport}
 use Rattle.world_state_laws.specs.Coming.{code_world}
 use Rattle.sim_mote.specs.declared.mote.Mote.{Mote}
-use Rattle.sim_event.specs.Performing.{IsMoteAfter}
+use Rattle.sim_run.specs.Standing.{IsMoteAfter}
 use Rattle.sim_run.specs.Reporting.{ShowsOneStore, ShowStores, told_report, mote_logs, AreOfMachine}
 use Rattle.sim_run.specs.declared.simulation.Simulation.{Simulation}
 

@@ -1,3 +1,4 @@
+pub mod Standing
 pub mod Running
 pub mod Starting
 pub mod Reporting

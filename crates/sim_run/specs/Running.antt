@@ -1,10 +1,6 @@
 -- What a world's run keeps on its way.
 use Rattle.std.specs.Prelude.{◌≡◌, ℕ, suc, ◌<◌, ◌≤◌, List, length, slice_get, IsSomeAnd}
 use Rattle.mate_num.specs.declared.call.Stamp.{Stamp}
-use Rattle.std.specs.Option.{option_map_or}
-use Rattle.world_script.specs.declared.world.World.{World as Script}
-use Rattle.world_script.specs.declared.world.Link.{Link}
-use Rattle.world_script.specs.declared.world.Planned.{Planned}
 use Rattle.mate_journal.specs.NodeScript.{records_max}
 use Rattle.radio_sim.specs.declared.event.Event.{Event}
 use Rattle.radio_sim.specs.declared.event.Event.TheVariants as radio
@@ -14,8 +10,8 @@ use Rattle.world_rules.specs.Cause.{Cause}
 use Rattle.world_rules.specs.Run.{HaveCome, IsNext, airs}
 use Rattle.world_state_laws.specs.Sound.{HaveFitMessages, HasWellFormed}
 use Rattle.sim_air.specs.Air.{radio_event}
-use Rattle.sim_event.specs.Finishing.{IsTakenFrom}
-use Rattle.sim_event.specs.Performing.{IsRadioAfter, IsMoteAfter, coming}
+use Rattle.sim_mote.specs.Standing.{IsTakenFrom}
+use Rattle.sim_run.specs.Standing.{IsRadioAfter, IsMoteAfter, coming}
 use Rattle.sim_run.specs.declared.simulation.Simulation.{Simulation}
 
 -- `events` events came, and the radio, the nodes and the count of records are those after them
@@ -46,23 +42,3 @@ pub record StandsAtNext (w : World) (event : Event) (at : Stamp) (s : Simulation
   pub records : s.records ≡ (state w moments).records
   pub fit : HaveFitMessages w moments
   pub well_formed : (k : ℕ) → k < w.nodes → HasWellFormed w k moments
-
--- an event of the radio names a line of the script, or a link
-abbrev pub NamesPart : Script → Event → Type 0
-NamesPart script (radio.Planned line) = line < length script.events
-NamesPart script (radio.Period node h) = Unit {0}
-NamesPart script (radio.Fire node) = Unit {0}
-NamesPart script (radio.Expire node) = Unit {0}
-NamesPart script (radio.Pump node) = Unit {0}
-NamesPart script (radio.Due node c inv value) = Unit {0}
-NamesPart script (radio.Deliver link number bytes) = link < length script.links
-
--- the node that it is of
-abbrev pub named_node : Script → Event → ℕ
-named_node script (radio.Planned line) = option_map_or (λ (p : Planned). p.node) (slice_get script.events line) 0
-named_node script (radio.Period node h) = node
-named_node script (radio.Fire node) = node
-named_node script (radio.Expire node) = node
-named_node script (radio.Pump node) = node
-named_node script (radio.Due node c inv value) = node
-named_node script (radio.Deliver link number bytes) = option_map_or (λ (l : Link). l.to) (slice_get script.links link) 0

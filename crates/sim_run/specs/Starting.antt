@@ -11,7 +11,7 @@ use Rattle.world_rules.specs.State.{first_of}
 use Rattle.sim_air.specs.Air.{aired_at, timed_events}
 use Rattle.sim_air.specs.Changes.{AddsToAir}
 use Rattle.sim_air.specs.Starting.{beginning}
-use Rattle.sim_event.specs.Performing.{IsMoteAfter}
+use Rattle.sim_run.specs.Standing.{IsMoteAfter}
 use Rattle.sim_mote.specs.declared.mote.Mote.{Mote}
 
 -- the first interval of a node

@@ -1,6 +1,6 @@
 //! A world between its events: the radio, the nodes, and how many records there are.
 
-ghost use Rattle.std.specs.Prelude.{◌≡◌, ◌+◌, ◌<◌, ◌≤◌, ◌∷◌, [], List, length, slice_get, Some, All, IfOk, OnOk, ◌⊎◌};
+ghost use Rattle.std.specs.Prelude.{◌≡◌, ◌<◌, ◌≤◌, ◌∷◌, [], List, length, slice_get, Some, All, IfOk, ◌⊎◌};
 ghost use Rattle.world_script.specs.World.{IsRightWorld};
 ghost use Rattle.mate_journal.specs.Log.{IsEmpty, IsSameLog};
 ghost use Rattle.mate_journal.specs.OpenLog.{gone_of};
@@ -11,30 +11,26 @@ ghost use Rattle.mate_journal.specs.declared.air.Air.TheVariants as air;
 ghost use Rattle.sim_air.specs.Air.{aired_at};
 ghost use Rattle.sim_air.specs.Changes.{AddsToAir};
 ghost use Rattle.sim_air.specs.Starting.{beginning, first_items};
-ghost use Rattle.sim_mote.specs.Motes.{BeginsMote, plain_effect};
+ghost use Rattle.sim_mote.specs.Motes.{BeginsMote};
 ghost use Rattle.sim_mote.specs.declared.mote.Mote.{Mote as MoteState};
 ghost use Rattle.world_state_laws.specs.Coming.{code_world};
-ghost use Rattle.node_programs.specs.WorldPrograms.{AreProgramsOfWorld};
 ghost use Rattle.sim_run.specs.Starting.{HaveBegun};
-ghost use Rattle.sim_run.specs.Running.{StandsAfter, StandsAtNext, NamesPart, named_node};
+ghost use Rattle.sim_run.specs.Running.{StandsAfter};
 ghost use Rattle.sim_run.specs.Ranging.{AreInRange};
 ghost use Rattle.sim_run.specs.Keeping.{IsWhole, IsFew, LetsGo, LetsGoAsTold};
-ghost use Rattle.sim_run.specs.Telling.{HasComeOn, LogsAreKept};
+ghost use Rattle.sim_run.specs.Telling.{LogsAreKept};
 
-use mate_journal::{NodeLog, Programs, RECORDS_MAX};
-use mate_num::{NoMemory, Stamp};
+use mate_journal::{NodeLog, RECORDS_MAX};
+use mate_num::NoMemory;
 use open_node::OpenNode;
 use packet_codec::Packet;
 use radio_sim::{Event, Radio};
-use journal_laws::{LogSize, air_is_in_range_from, log_is_in_range_from};
+use journal_laws::air_is_in_range_from;
 use sim_air::{begin_node, schedule_lines};
-use sim_event::perform;
-use sim_mote::{Effect, Mote};
+use sim_mote::Mote;
 use std::alloc::Global;
 use vm_desc::Description;
 use world_script::World;
-use world_state_laws::states_are_sound;
-use world_text_laws::text_grows_by_events;
 
 /// What becomes of what was recorded once it is written.
 #[derive(Clone, Copy)]
@@ -73,60 +69,6 @@ impl Simulation {
         })
     }
 
-    /// The event comes, with this stamp. What its node and the radio recorded before it is forgotten, if that is to be forgotten, and
-    /// the node then has the spare room, if it may record something. It answers its node. The effect is nothing before it and after it.
-    pub fn step(
-        &mut self,
-        desc: &Description,
-        world: &World,
-        programs: &Programs,
-        event: &Event,
-        at: Stamp,
-        written: Written,
-        room: &mut NodeLog,
-        effect: &mut Effect,
-    ) -> Result<u8, NoMemory>
-        requires right { AreProgramsOfWorld desc.now world.now programs.now }
-        requires stands { StandsAtNext (code_world desc.now world.now programs.now) event.now at self.old }
-        requires empty { IsEmpty room.old }
-        requires plain { effect.old ≡ plain_effect }
-        ensures stands { OnOk result (StandsAfter (code_world desc.now world.now programs.now) at.event self.new) }
-        ensures adds { IfOk result (HasComeOn written at.event self.old self.new) }
-        ensures kept { OnOk result (LogsAreKept self.old.motes.items → LogsAreKept self.new.motes.items) }
-        ensures ranges { OnOk result (AreInRange self.old → AreInRange self.new) }
-        ensures empty { IsEmpty room.new }
-        ensures plain { OnOk result (effect.new ≡ plain_effect) }
-    {
-        states_are_sound();
-        text_grows_by_events();
-        let number = node_of(world, event);
-        self.let_go(number, written, may_tell(desc, event), room);
-        let mote = &mut self.motes[usize::from(number)];
-        let before = mote.node.kept();
-        let size = LogSize::of(before);
-        let entries = mote.node.told();
-        let air = self.radio.aired();
-        let heard = self.radio.air().len();
-        perform(
-            &mut self.radio,
-            mote,
-            desc,
-            world,
-            programs,
-            number,
-            event,
-            at,
-            effect,
-        )?;
-        let after = mote.node.kept();
-        log_is_in_range_from(after, size);
-        air_is_in_range_from(self.radio.air(), heard);
-        let told = mote.node.told() - entries;
-        let aired = self.radio.aired() - air;
-        self.records = counted(self.records, told, aired)?;
-        Ok(number)
-    }
-
     /// Behind an event of the node, if a next one may come: lets go what it recorded, and has the room back.
     pub fn leave(&mut self, desc: &Description, event: &Event, number: u8, room: &mut NodeLog)
         requires node { number < length self.old.motes.items }
@@ -139,13 +81,20 @@ impl Simulation {
         if self.records >= RECORDS_MAX {
             return;
         }
-        self.let_go(number, Written::Forgotten, may_tell(desc, event), room);
+        self.let_go(desc, event, number, Written::Forgotten, room);
         let _kept = self.motes[usize::from(number)].node.kept();
     }
 
-    /// Forgets what a node and the radio recorded, if that is to be forgotten, and trades the node's room for the spare one, if it
-    /// trades.
-    pub(crate) fn let_go(&mut self, number: u8, written: Written, trades: bool, room: &mut NodeLog)
+    /// Before an event of the node, or behind it: forgets what the node and the radio recorded, if that is to be forgotten, and trades
+    /// the node's room for the spare one, if the node may record something in such an event.
+    pub fn let_go(
+        &mut self,
+        desc: &Description,
+        event: &Event,
+        number: u8,
+        written: Written,
+        room: &mut NodeLog,
+    )
         requires node { number < length self.old.motes.items }
         requires log { (mote : MoteState) → slice_get self.old.motes.items number ≡ Some mote → length mote.node.log.entries < 3999999999 }
         requires air { length self.old.radio.air < 4000000000 }
@@ -156,6 +105,7 @@ impl Simulation {
         match written {
             Written::Kept => {}
             Written::Forgotten => {
+                let trades = may_tell(desc, event);
                 let node = &mut self.motes[usize::from(number)].node;
                 forget_told(node, trades, room);
                 self.radio.forget();
@@ -179,19 +129,6 @@ fn forget_told(node: &mut OpenNode, trades: bool, room: &mut NodeLog)
         return;
     }
     node.trade(room);
-}
-
-/// So many records, with those of one event more. `NoMemory` comes if a machine word doesn't count them.
-fn counted(records: usize, told: usize, aired: usize) -> Result<usize, NoMemory>
-    ensures { IfOk result (λ n. n ≡ records + told + aired) }
-{
-    let Some(before) = records.checked_add(told) else {
-        return Err(NoMemory);
-    };
-    match before.checked_add(aired) {
-        Some(count) => Ok(count),
-        None => Err(NoMemory),
-    }
 }
 
 /// The nodes of the world before its first event, in order: the first events of each are due.
@@ -230,22 +167,6 @@ fn begin_mote(
     let mote = Mote::new(alloc, desc, random, node)?;
     begin_node(radio, desc, node, &mote.timer)?;
     Ok(mote)
-}
-
-/// The node that an event is of.
-fn node_of(world: &World, event: &Event) -> u8
-    requires { NamesPart world.now event.now }
-    ensures { result ≡ named_node world.now event.now }
-{
-    match event {
-        Event::Planned(line) => world.events.as_slice()[*line as usize].node,
-        Event::Period { node, .. } => *node,
-        Event::Fire { node } => *node,
-        Event::Expire { node } => *node,
-        Event::Pump { node } => *node,
-        Event::Due { node, .. } => *node,
-        Event::Deliver { link, .. } => world.links.as_slice()[*link as usize].to,
-    }
 }
 
 /// Whether the node may record something in the event. Of its timer's events and of most packets it records nothing, so it needs no

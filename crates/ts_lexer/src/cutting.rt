@@ -1,7 +1,7 @@
 //! How a text is cut into tokens: all of them, or the first ones.
 
 ghost use Rattle.std.specs.Prelude.{◌≡◌, ◌≤◌, length};
-ghost use Rattle.mate_num.specs.declared.bounds.TheConstants.{FILE_MAX};
+ghost use Rattle.mate_files.specs.declared.files.TheConstants.{FILE_MAX};
 ghost use Rattle.ts_syntax.specs.Cut.{cut_in};
 ghost use Rattle.ts_lexer.specs.Answers.{Cuts, CutsIn};
 ghost use Rattle.ts_lexer.specs.Scanner.{BeginsScan};

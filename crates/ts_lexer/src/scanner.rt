@@ -1,7 +1,7 @@
 //! The scanner, which reads a text from the left, in one pass, and cuts it into tokens.
 
 ghost use Rattle.std.specs.Prelude.{◌≡◌, ◌≤◌, ◌+◌, length};
-ghost use Rattle.mate_num.specs.declared.bounds.TheConstants.{FILE_MAX};
+ghost use Rattle.mate_files.specs.declared.files.TheConstants.{FILE_MAX};
 
 use crate::fault::TokenFault;
 use crate::spans::{

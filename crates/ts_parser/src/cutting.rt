@@ -1,7 +1,7 @@
 //! The tokens of a source, with the faults of a source.
 
 ghost use Rattle.std.specs.Prelude.{◌≡◌, ◌≤◌, length};
-ghost use Rattle.mate_num.specs.declared.bounds.TheConstants.{FILE_MAX};
+ghost use Rattle.mate_files.specs.declared.files.TheConstants.{FILE_MAX};
 ghost use Rattle.ts_parser.specs.Cutting.{CutsScript, SourceCuts, source_fault_of};
 
 use crate::fault::SourceFault;

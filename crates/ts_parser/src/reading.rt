@@ -1,7 +1,7 @@
 //! From the bytes of a source to a script.
 
 ghost use Rattle.std.specs.Prelude.{◌≡◌, ◌≤◌, length, IfSome};
-ghost use Rattle.mate_num.specs.declared.bounds.TheConstants.{FILE_MAX};
+ghost use Rattle.mate_files.specs.declared.files.TheConstants.{FILE_MAX};
 ghost use Rattle.ts_syntax.specs.Cut.{cut_in};
 ghost use Rattle.ts_syntax.specs.declared.dialect.Dialect.TheVariants.{Procedures};
 ghost use Rattle.ts_lexer.specs.Scanner.{due};

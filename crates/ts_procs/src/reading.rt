@@ -1,7 +1,7 @@
 //! The whole way from bytes to a script with procedures.
 
 ghost use Rattle.std.specs.Prelude.{◌≡◌, ◌≤◌, length};
-ghost use Rattle.mate_num.specs.declared.bounds.TheConstants.{FILE_MAX};
+ghost use Rattle.mate_files.specs.declared.files.TheConstants.{FILE_MAX};
 ghost use Rattle.ts_procs.specs.Reading.{ReadsProcedures, proc_fault_of as named_fault};
 
 use proc_names::{PScript, ProcFault};

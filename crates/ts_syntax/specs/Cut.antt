@@ -111,12 +111,11 @@ turn i (greater from) b =
 
 -- the end of the text, at place i
 abbrev pub at_end : ℕ → Mode → Result (List Token) CutFault
-at_end i between = Ok []
-at_end i comment = Ok []
 at_end i (word from w) = Ok (token (word_kind w) from i ∷ [])
 at_end i (literal from n) = if nat_lt 65535 n then Err (big_literal from) else Ok (token (kind.Num n) from i ∷ [])
 at_end i (less from) = Ok (token kind.Lt from i ∷ [])
 at_end i (greater from) = Ok (token kind.Gt from i ∷ [])
+at_end i _ = Ok []
 
 -- tokens before others
 abbrev pub with_front : List Token → Result (List Token) CutFault → Result (List Token) CutFault

@@ -60,10 +60,8 @@ is_end_token _ = false
 -- a token lies too deep: a 33rd block inside 32 open ones, or a 65th counted token
 abbrev pub role_is_deep : Depth → Role → Bool
 role_is_deep d opener = not d.ended && nat_le 32 d.blocks
-role_is_deep d closer = false
-role_is_deep d breaker = false
 role_is_deep d counter = nat_le 64 d.counted
-role_is_deep d bystander = false
+role_is_deep d _ = false
 
 abbrev pub is_deep : Depth → TokenKind → Bool
 is_deep d k = role_is_deep d (role k)
@@ -71,16 +69,13 @@ is_deep d k = role_is_deep d (role k)
 abbrev pub blocks_after : Depth → Role → ℕ
 blocks_after d opener = if d.ended then d.blocks else d.blocks + 1
 blocks_after d closer = d.blocks - 1
-blocks_after d breaker = d.blocks
-blocks_after d counter = d.blocks
-blocks_after d bystander = d.blocks
+blocks_after d _ = d.blocks
 
 abbrev pub counted_after : Depth → Role → ℕ
-counted_after d opener = d.counted
 counted_after d closer = 0
 counted_after d breaker = 0
 counted_after d counter = d.counted + 1
-counted_after d bystander = d.counted
+counted_after d _ = d.counted
 
 -- the depth after a token
 abbrev pub after : Depth → TokenKind → Depth

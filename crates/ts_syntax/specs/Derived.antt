@@ -7,7 +7,7 @@ use Rattle.ts_syntax.specs.declared.dialect.Dialect.{Dialect}
 use Rattle.ts_syntax.specs.declared.dialect.Dialect.TheVariants as dialect
 use Rattle.ts_syntax.specs.declared.script.Decl.{Decl}
 use Rattle.ts_syntax.specs.declared.script.DeclKind.{DeclKind}
-use Rattle.ts_syntax.specs.Tree.{Tree, number, variable, item, size, message_item, message_size, call, negative, inverse, two, paren, Trees, no_trees, tree_then, Act, set, set_item, append, take_last, clear, call_alone, if_then, if_else, for_next, while_do, run_procedure, Acts, no_acts, act_then, Source, Procedure, ProcedureSource}
+use Rattle.ts_syntax.specs.Tree.{Tree, item, message_item, call, negative, inverse, two, paren, Trees, no_trees, tree_then, Act, set, set_item, append, call_alone, if_then, if_else, for_next, while_do, run_procedure, Acts, no_acts, act_then, Source, Procedure, ProcedureSource}
 
 -- the levels of expressions, from the loosest
 pub data Level : Type 0 where
@@ -30,67 +30,33 @@ rank at_product = 5
 rank at_sign = 6
 rank at_atom = 7
 
--- the level of an operator's tree
+-- the level of an operator's tree, and the levels that its left and its right operand need: chains group to the left, and
+-- comparisons, which are all the operators that no other row names, make no chain
+abbrev pub levels_of : BinOp → Level × Level × Level
+levels_of op.Or = (at_or, at_or, at_and)
+levels_of op.And = (at_and, at_and, at_not)
+levels_of op.Add = (at_sum, at_sum, at_product)
+levels_of op.Sub = (at_sum, at_sum, at_product)
+levels_of op.Mul = (at_product, at_product, at_sign)
+levels_of op.Div = (at_product, at_product, at_sign)
+levels_of op.Rem = (at_product, at_product, at_sign)
+levels_of _ = (at_compare, at_sum, at_sum)
+
 abbrev pub level_of : BinOp → Level
-level_of op.Or = at_or
-level_of op.And = at_and
-level_of op.Eq = at_compare
-level_of op.Ne = at_compare
-level_of op.Lt = at_compare
-level_of op.Gt = at_compare
-level_of op.Le = at_compare
-level_of op.Ge = at_compare
-level_of op.Add = at_sum
-level_of op.Sub = at_sum
-level_of op.Mul = at_product
-level_of op.Div = at_product
-level_of op.Rem = at_product
+level_of o = (levels_of o).0
 
--- the level that its left operand needs: chains group to the left, and comparisons make no chain
 abbrev pub left_of : BinOp → Level
-left_of op.Or = at_or
-left_of op.And = at_and
-left_of op.Eq = at_sum
-left_of op.Ne = at_sum
-left_of op.Lt = at_sum
-left_of op.Gt = at_sum
-left_of op.Le = at_sum
-left_of op.Ge = at_sum
-left_of op.Add = at_sum
-left_of op.Sub = at_sum
-left_of op.Mul = at_product
-left_of op.Div = at_product
-left_of op.Rem = at_product
+left_of o = (levels_of o).1
 
--- the level that its right operand needs
 abbrev pub right_of : BinOp → Level
-right_of op.Or = at_and
-right_of op.And = at_not
-right_of op.Eq = at_sum
-right_of op.Ne = at_sum
-right_of op.Lt = at_sum
-right_of op.Gt = at_sum
-right_of op.Le = at_sum
-right_of op.Ge = at_sum
-right_of op.Add = at_product
-right_of op.Sub = at_product
-right_of op.Mul = at_sign
-right_of op.Div = at_sign
-right_of op.Rem = at_sign
+right_of o = (levels_of o).2
 
 -- the level of a tree
 abbrev pub level : Tree → Level
-level (number n) = at_atom
-level (variable w) = at_atom
-level (item w e) = at_atom
-level (size w) = at_atom
-level (message_item e) = at_atom
-level message_size = at_atom
-level (call w es) = at_atom
 level (negative e) = at_sign
 level (inverse e) = at_not
 level (two o l r) = level_of o
-level (paren e) = at_atom
+level _ = at_atom
 
 -- a test that holds
 abbrev pub Holds : Bool → Type 0
@@ -104,17 +70,14 @@ IsPart n e = Holds (nat_le (rank n) (rank (level e)))
 -- each operand in an expression is at the level that its place needs
 abbrev mutual
   pub Derived : Tree → Type 0
-  Derived (number n) = Unit {0}
-  Derived (variable w) = Unit {0}
   Derived (item w e) = Derived e
-  Derived (size w) = Unit {0}
   Derived (message_item e) = Derived e
-  Derived message_size = Unit {0}
   Derived (call w es) = ArgsDerived es
   Derived (negative e) = IsPart at_sign e × Derived e
   Derived (inverse e) = IsPart at_not e × Derived e
   Derived (two o l r) = IsPart (left_of o) l × Derived l × IsPart (right_of o) r × Derived r
   Derived (paren e) = Derived e
+  Derived _ = Unit {0}
 
   pub ArgsDerived : Trees → Type 0
   ArgsDerived no_trees = Unit {0}
@@ -131,14 +94,13 @@ abbrev mutual
   ActDerived d (set w e) = Derived e
   ActDerived d (set_item w i e) = Derived i × Derived e
   ActDerived d (append w e) = Derived e
-  ActDerived d (take_last w b) = Unit {0}
-  ActDerived d (clear w) = Unit {0}
   ActDerived d (call_alone w es) = ArgsDerived es
   ActDerived d (if_then e a) = Derived e × ActsDerived d a
   ActDerived d (if_else e a b) = Derived e × ActsDerived d a × ActsDerived d b
   ActDerived d (for_next w f t s a v) = Derived f × Derived t × ActsDerived d a
   ActDerived d (while_do e a) = Derived e × ActsDerived d a
   ActDerived d (run_procedure w es) = RunDerived d es
+  ActDerived d _ = Unit {0}
 
   pub ActsDerived : Dialect → Acts → Type 0
   ActsDerived d no_acts = Unit {0}

@@ -140,17 +140,16 @@ procedure_source_spelled s = decls_spelled s.decls ++ (procedures_spelled s.proc
 -- the places that an expression keeps: those of its words
 abbrev mutual
   pub places : Tree → List ℕ
-  places (number n) = []
   places (variable w) = w.place ∷ []
   places (item w e) = w.place ∷ places e
   places (size w) = w.place ∷ []
   places (message_item e) = places e
-  places message_size = []
   places (call w es) = w.place ∷ args_places es
   places (negative e) = places e
   places (inverse e) = places e
   places (two o l r) = places l ++ places r
   places (paren e) = places e
+  places _ = []
 
   pub args_places : Trees → List ℕ
   args_places no_trees = []

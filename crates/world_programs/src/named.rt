@@ -1,7 +1,7 @@
 //! The programs of what a script names, whichever script it is.
 
 ghost use Rattle.std.specs.Prelude.{◌≡◌, ◌≤◌, length, false, true, IfOk};
-ghost use Rattle.mate_num.specs.declared.bounds.TheConstants.{FILE_MAX};
+ghost use Rattle.mate_files.specs.declared.files.TheConstants.{FILE_MAX};
 ghost use Rattle.mate_steps.specs.Parts.{ReadsFiles};
 ghost use Rattle.node_programs.specs.Right.{AreRightPrograms};
 ghost use Rattle.world_programs.specs.Named.{is_of_world, begins_world, programs_by, programs_named};

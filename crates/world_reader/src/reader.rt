@@ -1,7 +1,7 @@
 //! The reader of the scripts of worlds.
 
 ghost use Rattle.std.specs.Prelude.{◌≡◌, ◌<◌, ◌≤◌, ◌^◌, false, length, IfOk, OnOk, replicate};
-ghost use Rattle.mate_num.specs.declared.bounds.TheConstants.{FILE_MAX};
+ghost use Rattle.mate_files.specs.declared.files.TheConstants.{FILE_MAX};
 ghost use Rattle.script_reader.specs.Lines.{split_words};
 ghost use Rattle.script_reader.specs.Script.{AnswersScript, FollowsLine};
 ghost use Rattle.world_script.specs.World.{IsRightWorld};

@@ -10,11 +10,11 @@ use Rattle.world_script.specs.declared.world.World.{World as Script}
 use Rattle.radio_sim.specs.Radio.{Ether, wires_of}
 use Rattle.radio_sim.specs.declared.event.Event.{Event}
 use Rattle.world_rules.specs.Effect.{event_node, begun_length, is_owing}
-use Rattle.world_rules.specs.State.{Moment, WorldState, node_at, effect_at, node_after, still_pumps, next_period, deliveries, sendings}
-use Rattle.world_rules.specs.State.{packets_of, left_due}
+use Rattle.world_rules.specs.State.{Moment, WorldState, node_at, effect_at, node_after, still_pumps, next_period, deliveries, sendings, packets_of, left_due}
 use Rattle.world_rules.specs.World.{World}
 use Rattle.sim_air.specs.Air.{radio_event}
-use Rattle.sim_event.specs.Finishing.{IsTakenFrom, HasSettled}
+use Rattle.sim_mote.specs.Standing.{IsTakenFrom}
+use Rattle.sim_finish.specs.Finishing.{HasSettled}
 use Rattle.sim_mote.specs.declared.effect.Effect.{Effect}
 use Rattle.sim_mote.specs.declared.mote.Mote.{Mote}
 

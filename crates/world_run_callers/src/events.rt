@@ -17,7 +17,8 @@ ghost use Rattle.world_rules.specs.State.{sent_bytes};
 ghost use Rattle.world_rules.specs.World.{Inject, handlers};
 ghost use Rattle.sim_mote.specs.Motes.{IsTellable};
 ghost use Rattle.world_state_laws.specs.Coming.{code_world, MayComeTo};
-ghost use Rattle.sim_handling.specs.Handling.{IsMoteOf, IsOpenExchange, IsPaced};
+ghost use Rattle.sim_mote.specs.Standing.{IsMoteOf};
+ghost use Rattle.sim_handling.specs.Handling.{IsOpenExchange, IsPaced};
 
 use mate_journal::Programs;
 use mate_num::{NoMemory, Stamp};

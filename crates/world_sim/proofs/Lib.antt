@@ -1,7 +1,1 @@
-pub mod RecordingLemmas
-pub mod WritingLemmas
-pub mod EndingLemmas
-pub mod HandLemmas
-pub mod SameLemmas
-pub mod LastLemmas
-pub mod CountingLemmas
+pub mod HandingLemmas

@@ -1,4 +1,1 @@
 pub mod Promise
-pub mod Recording
-pub mod Writing
-pub mod Counting

@@ -5,6 +5,7 @@ ghost use Rattle.world_run_laws.specs.Promise.{WorldRunGives};
 
 use mate_journal::{NodeLog, NodeLogs, Programs, RECORDS_MAX, Report, RunFault};
 use mate_num::Stamp;
+use sim_event::step;
 use sim_mote::Effect;
 use sim_run::{Simulation, Written, report_of, see_stores};
 use std::alloc::Global;
@@ -48,7 +49,8 @@ pub fn run(
             event: events + 1,
             time,
         };
-        sim.step(
+        step(
+            &mut sim,
             desc,
             world,
             programs,

@@ -4,7 +4,8 @@ use Rattle.mate_code.specs.CodeUses.{use_of}
 use Rattle.mate_code.specs.declared.instr.Instr.TheVariants.{Add, Sub, Mul, Div, Mod, Neg, Not, And, Or, Eq, Ne, Lt, Gt, Le, Ge}
 use Rattle.exec_unit.specs.Follows.{step_end}
 use Rattle.exec_unit.specs.Machine.{private_in}
-use Rattle.exec_unit.proofs.OperandLemmas.{at, value-is, replaced-one, replaced-two, divided-two}
+use Rattle.mate_num.proofs.NumberLemmas.{value-is}
+use Rattle.exec_unit.proofs.OperandLemmas.{at, replaced-one, replaced-two, divided-two}
 use Rattle.exec_unit.proofs.instruction.act.Goals as goal
 
 pub returns-in-GetS : goal.returns-in-GetS

@@ -1,7 +1,10 @@
-use Rattle.std.proofs.Common.{take}
+use Rattle.std.proofs.Common.{◌-◌}
 use Rattle.vm_desc.specs.Shapes.{shape_of}
-use Rattle.lock_inference.specs.Locks.{AreLocksOf}
+use Rattle.lock_inference.specs.Locks.{IsGathered}
 use Rattle.lock_inference.proofs.inference.locks.Given as goal
 
 abbrev pub invariant-instrs : goal.invariant-instrs
-invariant-instrs l = AreLocksOf (shape_of l.desc) (take l.instr-index l.code.code) l.set
+invariant-instrs l = IsGathered (shape_of l.desc) l.code.code l.place l.set
+
+abbrev pub decreases-instrs : goal.decreases-instrs
+decreases-instrs l = l.len - l.place

@@ -1,4 +1,3 @@
-use Rattle.std.proofs.Common.{arith}
 use Rattle.std.proofs.lemmas.Bool.{lt-ltb}
 use Rattle.mate_num.specs.declared.resource.Resource.TheVariants.{Device}
 use Rattle.vm_desc.specs.Shapes.{shape_of}

@@ -4,7 +4,7 @@ use Rattle.mate_steps.specs.Steps.{goes_on, stops}
 use Rattle.mate_refusals.specs.declared.refusal.Refusal.TheVariants.{NoMemory}
 use Rattle.report_summary.specs.Runs.{IsRunSummary}
 use Rattle.report_summary.proofs.SummaryLemmas.{text-same}
-use Rattle.world_sim.specs.Promise.{IsReportOfWorld}
+use Rattle.world_run_laws.specs.Promise.{IsReportOfWorld}
 use Rattle.mate_cli.proofs.worlds.summary.Goals as goal
 
 pub returns-in-Ok-clause-does : goal.returns-in-Ok-clause-does

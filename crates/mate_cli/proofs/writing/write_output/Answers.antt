@@ -7,7 +7,7 @@ use Rattle.node_programs.specs.ScriptSteps.{AreProgramsOf}
 use Rattle.report_summary.specs.Summary.{summary_text}
 use Rattle.run_steps.specs.Running.{IsReportOf}
 use Rattle.node_programs.specs.WorldPrograms.{AreProgramsOfWorld}
-use Rattle.world_sim.specs.Promise.{IsReportOfWorld}
+use Rattle.world_run_laws.specs.Promise.{IsReportOfWorld}
 use Rattle.mate_cli.proofs.writing.write_output.Goals as goal
 
 pub returns-in-Run : goal.returns-in-Run

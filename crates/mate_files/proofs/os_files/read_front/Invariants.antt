@@ -1,7 +1,7 @@
 -- What was read so far is what the file gave, and no more than may be read.
 use Rattle.std.proofs.Common.{◌≤◌, ◌+◌, ◌-◌, length}
 use Rattle.std.specs.Io.KnownBytes.{Consumes}
-use Rattle.mate_num.specs.declared.bounds.TheConstants.{FILE_MAX}
+use Rattle.mate_files.specs.declared.files.TheConstants.{FILE_MAX}
 use Rattle.mate_files.proofs.os_files.read_front.Given as goal
 
 abbrev pub invariant-loop-bytes : goal.invariant-loop-bytes

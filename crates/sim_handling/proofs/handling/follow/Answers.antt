@@ -9,7 +9,6 @@ use Rattle.node_programs.specs.ScriptSteps.{program_at, held_or_none}
 use Rattle.node_programs.specs.Sources.{held_as}
 use Rattle.world_script.specs.World.{IsRightWhat}
 use Rattle.world_script.specs.declared.world.What.{What}
-use Rattle.world_rules.specs.Effect.{of_line}
 use Rattle.world_rules.specs.World.{Inject, Post, Show, ResetNode, want_of}
 use Rattle.sim_mote.specs.Motes.{InstallsImage, LeavesImage}
 use Rattle.sim_handling.proofs.HearLemmas.{does-inject}

@@ -1,21 +1,15 @@
-use Rattle.std.proofs.Common.{◌≡◌, ◌<◌, List, [], ◌∷◌, length, Some, refl, sym, ◌∙◌, ap, subst, get_or, rules}
+use Rattle.std.proofs.Common.{◌≡◌, ◌<◌, List, length, Some, refl, sym, ◌∙◌, ap, subst, get_or, rules}
 use Rattle.std.specs.Prelude.{ℤ, slice_get}
 use Rattle.std.specs.Int.{w16}
 use Rattle.std.proofs.lemmas.Int.{to_z-of_z}
 use Rattle.std.proofs.lemmas.Option.{slice_get_read, slice_get-get_or}
 use Rattle.std.proofs.lemmas.Result.{on_ok_weaker}
 use Rattle.arrayvec.specs.ArrayVec.{ArrayVec}
-use Rattle.mate_journal.specs.declared.air.Air.TheVariants.{Got}
-use Rattle.node_programs.specs.ScriptSteps.{program_at}
-use Rattle.packet_codec.specs.Bytes.{packet_bytes}
-use Rattle.packet_codec.specs.Packet.{IsRightPacket, HasPacketRanges}
-use Rattle.packet_codec.specs.declared.packet.Packet.{Packet}
 use Rattle.radio_sim.specs.declared.event.Event.{Event}
 use Rattle.world_script.specs.declared.world.Link.{Link}
 use Rattle.world_script.specs.declared.world.Planned.{Planned}
-use Rattle.world_rules.specs.Effect.{of_line, of_packet}
-use Rattle.world_rules.specs.World.{Post, want_of}
-use Rattle.sim_mote.specs.declared.effect.Effect.{Effect}
+use Rattle.world_rules.specs.Effect.{of_line}
+use Rattle.world_rules.specs.World.{Post}
 use Rattle.sim_handling.specs.Handling.{IsFitEvent, DoesBy}
 use Rattle.sim_handling.proofs.CauseLemmas.{HandlesEvent, handles-planned, handles-period, handles-fire, handles-expire, handles-pump, handles-due, handles-deliver}
 use Rattle.sim_handling.proofs.LineLemmas.{does-post}

@@ -92,6 +92,6 @@ loop-events-preserved c =
       empty = c.in_ok-step.ensures.empty;
       plain = c.in_ok-step.ensures.plain;
       logs = c.loop-events.invariant.logs;
-      whole = whole-still (c.loop-events.events + 1) c.in_ok-step.field-0 a.mid c.step.new.self a.adds
+      whole = whole-still (c.loop-events.events + 1) c.in_ok-step.field-0 a.mid c.step.new.sim a.adds
           (subst IsWhole (sym a.lets_go) (record { nodes = c.loop-events.invariant.whole.nodes; air = ap (λ (e : Ether). e.gone) c.next.ensures.others ∙ c.loop-events.invariant.whole.air }));
     }

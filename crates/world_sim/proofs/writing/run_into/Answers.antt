@@ -4,8 +4,8 @@ use Rattle.report_summary.proofs.WritingLemmas.{given-whole, given-fault}
 use Rattle.world_run_laws.specs.Promise.{IsReportOfWorld}
 use Rattle.world_rules.specs.Report.{IsWorldReport}
 use Rattle.world_state_laws.specs.Coming.{code_world}
-use Rattle.world_sim.specs.Writing.{WritesRecorded}
-use Rattle.world_sim.proofs.SameLemmas.{handed-out}
+use Rattle.world_pieces.specs.Writing.{WritesRecorded}
+use Rattle.world_sim.proofs.HandingLemmas.{handed-out}
 use Rattle.world_sim.proofs.writing.run_into.Goals as goal
 
 pub returns-in_default-clause-gives : goal.returns-in_default-clause-gives

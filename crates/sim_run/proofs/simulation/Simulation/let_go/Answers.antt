@@ -2,12 +2,10 @@ use Rattle.std.proofs.Common.{◌≡◌, ◌<◌, length, refl, sym, ◌∙◌, 
 use Rattle.std.specs.Prelude.{Some, slice_get, slice_set}
 use Rattle.std.proofs.lemmas.Option.{slice_get-get_or}
 use Rattle.std.specs.Vec.{with_item}
-use Rattle.open_node.specs.View.{NodeView}
 use Rattle.sim_mote.specs.declared.mote.Mote.{Mote}
 use Rattle.sim_run.specs.Keeping.{LetsGo, LetsGoAsTold}
 use Rattle.sim_run.specs.declared.simulation.Simulation.{Simulation}
 use Rattle.sim_run.specs.declared.simulation.Written.{Written}
-use Rattle.sim_run.proofs.KeepingLemmas.{gone-same}
 use Rattle.sim_run.proofs.simulation.Simulation.let_go.Goals as goal
 
 pub returns-in-Forgotten-clause-lets_go : goal.returns-in-Forgotten-clause-lets_go

@@ -1,0 +1,6 @@
+pub mod RecordingLemmas
+pub mod WritingLemmas
+pub mod EndingLemmas
+pub mod HandLemmas
+pub mod SameLemmas
+pub mod LastLemmas
