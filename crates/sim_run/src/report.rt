@@ -12,9 +12,9 @@ ghost use Rattle.sim_run.specs.Keeping.{IsWhole, HasForgotten, HaveForgotten};
 ghost use Rattle.sim_run.specs.Reporting.{ShowsOneStore, ShowStores, told_report, mote_logs, AreOfMachine};
 
 use crate::simulation::Simulation;
+use journal_laws::{LogSize, log_is_in_range_from, report_is_in_range};
 use mate_journal::{NodeLogs, Report};
 use mate_num::{NoMemory, Stamp};
-use journal_laws::{LogSize, log_is_in_range_from, report_is_in_range};
 use sim_mote::Mote;
 
 /// How many entries a log has at most when a store is seen.

@@ -20,12 +20,12 @@ ghost use Rattle.sim_run.specs.Ranging.{AreInRange};
 ghost use Rattle.sim_run.specs.Keeping.{IsWhole, IsFew, LetsGo, LetsGoAsTold};
 ghost use Rattle.sim_run.specs.Telling.{LogsAreKept};
 
+use journal_laws::air_is_in_range_from;
 use mate_journal::{NodeLog, RECORDS_MAX};
 use mate_num::NoMemory;
 use open_node::OpenNode;
 use packet_codec::Packet;
 use radio_sim::{Event, Radio};
-use journal_laws::air_is_in_range_from;
 use sim_air::{begin_node, schedule_lines};
 use sim_mote::Mote;
 use std::alloc::Global;
