@@ -21,7 +21,7 @@ use std::alloc::Global;
 use std::marker::Model;
 
 /// What a packet that a node received calls for.
-#[derive(PartialEq, Eq, Debug, Drop)]
+#[derive(Drop)]
 pub struct Heard {
     /// Whether a Vector has exactly the versions that the node holds; None for other packets.
     pub consistent: Option<bool>,

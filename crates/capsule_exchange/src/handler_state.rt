@@ -12,7 +12,7 @@ use mate_num::{HandlerId, Image, SHORT_IMAGE};
 use packet_codec::Packet;
 
 /// The count and the kind of an image's fragments.
-#[derive(Clone, Copy, PartialEq, Eq, Debug)]
+#[derive(Clone, Copy)]
 pub struct Form {
     /// From 1 to 22.
     pub count: u8,

@@ -26,7 +26,7 @@ use Rattle.world_rules.specs.Report.{IsLogOf, IsWorldReport}
 use Rattle.world_rules.specs.Run.{HaveCome, stamp_of, journal, airs}
 use Rattle.world_rules.specs.State.{Moment}
 use Rattle.world_rules.specs.World.{World}
-use Rattle.world_text_laws.proofs.Bounds.{stamped-all, journal-upto, airs-upto, airs-new, airs-more, entries-of, entries-new, all-named}
+use Rattle.world_laws.proofs.Bounds.{stamped-all, journal-upto, airs-upto, airs-new, airs-more, entries-of, entries-new, all-named}
 
 -- ---- the events
 

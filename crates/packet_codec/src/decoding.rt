@@ -13,7 +13,7 @@ use mate_num::{HandlerId, Payload};
 use vm_desc::Description;
 
 /// Why bytes are no packet of the machine.
-#[derive(Clone, Copy, PartialEq, Eq, Debug)]
+#[derive(Clone, Copy, Debug)]
 pub enum PacketFault {
     /// The packet is for another machine.
     OtherVm,

@@ -8,7 +8,7 @@ use capsule_codec::Piece;
 use mate_num::{HandlerId, Payload};
 
 /// What a node sends. It is right for a machine if its handlers, numbers and lengths are the machine's, as said at each field.
-#[derive(PartialEq, Eq, Debug, Drop)]
+#[derive(Debug, Drop)]
 pub enum Packet {
     /// The version that the sender holds of each handler, in order, 0 for none.
     Vector {

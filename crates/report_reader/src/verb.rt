@@ -6,7 +6,7 @@ ghost use Rattle.report_reader.specs.Verbs.{verb_word, likely, verb_of};
 use report_fields::words::same_bytes;
 
 /// What kind of record a line is of.
-#[derive(Clone, Copy, PartialEq, Eq, Debug)]
+#[derive(Clone, Copy)]
 pub enum Verb {
     Post,
     Drop,

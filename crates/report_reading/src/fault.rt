@@ -3,7 +3,7 @@
 use mate_num::NoMemory;
 
 /// Why a text isn't read.
-#[derive(Clone, Copy, PartialEq, Eq, Debug)]
+#[derive(Clone, Copy)]
 pub enum TextFault {
     /// The first line, counted from 1, that doesn't fit after the lines before it. A last line without LF doesn't fit, and neither
     /// does a line after the last line of a report; if a text of whole lines ends too early, it is the line that would come next.

@@ -10,7 +10,7 @@ use report_fields::Words;
 use report_fields::numbers::unsigned;
 
 /// What the last line of a report says.
-#[derive(Clone, Copy, PartialEq, Eq, Debug)]
+#[derive(Clone, Copy)]
 pub struct LastLine {
     /// Whether the run is whole.
     pub whole: bool,

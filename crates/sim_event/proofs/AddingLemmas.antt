@@ -7,7 +7,7 @@ use Rattle.mate_journal.specs.Journal.{TimedEntry as Entered, journal_of}
 use Rattle.journal_laws.proofs.GoesOnLemmas.{GoesOn-journal}
 use Rattle.node_invariant.specs.Keeps.{event_at}
 use Rattle.world_laws.proofs.Journals.{journal-here}
-use Rattle.world_text_laws.proofs.Bounds.{airs-more}
+use Rattle.world_laws.proofs.Bounds.{airs-more}
 use Rattle.mate_journal.specs.Tidy.{NumbersInOrder}
 use Rattle.mate_journal.specs.declared.air.Aired.{Aired}
 use Rattle.mate_journal.specs.declared.program.Program.{Program}
@@ -21,7 +21,7 @@ use Rattle.world_rules.specs.Run.{stamp_of, airs, journal}
 use Rattle.world_script.specs.declared.world.World.{World as Script}
 use Rattle.sim_event.specs.Performing.{MayPerform, Performed}
 use Rattle.sim_mote.specs.declared.mote.Mote.{Mote}
-use Rattle.world_text_laws.specs.EventText.{so_far, TellJournals, AddsLines, EventsAddTheirLines}
+use Rattle.world_laws.specs.EventText.{so_far, TellJournals, AddsLines, EventsAddTheirLines}
 use Rattle.sim_run.specs.Reporting.{mote_logs}
 use Rattle.sim_run.specs.Running.{StandsAtNext}
 use Rattle.sim_run.specs.Telling.{report_now, AddsEvent}

@@ -18,9 +18,9 @@ use radio_sim::Event;
 use sim_mote::Effect;
 use sim_run::{Simulation, Written};
 use vm_desc::Description;
+use world_laws::text_grows_by_events;
 use world_script::World;
 use world_state_laws::states_are_sound;
-use world_text_laws::text_grows_by_events;
 
 /// The event comes, with this stamp. What its node and the radio recorded before it is forgotten, if that is to be forgotten, and
 /// the node then has the spare room, if it may record something. It answers its node. The effect is nothing before it and after it.

@@ -14,7 +14,7 @@ use Rattle.world_rules.specs.State.{Moment}
 use Rattle.world_rules.specs.Run.{journal}
 use Rattle.sim_run.specs.Standing.{IsMoteAfter}
 use Rattle.sim_mote.specs.declared.mote.Mote.{Mote}
-use Rattle.world_text_laws.specs.EventText.{TellJournals}
+use Rattle.world_laws.specs.EventText.{TellJournals}
 use Rattle.sim_run.specs.Reporting.{mote_logs, AreOfMachine}
 use Rattle.sim_run.specs.Telling.{LogsAreKept}
 use Rattle.sim_run.proofs.WorldLemmas.{some-at}

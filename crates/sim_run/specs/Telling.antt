@@ -5,7 +5,7 @@ use Rattle.mate_journal.specs.declared.report.Report.{Report}
 use Rattle.node_invariant.specs.Meaning.{machine_in}
 use Rattle.open_node.specs.Journal.{KeepsJournal}
 use Rattle.sim_mote.specs.declared.mote.Mote.{Mote}
-use Rattle.world_text_laws.specs.EventText.{so_far, AddsLines}
+use Rattle.world_laws.specs.EventText.{so_far, AddsLines}
 use Rattle.sim_run.specs.Reporting.{mote_logs}
 use Rattle.sim_run.specs.Keeping.{LetsGoAsTold}
 use Rattle.sim_run.specs.declared.simulation.Written.{Written}

@@ -8,7 +8,7 @@ use std::alloc::Global;
 use std::marker::Model;
 
 /// What a frame gives.
-#[derive(PartialEq, Eq, Debug, Drop)]
+#[derive(Drop)]
 pub enum Frame {
     /// Its bytes, at most 1,056.
     Whole(Image),
@@ -19,7 +19,7 @@ pub enum Frame {
 }
 
 /// Frames. Contracts see the list.
-#[derive(Debug, Drop)]
+#[derive(Drop)]
 pub struct Frames {
     pub(crate) frames: Vec<Frame>,
 }

@@ -25,7 +25,7 @@ pub const ESC_END: u8 = 220;
 pub const ESC_ESC: u8 = 221;
 
 /// How the escapes of the frame stand that has begun.
-#[derive(Clone, Copy, PartialEq, Eq, Debug)]
+#[derive(Clone, Copy, PartialEq, Eq)]
 enum Escapes {
     /// Each has its second byte.
     Whole,
@@ -36,7 +36,7 @@ enum Escapes {
 }
 
 /// A reader of a stream of frames. It takes no memory of its own.
-#[derive(Debug, Drop)]
+#[derive(Drop)]
 pub struct Slip {
     // The bytes of the frame that has begun, with its escapes replaced: the first 1,056.
     image: Image,

@@ -12,7 +12,7 @@ use std::marker::Model;
 use vm_desc::TrickleSet;
 
 /// What a node does at the point of its interval.
-#[derive(Clone, Copy, PartialEq, Eq, Debug)]
+#[derive(Clone, Copy)]
 pub enum Fire {
     /// It sends the versions that it holds.
     Send,

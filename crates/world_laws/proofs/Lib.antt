@@ -34,3 +34,5 @@ pub mod Stages
 pub mod Spreading
 pub mod HopBound
 pub mod Premises
+pub mod Bounds
+pub mod EventLemmas

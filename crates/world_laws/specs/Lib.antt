@@ -19,3 +19,4 @@ pub mod Hops
 pub mod Spread
 pub mod HopBound
 pub mod Premises
+pub mod EventText

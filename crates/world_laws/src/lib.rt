@@ -1,10 +1,12 @@
-//! What follows from the rules of a world: of its events, of what stands on the air, of installs, and of how fast versions spread.
+//! What follows from the rules of a world: of its events, of what stands on the air, of installs, of how
+//! fast versions spread, and of the text of a report.
 #![tactic(auto)]
 
 pub mod air;
 pub mod events;
 pub mod hops;
 pub mod installs;
+pub mod text;
 
 pub use air::{
     packets_are_decided, packets_are_sent_for_reasons, packets_arrive_once, timers_are_told,
@@ -16,3 +18,4 @@ pub use events::{
 };
 pub use hops::{injected_versions_arrive, scripts_keep_the_bound, versions_spread};
 pub use installs::{installs_are_injected, installs_are_taken, lines_come_in_order, versions_rise};
+pub use text::text_grows_by_events;

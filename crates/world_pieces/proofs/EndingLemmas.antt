@@ -30,7 +30,7 @@ use Rattle.world_rules.specs.World.{World}
 use Rattle.world_rules.specs.State.{Moment}
 use Rattle.world_rules.specs.Run.{journal, airs, IsJournalOf}
 use Rattle.world_rules.specs.Report.{IsWorldReport}
-use Rattle.world_text_laws.specs.EventText.{so_far, TellJournals, ShowTheirStores, StartsWithIntervals, StoresAddTheirLines, store_lines}
+use Rattle.world_laws.specs.EventText.{so_far, TellJournals, ShowTheirStores, StartsWithIntervals, StoresAddTheirLines, store_lines}
 use Rattle.sim_run.specs.Reporting.{mote_logs, told_report, ShowStores}
 use Rattle.world_script.specs.declared.world.World.{World as Script}
 use Rattle.world_state_laws.specs.Coming.{code_world}

@@ -31,7 +31,7 @@ use Rattle.world_rules.specs.World.{World}
 use Rattle.world_rules.specs.State.{Moment}
 use Rattle.world_rules.specs.Run.{journal}
 use Rattle.sim_mote.specs.declared.mote.Mote.{Mote}
-use Rattle.world_text_laws.specs.EventText.{ShowTheirStores}
+use Rattle.world_laws.specs.EventText.{ShowTheirStores}
 use Rattle.sim_run.specs.Keeping.{IsWhole, HaveForgotten, LetsGo}
 use Rattle.sim_run.specs.Reporting.{ShowStores, mote_logs}
 use Rattle.sim_run.specs.Telling.{AddsEvent}

@@ -15,7 +15,7 @@ use Rattle.report_summary.specs.declared.pass.Pass.{Pass}
 use Rattle.report_summary.specs.declared.write_fault.WriteFault.{WriteFault}
 use Rattle.report_summary.specs.declared.write_fault.WriteFault.TheVariants.{NoMemory}
 use Rattle.report_summary.proofs.WritingLemmas.{written-more, stopped-within, cut-short, ended-full}
-use Rattle.world_text_laws.proofs.EventLemmas.{all_stand, store_lines-next, store_lines-both}
+use Rattle.world_laws.proofs.EventLemmas.{all_stand, store_lines-next, store_lines-both}
 use Rattle.mate_journal.specs.declared.air.Aired.{Aired}
 use Rattle.mate_journal.specs.declared.program.Program.{Program}
 use Rattle.mate_journal.specs.declared.report.Report.{Report}
@@ -31,7 +31,7 @@ use Rattle.world_script.specs.declared.world.World.{World as Script}
 use Rattle.world_state_laws.specs.Coming.{code_world}
 use Rattle.sim_run.specs.Standing.{IsMoteAfter}
 use Rattle.sim_mote.specs.declared.mote.Mote.{Mote}
-use Rattle.world_text_laws.specs.EventText.{so_far, TellJournals, store_lines}
+use Rattle.world_laws.specs.EventText.{so_far, TellJournals, store_lines}
 use Rattle.sim_run.specs.Reporting.{mote_logs, told_report}
 use Rattle.sim_run.specs.Ranging.{AreInRange}
 use Rattle.sim_run.specs.Running.{StandsAfter}

@@ -15,7 +15,7 @@ ghost use Rattle.sim_run.specs.Running.{StandsAfter};
 ghost use Rattle.sim_run.specs.Telling.{LogsAreKept};
 ghost use Rattle.world_pieces.specs.Recording.{IsRecorded, has_record};
 ghost use Rattle.world_pieces.specs.Writing.{EndsSo, IsStartWritten, StandsAtEnd, StartsRecorded};
-ghost use Rattle.world_text_laws.specs.EventText.{store_lines};
+ghost use Rattle.world_laws.specs.EventText.{store_lines};
 
 use crate::recording::{add_event, record_stores};
 use mate_files::{Sink, SinkFault};
@@ -28,8 +28,8 @@ use sim_mote::Mote;
 use sim_run::{Simulation, forget_all, see_stores};
 use std::alloc::Global;
 use vm_desc::Description;
+use world_laws::text_grows_by_events;
 use world_script::World;
-use world_text_laws::text_grows_by_events;
 
 /// The world before its first event, and the record of its start.
 pub fn start_recorded(

@@ -24,7 +24,7 @@ use Rattle.world_laws.proofs.Among.{all-at}
 use Rattle.world_rules.specs.World.{World}
 use Rattle.world_rules.specs.State.{Moment}
 use Rattle.sim_mote.specs.declared.mote.Mote.{Mote}
-use Rattle.world_text_laws.specs.EventText.{ShowTheirStores}
+use Rattle.world_laws.specs.EventText.{ShowTheirStores}
 use Rattle.sim_run.specs.Keeping.{IsWhole, HaveForgotten, LetsGo}
 use Rattle.sim_run.specs.Reporting.{ShowStores, mote_logs, told_report}
 use Rattle.sim_run.specs.Telling.{AddsEvent}

@@ -1,5 +1,5 @@
 use Rattle.audit_rules.proofs.ReplayLemmas.{ends_enough}
-use Rattle.audit_rules.proofs.laws.ends_are_enough.Goals as goal
+use Rattle.audit_rules.proofs.finite.ends_are_enough.Goals as goal
 
 pub returns : goal.returns
 returns c = ends_enough

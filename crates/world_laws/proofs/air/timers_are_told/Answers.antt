@@ -1,7 +1,7 @@
 use Rattle.world_laws.proofs.AirTimers.{intervals_are_told}
 use Rattle.world_laws.proofs.AirPoints.{points_are_told}
 use Rattle.world_laws.proofs.Timely.{points_are_timely, ends_are_timely, intervals_run, first_intervals_run}
-use Rattle.world_laws.proofs.timers_are_told.Goals as goal
+use Rattle.world_laws.proofs.air.timers_are_told.Goals as goal
 
 pub returns : goal.returns
 returns c = record {

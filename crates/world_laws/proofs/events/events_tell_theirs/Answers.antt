@@ -1,5 +1,5 @@
 use Rattle.world_laws.proofs.Given.{events_give_theirs, journals_tell_what_came, posts_have_their_payload}
-use Rattle.world_laws.proofs.events_tell_theirs.Goals as goal
+use Rattle.world_laws.proofs.events.events_tell_theirs.Goals as goal
 
 pub returns : goal.returns
 returns c = record {

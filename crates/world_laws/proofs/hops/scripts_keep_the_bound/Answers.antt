@@ -1,5 +1,5 @@
 use Rattle.world_laws.proofs.Premises.{open_scripts, plans_rightly, few_fragments, injected_are_versions, scripts_installs_are_newer, injected_is_installed}
-use Rattle.world_laws.proofs.scripts_keep_the_bound.Goals as goal
+use Rattle.world_laws.proofs.hops.scripts_keep_the_bound.Goals as goal
 
 pub returns : goal.returns
 returns c = record {

@@ -3,7 +3,7 @@ use Rattle.mate_files.specs.Sink.{Puts}
 use Rattle.mate_journal.specs.NodeScript.{Whole}
 use Rattle.report_summary.specs.declared.pass.Pass.{Pass}
 use Rattle.sim_mote.specs.declared.mote.Mote.{Mote}
-use Rattle.world_text_laws.specs.EventText.{store_lines}
+use Rattle.world_laws.specs.EventText.{store_lines}
 use Rattle.sim_run.specs.Reporting.{mote_logs}
 use Rattle.sim_run.specs.Telling.{LogsAreKept}
 use Rattle.sim_run.specs.declared.simulation.Simulation.{Simulation}

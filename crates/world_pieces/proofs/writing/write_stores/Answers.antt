@@ -4,7 +4,7 @@ use Rattle.mate_files.proofs.SinkLemmas.{Puts-trans, Puts-stop}
 use Rattle.mate_journal.specs.declared.entry.Stamped.{Stamped}
 use Rattle.report_text.specs.Text.{event_piece}
 use Rattle.sim_run.specs.Reporting.{mote_logs}
-use Rattle.world_text_laws.specs.EventText.{store_lines}
+use Rattle.world_laws.specs.EventText.{store_lines}
 use Rattle.open_node.proofs.KeptLemmas.{count-kept}
 use Rattle.sim_mote.specs.declared.mote.Mote.{Mote}
 use Rattle.world_pieces.proofs.HandLemmas.{piece-last}

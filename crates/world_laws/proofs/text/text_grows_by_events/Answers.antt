@@ -1,5 +1,5 @@
-use Rattle.world_text_laws.proofs.EventLemmas.{starts, events_add, all_stand, stores_add}
-use Rattle.world_text_laws.proofs.text_grows_by_events.Goals as goal
+use Rattle.world_laws.proofs.EventLemmas.{starts, events_add, all_stand, stores_add}
+use Rattle.world_laws.proofs.text.text_grows_by_events.Goals as goal
 
 pub returns-clause-starts : goal.returns-clause-starts
 returns-clause-starts c = starts

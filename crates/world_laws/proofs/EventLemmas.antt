@@ -24,8 +24,8 @@ use Rattle.world_rules.specs.Effect.{event_node}
 use Rattle.world_rules.specs.State.{Moment}
 use Rattle.world_rules.specs.Run.{stamp_of, airs, journal}
 use Rattle.std.proofs.lemmas.Bool.Decides.{eqb_tells}
-use Rattle.world_text_laws.specs.EventText.{so_far, TellJournals, AddsLines, StartsWithIntervals, EventsAddTheirLines, ShowTheirStores, store_lines, AllLinesStand, StoresAddTheirLines}
-use Rattle.world_text_laws.proofs.Bounds.{stamped-all, journal-upto, airs-upto, airs-new, airs-more, entries-of, entries-new, entries-front, logs-upto, all-named}
+use Rattle.world_laws.specs.EventText.{so_far, TellJournals, AddsLines, StartsWithIntervals, EventsAddTheirLines, ShowTheirStores, store_lines, AllLinesStand, StoresAddTheirLines}
+use Rattle.world_laws.proofs.Bounds.{stamped-all, journal-upto, airs-upto, airs-new, airs-more, entries-of, entries-new, entries-front, logs-upto, all-named}
 
 abbrev LogUpTo : ℕ → Log → Type 0
 LogUpTo n l = All (λ (e : Stamped). e.stamp.event ≤ n) l.entries

@@ -23,7 +23,7 @@ use Rattle.world_rules.specs.World.{World}
 use Rattle.world_rules.specs.Effect.{event_node}
 use Rattle.world_rules.specs.State.{Moment, state, air_made}
 use Rattle.world_rules.specs.Run.{stamp_of, airs, journal}
-use Rattle.world_text_laws.specs.EventText.{TellJournals}
+use Rattle.world_laws.specs.EventText.{TellJournals}
 
 abbrev UpTo : ℕ → Entered → Type 0
 UpTo n e = e.stamp.event ≤ n
