@@ -5,12 +5,12 @@ use Rattle.std.specs.Bool.{beq}
 use Rattle.std.specs.Int.{bit_at}
 use Rattle.std.specs.List.{filter, filter_map, flat_map, find, list_all, range_with_len, sum_by}
 use Rattle.std.specs.Option.{option_map, option_or}
-use Rattle.mate_num.specs.declared.bounds.TheConstants.{SHORT_IMAGE}
+use Rattle.mate_num.specs.declared.bounds.TheConstants.{SHORT_IMAGE, FRAGMENTS_MAX}
 use Rattle.arrayvec.specs.ArrayVec.{ArrayVec}
 use Rattle.mate_num.specs.declared.id.HandlerId.{HandlerId}
 use Rattle.capsule_codec.specs.Fragments.{count_of, piece_at}
 use Rattle.packet_codec.specs.declared.packet.Packet.{Packet}
-use Rattle.packet_codec.specs.declared.packet.Packet.TheVariants.{Vector, Status, Fragment, App}
+use Rattle.packet_codec.specs.declared.packet.Packet.TheVariants.{Vector, Status, Fragment}
 
 pub data Happening : Type 0 where
   -- a packet was heard
@@ -53,9 +53,8 @@ heard_since h (Forgets ∷ before) = []
 -- the version of the handler that the packet announces, 0 for none
 abbrev pub version_in : ℕ → Packet → ℕ
 version_in h (Vector versions) = slice_index versions.items h
-version_in h (Status g version missing) = 0
 version_in h (Fragment g version index count large bytes) = if g.0 == h then version else 0
-version_in h (App payload) = 0
+version_in h _ = 0
 
 abbrev pub greatest : List ℕ → ℕ
 greatest [] = 0
@@ -74,11 +73,9 @@ pub record TargetFragment : Type 0 where
 
 -- the packet as a fragment of this version of the handler, none if it is no such fragment
 abbrev pub part_in : ℕ → ℕ → Packet → Option TargetFragment
-part_in h target (Vector versions) = None
-part_in h target (Status g version missing) = None
 part_in h target (Fragment g version index count large bytes) =
     if g.0 == h && version == target then Some (record { index = index; count = count; large = large; bytes = bytes }) else None
-part_in h target (App payload) = None
+part_in h target _ = None
 
 -- the fragments of the target that were heard since, in order
 abbrev pub target_parts : ℕ → List Happening → List TargetFragment
@@ -98,7 +95,7 @@ collected_at parts i = option_map (λ part. part.bytes) (find (λ part. part.ind
 
 -- how many fragments the target has: the count of the first, and as many as an image can have while none was heard
 abbrev pub limit_of : List TargetFragment → ℕ
-limit_of [] = 22
+limit_of [] = FRAGMENTS_MAX
 limit_of (first ∷ parts) = first.count
 
 -- what is collected at each index of the target
@@ -148,39 +145,33 @@ abbrev pub asks_after : ℕ → Packet → List Happening → List Packet
 asks_after n (Vector versions) before =
     map (ask_for (Hears (Vector versions) ∷ before))
     (filter (λ h. nat_lt (held_version h before) (slice_index versions.items h)) (range_with_len 0 n))
-asks_after n (Status g version missing) before = []
-asks_after n (Fragment g version index count large bytes) before = []
-asks_after n (App payload) before = []
+asks_after n _ before = []
 
 -- the handler whose fragments became complete with the packet, a fragment
 abbrev pub completed_by : Packet → List Happening → Option HandlerId
-completed_by (Vector versions) before = None
-completed_by (Status g version missing) before = None
 completed_by (Fragment g version index count large bytes) before =
     if nat_lt (complete_version g.0 before) (complete_version g.0 (Hears (Fragment g version index count large bytes) ∷ before)) then
     Some g else None
-completed_by (App payload) before = None
+completed_by _ before = None
 
--- ---- which fragments it owes: slot 22 h + i is fragment i of what it holds of the handler h
+-- ---- which fragments it owes: slot FRAGMENTS_MAX h + i is fragment i of what it holds of the handler h
 
 -- the packet asks for fragment i of exactly the version that is held of h, and the image has it
 abbrev pub asks_of : ℕ → ℕ → Packet → List Happening → Bool
-asks_of h i (Vector versions) before = false
 asks_of h i (Status g version missing) before =
     (g.0 == h && version == held_version h before) && (nat_lt i (count_of (held_image h before)) && bit_at missing i == 1)
-asks_of h i (Fragment g version index count large bytes) before = false
-asks_of h i (App payload) before = false
+asks_of h i _ before = false
 
 -- it was asked for, and since then not sent, the handler not installed and nothing forgotten
 abbrev pub is_marked : ℕ → ℕ → List Happening → Bool
 is_marked h i [] = false
 is_marked h i (Hears packet ∷ before) = asks_of h i packet before || is_marked h i before
-is_marked h i (Sends slot ∷ before) = not (slot == 22 * h + i) && is_marked h i before
+is_marked h i (Sends slot ∷ before) = not (slot == FRAGMENTS_MAX * h + i) && is_marked h i before
 is_marked h i (Installs g version image ∷ before) = not (g == h) && is_marked h i before
 is_marked h i (Forgets ∷ before) = false
 
 abbrev pub is_marked_slot : List Happening → ℕ → Bool
-is_marked_slot hs slot = is_marked (slot / 22) (slot % 22) hs
+is_marked_slot hs slot = is_marked (slot / FRAGMENTS_MAX) (slot % FRAGMENTS_MAX) hs
 
 abbrev pub last_sent : List Happening → Option ℕ
 last_sent [] = None
@@ -196,7 +187,7 @@ next_place (Some slot) = slot + 1
 
 -- the slots of n handlers from this one on
 abbrev pub slots_from : ℕ → ℕ → List ℕ
-slots_from n first = range_with_len first (22 * n - first)
+slots_from n first = range_with_len first (FRAGMENTS_MAX * n - first)
 
 -- the first marked slot from there on, and else the first of all; none if nothing is marked
 abbrev pub next_slot : ℕ → List Happening → Option ℕ
@@ -210,4 +201,5 @@ fragment_of h version image i =
 
 -- what is sent for a slot
 abbrev pub fragment_for : List Happening → ℕ → Packet
-fragment_for hs slot = fragment_of (slot / 22) (held_version (slot / 22) hs) (held_image (slot / 22) hs) (slot % 22)
+fragment_for hs slot =
+    let h = slot / FRAGMENTS_MAX in fragment_of h (held_version h hs) (held_image h hs) (slot % FRAGMENTS_MAX)

@@ -6,6 +6,7 @@ use Rattle.std.specs.Int.{bit_at}
 use Rattle.std.specs.List.{filter, find, range_with_len}
 use Rattle.std.specs.Option.{option_or}
 use Rattle.arrayvec.specs.ArrayVec.{ArrayVec}
+use Rattle.mate_num.specs.declared.bounds.TheConstants.{FRAGMENTS_MAX}
 use Rattle.mate_num.specs.declared.id.HandlerId.{HandlerId}
 use Rattle.capsule_codec.specs.Fragments.{count_of}
 use Rattle.packet_codec.specs.declared.packet.Packet.{Packet}
@@ -60,7 +61,7 @@ abbrev pub installs : ℕ → ArrayVec ℕ → HandlerState → HandlerState
 installs version image s = forgets (record s { held = version; image = image })
 
 abbrev pub limit_in : Option Form → ℕ
-limit_in None = 22
+limit_in None = FRAGMENTS_MAX
 limit_in (Some form) = form.count
 
 -- the places of the target's pieces
@@ -96,7 +97,7 @@ asks_upto versions states n =
     (filter (λ h. nat_lt (state_at states h).held (slice_index versions h)) (range_with_len 0 n))
 
 abbrev pub is_marked_in : List HandlerState → ℕ → Bool
-is_marked_in states slot = slice_index_or (state_at states (slot / 22)).marks (slot % 22) false
+is_marked_in states slot = slice_index_or (state_at states (slot / FRAGMENTS_MAX)).marks (slot % FRAGMENTS_MAX) false
 
 -- the slot that is sent next, after the last one
 abbrev pub next_in : List HandlerState → Option ℕ → Option ℕ
@@ -106,4 +107,6 @@ next_in states last =
 
 -- the fragment that is sent for a slot
 abbrev pub fragment_in : List HandlerState → ℕ → Packet
-fragment_in states slot = fragment_of (slot / 22) (state_at states (slot / 22)).held (state_at states (slot / 22)).image.items (slot % 22)
+fragment_in states slot =
+    let h = slot / FRAGMENTS_MAX in
+    fragment_of h (state_at states h).held (state_at states h).image.items (slot % FRAGMENTS_MAX)

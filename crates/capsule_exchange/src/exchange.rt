@@ -3,6 +3,7 @@
 ghost use Rattle.std.specs.Prelude.{◌≡◌, ◌*◌, ◌/◌, ◌%◌, ◌<◌, ◌≤◌, ◌↔◌, [], length, map, IsTrue, IfOk, IfSome, is_some, All};
 ghost use Rattle.std.specs.List.{list_any};
 ghost use Rattle.std.specs.Option.{option_map};
+ghost use Rattle.mate_num.specs.declared.bounds.TheConstants.{FRAGMENTS_MAX};
 ghost use Rattle.packet_codec.specs.declared.packet.Packet.TheVariants.{Vector};
 ghost use Rattle.packet_codec.specs.Packet.{IsRightPacket};
 ghost use Rattle.capsule_exchange.specs.Happenings.{Hears, Installs, Forgets, asks_after, completed_by, held_version, held_versions, collected_image, IsOpen, is_marked_slot, slots_from, next_slot, fragment_for};
@@ -15,7 +16,7 @@ use crate::handlers::{aim_each, ask_each, forget_each, held_versions, next_slot}
 use crate::summary::Summary;
 use arrayvec::ArrayVec;
 use capsule_codec::Piece;
-use mate_num::{HandlerId, Image, NoMemory};
+use mate_num::{FRAGMENTS_MAX, HandlerId, Image, NoMemory};
 use packet_codec::Packet;
 use std::alloc::Global;
 use std::marker::Model;
@@ -184,8 +185,8 @@ impl Exchange {
         bytes: &Piece,
     ) -> Option<HandlerId>
         requires handler { handler.0 < length self.old.handlers }
-        requires index { index < 22 }
-        requires count { form.count ≤ 22 }
+        requires index { index < FRAGMENTS_MAX }
+        requires count { form.count ≤ FRAGMENTS_MAX }
         ensures state { self.new ≡ with_state self.old handler.0
             (hears_fragment version index form bytes.now (state_at self.old.handlers handler.0)) }
         ensures complete { result ≡ completes_in handler (state_at self.old.handlers handler.0) (state_at self.new.handlers handler.0) }
@@ -232,15 +233,15 @@ impl Exchange {
 
     // Sends the fragment of a marked slot.
     fn send(&mut self, slot: usize) -> Packet
-        requires within { slot < 22 * length self.old.handlers }
+        requires within { slot < FRAGMENTS_MAX * length self.old.handlers }
         requires marked { IsTrue (is_marked_in self.old.handlers slot) }
-        ensures state { self.new ≡ record (with_state self.old (slot / 22)
-            (after_sending (slot % 22) (state_at self.old.handlers (slot / 22)))) { last = Some slot } }
+        ensures state { self.new ≡ record (with_state self.old (slot / FRAGMENTS_MAX)
+            (after_sending (slot % FRAGMENTS_MAX) (state_at self.old.handlers (slot / FRAGMENTS_MAX)))) { last = Some slot } }
         ensures packet { result ≡ fragment_in self.old.handlers slot }
         ensures right { IsRightPacket (length self.old.handlers) result }
     {
-        let handler = slot / 22;
-        let index = slot % 22;
+        let handler = slot / FRAGMENTS_MAX;
+        let index = slot % FRAGMENTS_MAX;
         let state = &mut self.handlers.as_mut_slice()[handler];
         let packet = state.fragment(HandlerId(handler as u8), index as u8);
         state.unmark(index);

@@ -1,6 +1,7 @@
 //! What a node holds of one handler, what it collects of a newer version, and which fragments it has yet to send.
 
 ghost use Rattle.std.specs.Prelude.{◌≡◌, ℕ, ◌<◌, ◌≤◌, length, IfSome};
+ghost use Rattle.mate_num.specs.declared.bounds.TheConstants.{FRAGMENTS_MAX};
 ghost use Rattle.packet_codec.specs.Packet.{IsRightPacket};
 ghost use Rattle.capsule_codec.specs.Fragments.{count_of};
 ghost use Rattle.capsule_exchange.specs.Happenings.{fragment_of};
@@ -8,7 +9,7 @@ ghost use Rattle.capsule_exchange.specs.Steps.{no_state, aimed, takes, kept, hea
 
 use crate::pieces::{copy_of, is_whole, joined, missing_mask, no_marks, no_pieces};
 use capsule_codec::{Piece, count, fragment};
-use mate_num::{HandlerId, Image, SHORT_IMAGE};
+use mate_num::{FRAGMENTS_MAX, HandlerId, Image, SHORT_IMAGE};
 use packet_codec::Packet;
 
 /// The count and the kind of an image's fragments.
@@ -32,9 +33,9 @@ pub struct HandlerState {
     /// The form of the target's fragments, once one was received.
     pub(crate) form: Option<Form>,
     /// The pieces of the target that are collected.
-    pub(crate) pieces: [Option<Piece>; 22],
+    pub(crate) pieces: [Option<Piece>; FRAGMENTS_MAX],
     /// The fragments of the held image that were asked for and not sent since.
-    pub(crate) marks: [bool; 22],
+    pub(crate) marks: [bool; FRAGMENTS_MAX],
 }
 
 impl Default for HandlerState {
@@ -66,7 +67,7 @@ impl HandlerState {
 
     /// A fragment of this version was received.
     pub(crate) fn hear_fragment(&mut self, version: u32, index: u8, form: Form, bytes: &Piece)
-        requires { index < 22 }
+        requires { index < FRAGMENTS_MAX }
         ensures { self.new ≡ hears_fragment version index form bytes.now self.old }
     {
         self.aim(version);
@@ -77,7 +78,7 @@ impl HandlerState {
 
     // Keeps a fragment of the target if it goes with the first one and none of its index is kept.
     fn keep(&mut self, index: u8, form: Form, bytes: &Piece)
-        requires { index < 22 }
+        requires { index < FRAGMENTS_MAX }
         ensures { self.new ≡ kept index form bytes.now self.old }
     {
         let place = usize::from(index);
@@ -109,7 +110,7 @@ impl HandlerState {
 
     /// The fragment at `index` was sent.
     pub(crate) fn unmark(&mut self, index: usize)
-        requires { index < 22 }
+        requires { index < FRAGMENTS_MAX }
         ensures { self.new ≡ after_sending index self.old }
     {
         self.marks[index] = false;
@@ -139,9 +140,9 @@ impl HandlerState {
 
     // The places of the target's pieces, by index: as many as it has fragments, or all 22 if no fragment was received.
     fn places(&self) -> &[Option<Piece>]
-        requires { IfSome self.now.form (λ form. form.count ≤ 22) }
+        requires { IfSome self.now.form (λ form. form.count ≤ FRAGMENTS_MAX) }
         ensures value { result.now ≡ places_in self.now }
-        ensures few { length result.now ≤ 22 }
+        ensures few { length result.now ≤ FRAGMENTS_MAX }
     {
         match self.form {
             Some(form) => &self.pieces[..usize::from(form.count)],
@@ -151,7 +152,7 @@ impl HandlerState {
 
     /// The target's image; None exactly if there is no target, or a fragment of it is missing.
     pub(crate) fn collected(&self) -> Option<Image>
-        requires { IfSome self.now.form (λ form. form.count ≤ 22) }
+        requires { IfSome self.now.form (λ form. form.count ≤ FRAGMENTS_MAX) }
         ensures { result ≡ image_held self.now }
     {
         joined(self.places())
@@ -159,7 +160,7 @@ impl HandlerState {
 
     /// The target if all its fragments are collected, else 0.
     pub(crate) fn complete_version(&self) -> u32
-        requires { IfSome self.now.form (λ form. form.count ≤ 22) }
+        requires { IfSome self.now.form (λ form. form.count ≤ FRAGMENTS_MAX) }
         ensures { result ≡ complete_in self.now }
     {
         if is_whole(self.places()) {
@@ -171,7 +172,7 @@ impl HandlerState {
 
     /// The request for the target's fragments that are missing.
     pub(crate) fn ask(&self, handler: HandlerId) -> Packet
-        requires { IfSome self.now.form (λ form. form.count ≤ 22) }
+        requires { IfSome self.now.form (λ form. form.count ≤ FRAGMENTS_MAX) }
         ensures { result ≡ ask_in handler self.now }
     {
         Packet::Status {
@@ -202,8 +203,8 @@ impl HandlerState {
 }
 
 // Marks the places below the count that a bit of `missing` names.
-fn mark(marks: &mut [bool; 22], count: u8, missing: u32)
-    requires { count ≤ 22 }
+fn mark(marks: &mut [bool; FRAGMENTS_MAX], count: u8, missing: u32)
+    requires { count ≤ FRAGMENTS_MAX }
     ensures { marks.new ≡ marked count missing marks.old }
 {
     for index in 0..usize::from(count) {

@@ -1,6 +1,7 @@
 //! The states of all handlers, in order.
 
 ghost use Rattle.std.specs.Prelude.{◌≡◌, ◌*◌, ◌<◌, ◌≤◌, [], length, map, slice_set, IfSome, IsTrue, find};
+ghost use Rattle.mate_num.specs.declared.bounds.TheConstants.{FRAGMENTS_MAX};
 ghost use Rattle.capsule_exchange.specs.Happenings.{next_place, slots_from};
 ghost use Rattle.capsule_exchange.specs.Sound.{AreSound};
 ghost use Rattle.capsule_exchange.specs.Steps.{state_at, hears_status, hears_fragment, after_sending, installs, forgets, aimed_each, asks_upto, is_marked_in, next_in};
@@ -8,7 +9,7 @@ ghost use Rattle.capsule_exchange.specs.Steps.{state_at, hears_status, hears_fra
 use crate::handler_state::{Form, HandlerState};
 use arrayvec::ArrayVec;
 use capsule_codec::Piece;
-use mate_num::{HandlerId, Image};
+use mate_num::{FRAGMENTS_MAX, HandlerId, Image};
 use packet_codec::Packet;
 
 /// The versions that are held.
@@ -63,7 +64,7 @@ pub(crate) fn forget_each(states: &mut [HandlerState])
 pub(crate) fn next_slot(states: &[HandlerState], last: Option<u8>) -> Option<usize>
     requires { length states.now ≤ 8 }
     ensures value { result ≡ next_in states.now last }
-    ensures marked { IfSome result (λ slot. (slot < 22 * length states.now) × IsTrue (is_marked_in states.now slot)) }
+    ensures marked { IfSome result (λ slot. (slot < FRAGMENTS_MAX * length states.now) × IsTrue (is_marked_in states.now slot)) }
 {
     match first_marked(states, place_after(last)) {
         Some(slot) => Some(slot),
@@ -85,10 +86,10 @@ fn place_after(last: Option<u8>) -> usize
 pub(crate) fn first_marked(states: &[HandlerState], first: usize) -> Option<usize>
     requires { length states.now ≤ 8 }
     ensures value { result ≡ find (is_marked_in states.now) (slots_from (length states.now) first) }
-    ensures marked { IfSome result (λ slot. (slot < 22 * length states.now) × IsTrue (is_marked_in states.now slot)) }
+    ensures marked { IfSome result (λ slot. (slot < FRAGMENTS_MAX * length states.now) × IsTrue (is_marked_in states.now slot)) }
 {
-    for slot in first..22 * states.len() {
-        if states[slot / 22].marks[slot % 22] {
+    for slot in first..FRAGMENTS_MAX * states.len() {
+        if states[slot / FRAGMENTS_MAX].marks[slot % FRAGMENTS_MAX] {
             return Some(slot);
         }
     }

@@ -2,12 +2,12 @@
 
 ghost use Rattle.std.specs.Prelude.{◌≡◌, ◌+◌, ◌≤◌, ◌++◌, length, false, is_some};
 ghost use Rattle.std.specs.List.{flat_map, list_all};
-ghost use Rattle.mate_num.specs.declared.bounds.TheConstants.{IMAGE_MAX};
+ghost use Rattle.mate_num.specs.declared.bounds.TheConstants.{FRAGMENTS_MAX, IMAGE_MAX};
 ghost use Rattle.capsule_exchange.specs.Table.{table};
 ghost use Rattle.capsule_exchange.specs.Happenings.{gaps, mask_of, whole, piece_bytes};
 
 use capsule_codec::Piece;
-use mate_num::Image;
+use mate_num::{FRAGMENTS_MAX, Image};
 
 /// A copy of the bytes.
 pub(crate) fn copy_of(piece: &Piece) -> Piece
@@ -20,22 +20,22 @@ pub(crate) fn copy_of(piece: &Piece) -> Piece
 }
 
 /// No piece at any index.
-pub(crate) fn no_pieces() -> [Option<Piece>; 22]
+pub(crate) fn no_pieces() -> [Option<Piece>; FRAGMENTS_MAX]
     ensures { result ≡ table (λ _. None) }
 {
     Default::default()
 }
 
 /// No mark at any index.
-pub(crate) fn no_marks() -> [bool; 22]
+pub(crate) fn no_marks() -> [bool; FRAGMENTS_MAX]
     ensures { result ≡ table (λ _. false) }
 {
-    [false; 22]
+    [false; FRAGMENTS_MAX]
 }
 
 /// Bit i for each index i with no piece.
 pub(crate) fn missing_mask(places: &[Option<Piece>]) -> u32
-    requires { length places.now ≤ 22 }
+    requires { length places.now ≤ FRAGMENTS_MAX }
     ensures { result ≡ mask_of (gaps places.now) }
 {
     let mut mask = 0;
@@ -49,7 +49,7 @@ pub(crate) fn missing_mask(places: &[Option<Piece>]) -> u32
 
 /// The pieces put together; None exactly if one is missing.
 pub(crate) fn joined(places: &[Option<Piece>]) -> Option<Image>
-    requires { length places.now ≤ 22 }
+    requires { length places.now ≤ FRAGMENTS_MAX }
     ensures { result ≡ whole places.now }
 {
     if is_whole(places) {
@@ -68,7 +68,7 @@ pub(crate) fn is_whole(places: &[Option<Piece>]) -> bool
 
 // The bytes of the pieces, in order.
 fn bytes_in(places: &[Option<Piece>]) -> Image
-    requires { length places.now ≤ 22 }
+    requires { length places.now ≤ FRAGMENTS_MAX }
     ensures { result.items ≡ flat_map piece_bytes places.now }
 {
     let mut image = Image::new();

@@ -56,17 +56,14 @@ token k from to = record { kind = k; from = from; to = to }
 
 -- a byte that begins no token; a literal over 65535
 pub data CutFault : Type 0 where
-  bad_byte : ℕ → CutFault
-  big_literal : ℕ → CutFault
+  bad_byte big_literal : ℕ → CutFault
 
 -- what a byte is in: nothing yet, a comment, a name or keyword so far, a literal so far, or after `<` or `>`
 pub data Mode : Type 0 where
-  between : Mode
-  comment : Mode
+  between comment : Mode
   word : (from : ℕ) (text : List ℕ) → Mode
   literal : (from value : ℕ) → Mode
-  less : (from : ℕ) → Mode
-  greater : (from : ℕ) → Mode
+  less greater : (from : ℕ) → Mode
 
 -- what a byte does: a fault, or the tokens that end before or with it, and what the next byte is in
 pub data CutStep : Type 0 where

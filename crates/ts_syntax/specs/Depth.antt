@@ -6,11 +6,7 @@ use Rattle.ts_syntax.specs.declared.token.TokenKind.TheVariants as kind
 
 -- what a token does to the depth: it opens a block; it closes one; it ends a part of a statement; or it counts
 pub data Role : Type 0 where
-  opener : Role
-  closer : Role
-  breaker : Role
-  counter : Role
-  bystander : Role
+  opener closer breaker counter bystander : Role
 
 abbrev pub role : TokenKind → Role
 role kind.If = opener

@@ -11,14 +11,7 @@ use Rattle.ts_syntax.specs.Tree.{Tree, item, message_item, call, negative, inver
 
 -- the levels of expressions, from the loosest
 pub data Level : Type 0 where
-  at_or : Level
-  at_and : Level
-  at_not : Level
-  at_compare : Level
-  at_sum : Level
-  at_product : Level
-  at_sign : Level
-  at_atom : Level
+  at_or at_and at_not at_compare at_sum at_product at_sign at_atom : Level
 
 abbrev pub rank : Level → ℕ
 rank at_or = 0

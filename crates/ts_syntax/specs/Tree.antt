@@ -15,8 +15,7 @@ mutual
     message_item : Tree → Tree
     message_size : Tree
     call : Word → Trees → Tree
-    negative : Tree → Tree
-    inverse : Tree → Tree
+    negative inverse : Tree → Tree
     two : BinOp → Tree → Tree → Tree
     paren : Tree → Tree
 
