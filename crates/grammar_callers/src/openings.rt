@@ -3,10 +3,10 @@
 ghost use Rattle.std.specs.Prelude.{◌≡◌, [], ◌∷◌, None, MatchOption, codes};
 ghost use Rattle.ts_syntax.specs.Cut.{token};
 ghost use Rattle.ts_syntax.specs.declared.token.TokenKind.TheVariants as kind;
-ghost use Rattle.ts_blocks.specs.declared.opening.Opening.TheVariants as opening;
+ghost use Rattle.ts_statements.specs.declared.opening.Opening.TheVariants as opening;
 ghost use Rattle.grammar_callers.specs.Sources.{x_at};
 
-use ts_blocks::opening::{Opening, after_opening};
+use ts_statements::opening::{Opening, after_opening};
 use ts_syntax::{Dialect, Token};
 
 pub fn a_name_stands_where_it_begins(tokens: &[Token]) -> Option<(Opening, &[Token])>

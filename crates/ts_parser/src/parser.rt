@@ -13,7 +13,7 @@ use crate::depth::first_deep;
 use crate::fault::SourceFault;
 use crate::procs::procedures_in;
 use std::alloc::Global;
-use ts_blocks::block;
+use ts_statements::block;
 use ts_syntax::{Dialect, Halt, ProcScript, Script, Token, Tokens};
 
 /// The script that the tokens of a source spell; `len` is the source's length in bytes.

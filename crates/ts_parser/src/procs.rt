@@ -10,7 +10,7 @@ ghost use Rattle.ts_syntax.specs.Tree.{Procedure, no_acts};
 ghost use Rattle.ts_syntax.specs.declared.script.Decl.{Decl};
 
 use std::alloc::Global;
-use ts_blocks::block;
+use ts_statements::block;
 use ts_syntax::expect::{after, ended, name};
 use ts_syntax::{Block, Dialect, Halt, Proc, Procs, Token, TokenKind, Words};
 

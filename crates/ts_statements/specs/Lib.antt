@@ -1,1 +1,3 @@
 pub mod Simple
+pub mod Ending
+pub mod Blocks

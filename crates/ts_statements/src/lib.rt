@@ -1,8 +1,12 @@
-//! TinyScript's statements that hold no block, and the head of a `for`.
+//! TinyScript's statements and blocks, by recursive descent.
 #![tactic(auto)]
 
+pub mod ending;
 pub mod head;
+pub mod opening;
 pub mod simple;
+pub mod stmt;
 
 pub use head::for_head;
 pub use simple::{behind_name, clearing, running};
+pub use stmt::block;

@@ -5,7 +5,7 @@ use Rattle.ts_syntax.specs.declared.procedure.Proc.{Proc}
 use Rattle.ts_syntax.specs.Seen.{acts_of, procedure_of}
 use Rattle.ts_syntax.specs.Tree.{no_acts}
 use Rattle.ts_syntax.specs.Machine.{block, decls}
-use Rattle.ts_blocks.specs.Blocks.{FrameIn}
+use Rattle.ts_statements.specs.Blocks.{FrameIn}
 use Rattle.ts_parser.specs.Scripts.{script_frame}
 use Rattle.ts_parser.proofs.ScriptLemmas.{script_halts, body_frame, script_read, script_left}
 use Rattle.ts_parser.proofs.ParseLemmas.{some_left, none_left}

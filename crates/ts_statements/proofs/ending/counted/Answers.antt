@@ -1,7 +1,7 @@
 use Rattle.std.proofs.Common.{sym, subst}
-use Rattle.ts_blocks.specs.Ending.{ReadBlock, Counted}
-use Rattle.ts_blocks.proofs.EndingLemmas.{next_missing, last_missing}
-use Rattle.ts_blocks.proofs.ending.counted.Goals as goal
+use Rattle.ts_statements.specs.Ending.{ReadBlock, Counted}
+use Rattle.ts_statements.proofs.EndingLemmas.{next_missing, last_missing}
+use Rattle.ts_statements.proofs.ending.counted.Goals as goal
 
 pub returns-in_err-rest : goal.returns-in_err-rest
 returns-in_err-rest c =

@@ -9,17 +9,17 @@ use Rattle.ts_syntax.specs.Tree.{Acts, no_acts, if_then}
 use Rattle.ts_syntax.proofs.SeenLemmas.{act_if_then, act_if_else, act_for_next, act_while_do}
 use Rattle.ts_syntax.specs.Machine.{Frame, Whole, have, stmt_named, cleared, do_word, in_if, in_while, block, for_word, expr_due, with_act}
 use Rattle.ts_syntax.specs.Parsing.{reads}
-use Rattle.ts_blocks.specs.Blocks.{opened_by, FrameIn, ReadsStmtIn, Choice, if_made, then_block, choice_made, Branch, branch_due, Repetition, repeated_block, repetition_made, Count, counted_block, count_made}
+use Rattle.ts_statements.specs.Blocks.{opened_by, FrameIn, ReadsStmtIn, Choice, if_made, then_block, choice_made, Branch, branch_due, Repetition, repeated_block, repetition_made, Count, counted_block, count_made}
 use Rattle.ts_statements.specs.Simple.{head_read}
 use Rattle.ts_expressions.proofs.ShorterLemmas.{untold, no_longer, lower, lowest, fewer}
-use Rattle.ts_blocks.proofs.DialectLemmas.{stmt_halts_in, narrowed, no_more, forgotten}
+use Rattle.ts_statements.proofs.DialectLemmas.{stmt_halts_in, narrowed, no_more, forgotten}
 use Rattle.ts_statements.proofs.Halting.{token_misses}
 use Rattle.ts_syntax.proofs.Parts.{halts, starts_shorter}
-use Rattle.ts_blocks.proofs.OpeningLemmas.{stmt_opens, opens_shorter, acts_of_push, then_read, then_left, body_due}
+use Rattle.ts_statements.proofs.OpeningLemmas.{stmt_opens, opens_shorter, acts_of_push, then_read, then_left, body_due}
 use Rattle.ts_syntax.specs.declared.token.TokenKind.TheVariants as kind
-use Rattle.ts_blocks.proofs.BlockLemmas.{then_in, else_in, else_begins, then_end, if_named}
-use Rattle.ts_blocks.proofs.EndingLemmas.{repeated_reads, else_reads, counted_reads, ended_shorter, counted_shorter, branch_stuck}
-use Rattle.ts_blocks.proofs.stmt.+stmt.Goals as goal
+use Rattle.ts_statements.proofs.BlockLemmas.{then_in, else_in, else_begins, then_end, if_named}
+use Rattle.ts_statements.proofs.EndingLemmas.{repeated_reads, else_reads, counted_reads, ended_shorter, counted_shorter, branch_stuck}
+use Rattle.ts_statements.proofs.stmt.+stmt.Goals as goal
 
 pub block-returns-in_err-stmt-clause-reads : goal.block-returns-in_err-stmt-clause-reads
 block-returns-in_err-stmt-clause-reads t c =

@@ -11,11 +11,11 @@ use Rattle.ts_syntax.specs.Tree.{Tree, Act, Acts, no_acts, while_do, if_then, if
 use Rattle.ts_syntax.specs.Code.{kind_code}
 use Rattle.ts_syntax.specs.Machine.{Frame, then_part, else_part, for_part, while_part, State, block, nexted, if_ended, while_ended, with_act, word, step_if, step_while}
 use Rattle.ts_syntax.specs.Parsing.{reads, Starts, Lacks, StartsName, LacksName}
-use Rattle.ts_blocks.specs.Blocks.{FrameIn, LacksStmt, Choice, Branch, Repetition, Count}
+use Rattle.ts_statements.specs.Blocks.{FrameIn, LacksStmt, Choice, Branch, Repetition, Count}
 use Rattle.ts_syntax.proofs.Missing.{lacks_name, only_name}
 use Rattle.ts_syntax.proofs.Reading.{sign_read, name_read, stops}
 use Rattle.ts_statements.proofs.SimpleLemmas.{sign_stops}
-use Rattle.ts_blocks.proofs.OpeningLemmas.{block_stops, while_ends, else_ends, for_ends}
+use Rattle.ts_statements.proofs.OpeningLemmas.{block_stops, while_ends, else_ends, for_ends}
 
 -- ---- the frames of inner blocks
 

@@ -1,8 +1,8 @@
 -- A block with what ends it is read as the statement that it ends.
 use Rattle.std.proofs.Common.{◌≡◌, ◌≤◌, length, List, Some, Result, Ok, Err, Bor, IfOk, refl, sym, ◌∙◌, ap, subst, le_trans}
 use Rattle.std.specs.Result.{IsErrAnd}
-use Rattle.ts_blocks.specs.Blocks.{FrameIn, LacksStmt, Branch, branch_due, choice_made, Repetition, repeated_block, repetition_made, Count, counted_block, count_made}
-use Rattle.ts_blocks.specs.Ending.{ReadBlock, StartsEnd, LacksEnd, no_end, no_name, TakesEnd, ClosedBlock, LacksNext, no_next, no_last, Counted}
+use Rattle.ts_statements.specs.Blocks.{FrameIn, LacksStmt, Branch, branch_due, choice_made, Repetition, repeated_block, repetition_made, Count, counted_block, count_made}
+use Rattle.ts_statements.specs.Ending.{ReadBlock, StartsEnd, LacksEnd, no_end, no_name, TakesEnd, ClosedBlock, LacksNext, no_next, no_last, Counted}
 use Rattle.ts_syntax.specs.declared.halt.Halt.{Halt}
 use Rattle.ts_syntax.specs.declared.halt.Halt.TheVariants as halt
 use Rattle.ts_syntax.specs.Machine.{else_part, State, block, with_act}
@@ -17,9 +17,9 @@ use Rattle.ts_syntax.specs.declared.word.Word.{Word}
 use Rattle.ts_syntax.specs.Seen.{acts_of}
 use Rattle.ts_syntax.specs.Spelling.{kinds}
 use Rattle.ts_syntax.specs.Tree.{Acts, no_acts, if_then, if_else}
-use Rattle.ts_blocks.proofs.BlockLemmas.{else_in, while_in, for_in, while_open, while_end, while_named, while_left, for_open, for_left, for_next_read, else_open, else_end, then_end, if_named, if_left}
-use Rattle.ts_blocks.proofs.OpeningLemmas.{branch_stops}
-use Rattle.ts_blocks.proofs.DialectLemmas.{no_more, no_more_named}
+use Rattle.ts_statements.proofs.BlockLemmas.{else_in, while_in, for_in, while_open, while_end, while_named, while_left, for_open, for_left, for_next_read, else_open, else_end, then_end, if_named, if_left}
+use Rattle.ts_statements.proofs.OpeningLemmas.{branch_stops}
+use Rattle.ts_statements.proofs.DialectLemmas.{no_more, no_more_named}
 
 -- ---- what is taken behind a block
 

@@ -3,15 +3,15 @@
 ghost use Rattle.std.specs.Prelude.{◌≤◌, ◌<◌, length, IfOk};
 ghost use Rattle.ts_syntax.specs.Machine.{block, for_word, expr_due, in_if, in_while};
 ghost use Rattle.ts_syntax.specs.Parsing.{Reads};
-ghost use Rattle.ts_blocks.specs.Blocks.{ReadsStmtIn, FrameIn, LacksStmt, opened_by, Choice, then_block, choice_made, Branch, branch_due};
+ghost use Rattle.ts_statements.specs.Blocks.{ReadsStmtIn, FrameIn, LacksStmt, opened_by, Choice, then_block, choice_made, Branch, branch_due};
 ghost use Rattle.ts_syntax.specs.Seen.{acts_of};
 ghost use Rattle.ts_syntax.specs.Tree.{no_acts};
 
 use crate::ending::{closed_block, counted, end_of};
 use crate::opening::{Opening, after_opening};
+use crate::{behind_name, clearing, for_head, running};
 use std::alloc::Global;
 use ts_expressions::expr;
-use ts_statements::{behind_name, clearing, for_head, running};
 use ts_syntax::expect::{after, expect};
 use ts_syntax::{Block, Dialect, Halt, Stmt, Token, TokenKind, Word};
 

@@ -12,10 +12,10 @@ use Rattle.ts_syntax.specs.declared.token.TokenKind.TheVariants as kind
 use Rattle.ts_syntax.specs.Seen.{act_of, acts, acts_of}
 use Rattle.ts_syntax.specs.Spelling.{kinds, note}
 use Rattle.ts_syntax.specs.Tree.{Tree, Act, Acts, no_acts, act_then}
-use Rattle.ts_blocks.specs.declared.opening.Opening.{Opening}
+use Rattle.ts_statements.specs.declared.opening.Opening.{Opening}
 use Rattle.ts_syntax.specs.Machine.{Frame, top, then_part, while_part, in_if, in_while, have, block, with_act, step, step_frame, finish, going, run, main, proc_part, else_part, for_part, dialect_of, step_do}
 use Rattle.ts_syntax.specs.Parsing.{noted_then, reads, Starts, Lacks}
-use Rattle.ts_blocks.specs.Blocks.{opening_of, opened_by, StartsStmt, LacksStmt, do_opening, FrameIn}
+use Rattle.ts_statements.specs.Blocks.{opening_of, opened_by, StartsStmt, LacksStmt, do_opening, FrameIn}
 use Rattle.ts_syntax.proofs.Reading.{sign_read, stops, agree}
 use Rattle.ts_syntax.proofs.Missing.{IsOther, lacks_first}
 

@@ -1,7 +1,7 @@
 //! How a statement begins.
 
 ghost use Rattle.std.specs.Prelude.{◌≡◌};
-ghost use Rattle.ts_blocks.specs.Blocks.{FindsStmt, opening_of, do_opening};
+ghost use Rattle.ts_statements.specs.Blocks.{FindsStmt, opening_of, do_opening};
 
 use ts_syntax::{Dialect, Token, TokenKind, Word};
 

@@ -1,7 +1,7 @@
 use Rattle.std.proofs.Common.{sym, subst}
-use Rattle.ts_blocks.specs.Ending.{ReadBlock, ClosedBlock}
-use Rattle.ts_blocks.proofs.EndingLemmas.{ended_missing}
-use Rattle.ts_blocks.proofs.ending.closed_block.Goals as goal
+use Rattle.ts_statements.specs.Ending.{ReadBlock, ClosedBlock}
+use Rattle.ts_statements.proofs.EndingLemmas.{ended_missing}
+use Rattle.ts_statements.proofs.ending.closed_block.Goals as goal
 
 pub returns-in_err-rest : goal.returns-in_err-rest
 returns-in_err-rest c =

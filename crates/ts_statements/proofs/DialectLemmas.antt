@@ -13,7 +13,7 @@ use Rattle.ts_syntax.specs.declared.halt.Halt.TheVariants as halt
 use Rattle.ts_syntax.specs.Machine.{Frame, State, block, with_act}
 use Rattle.ts_syntax.specs.Parsing.{reads, Reads, Starts, StartsName}
 use Rattle.ts_statements.specs.Simple.{ReadsStmt}
-use Rattle.ts_blocks.specs.Blocks.{ReadsStmtIn, FrameIn}
+use Rattle.ts_statements.specs.Blocks.{ReadsStmtIn, FrameIn}
 use Rattle.ts_syntax.proofs.Parts.{halts, starts_shorter}
 
 -- a part of a statement stops

@@ -1,6 +1,6 @@
 //! How a block ends.
 
-ghost use Rattle.ts_blocks.specs.Ending.{TakesEnd, ClosedBlock, Counted};
+ghost use Rattle.ts_statements.specs.Ending.{TakesEnd, ClosedBlock, Counted};
 
 use ts_syntax::expect::{expect, name};
 use ts_syntax::{Block, Halt, Token, TokenKind, Word};

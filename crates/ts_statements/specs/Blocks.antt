@@ -12,8 +12,8 @@ use Rattle.ts_syntax.specs.declared.token.TokenKind.TheVariants as kind
 use Rattle.ts_syntax.specs.Seen.{act_of, acts_of}
 use Rattle.ts_syntax.specs.Tree.{Tree, Act, if_then, if_else, for_next, while_do, Acts, no_acts}
 use Rattle.ts_syntax.specs.declared.halt.Halt.{Halt}
-use Rattle.ts_blocks.specs.declared.opening.Opening.{Opening}
-use Rattle.ts_blocks.specs.declared.opening.Opening.TheVariants as opening
+use Rattle.ts_statements.specs.declared.opening.Opening.{Opening}
+use Rattle.ts_statements.specs.declared.opening.Opening.TheVariants as opening
 use Rattle.ts_syntax.specs.Machine.{Frame, dialect_of, then_part, for_part, while_part, in_if, in_while, State, block, stmt_named, cleared, for_word, do_word, word, expr_due, with_act}
 use Rattle.ts_syntax.specs.Parsing.{Reads}
 

@@ -1,4 +1,0 @@
-pub mod BlockLemmas
-pub mod DialectLemmas
-pub mod EndingLemmas
-pub mod OpeningLemmas
