@@ -7,7 +7,7 @@ use mate_steps::{SourceRefusal, accept};
 use std::alloc::{AllocError, Global};
 use ts_checked::Checked;
 use ts_parser::SourceFault;
-use ts_scope::CheckFault;
+use ts_checker::CheckFault;
 use vm_desc::Description;
 
 /// The checked tree of a source, or its first refusal.
