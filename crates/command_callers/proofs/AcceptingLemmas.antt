@@ -10,8 +10,8 @@ use Rattle.ts_syntax.specs.declared.token.Token.{Token}
 use Rattle.ts_parser.specs.Verdict.{Verdict, spelled, unexpected, too_deep, IsSo}
 use Rattle.ts_parser.specs.declared.fault.SourceFault.{SourceFault}
 use Rattle.ts_parser.specs.declared.fault.SourceFault.TheVariants as fault
-use Rattle.ts_scope.specs.declared.fault.CheckFault.{CheckFault}
-use Rattle.ts_scope.specs.declared.fault.CheckFault.TheVariants as check
+use Rattle.ts_checker.specs.declared.fault.CheckFault.{CheckFault}
+use Rattle.ts_checker.specs.declared.fault.CheckFault.TheVariants as check
 use Rattle.mate_steps.specs.Answers.{TellsAcceptance, IsUnmeant}
 use Rattle.mate_steps.specs.declared.refusal.SourceRefusal.{SourceRefusal}
 use Rattle.mate_steps.specs.declared.refusal.SourceRefusal.TheVariants.{Spelling, Meaning}

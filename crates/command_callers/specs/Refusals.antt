@@ -3,7 +3,7 @@ use Rattle.std.specs.Prelude.{◌≡◌, ◌⊎◌}
 use Rattle.mate_steps.specs.declared.refusal.SourceRefusal.{SourceRefusal}
 use Rattle.mate_steps.specs.declared.refusal.SourceRefusal.TheVariants.{Spelling, Meaning}
 use Rattle.ts_parser.specs.declared.fault.SourceFault.TheVariants as spelling
-use Rattle.ts_scope.specs.declared.fault.CheckFault.TheVariants as meaning
+use Rattle.ts_checker.specs.declared.fault.CheckFault.TheVariants as meaning
 
 abbrev pub IsForMemory : SourceRefusal → Type 0
 IsForMemory r = (r ≡ Spelling spelling.NoMemory) ⊎ (r ≡ Meaning meaning.NoMemory)

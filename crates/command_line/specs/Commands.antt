@@ -88,19 +88,28 @@ abbrev pub audit_task : Bool → List (List ℕ) → Option Task
 audit_task fold (machine ∷ script ∷ report ∷ []) = Some (Audit fold machine script report)
 audit_task fold words = None
 
+-- the task of a command that takes no flag, with the words that go to it
+abbrev pub unflagged_task : List ℕ → List (List ℕ) → Option Task
+unflagged_task command args =
+    if bytes_eq command (codes "table") then table_task args else
+    if bytes_eq command (codes "check") then check_task args else
+    if bytes_eq command (codes "expand") then expand_task args else
+    if bytes_eq command (codes "feed") then feed_task args else None
+
+-- the task of a command that runs no nodes, with its flags and the words that go to it
+abbrev pub runless_task : List ℕ → Bool → Bool → List (List ℕ) → Option Task
+runless_task command fold brief args =
+    if bytes_eq command (codes "compile") && not brief then compile_task fold args else
+    if bytes_eq command (codes "audit") && not brief then audit_task fold args else
+    if brief || fold then None else unflagged_task command args
+
 -- the task of a line; `node`, `sim` and `gen` take both flags, `compile` and `audit` take `--fold`, and no other command takes a flag
 abbrev pub task_of : Line → Option Task
 task_of l =
     if bytes_eq l.command (codes "node") then node_task l.fold l.brief l.args else
     if bytes_eq l.command (codes "sim") then sim_task l.fold l.brief l.args else
     if bytes_eq l.command (codes "gen") then gen_task l.fold l.brief l.args else
-    if bytes_eq l.command (codes "compile") && not l.brief then compile_task l.fold l.args else
-    if bytes_eq l.command (codes "audit") && not l.brief then audit_task l.fold l.args else
-    if l.brief || l.fold then None else
-    if bytes_eq l.command (codes "table") then table_task l.args else
-    if bytes_eq l.command (codes "check") then check_task l.args else
-    if bytes_eq l.command (codes "expand") then expand_task l.args else
-    if bytes_eq l.command (codes "feed") then feed_task l.args else None
+    runless_task l.command l.fold l.brief l.args
 
 -- the words say the task
 pub record Says (words : List (List ℕ)) (task : Task) : Type 0 where

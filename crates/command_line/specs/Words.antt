@@ -1,8 +1,9 @@
 -- The words of a command line, as clap's rule for simple commands reads them.
 use Rattle.std.specs.Prelude.{◌≡◌, Bool, true, false, map, find, option_and_then, List, [], codes, Option, None, Some, Result, Ok, Err, unwrap_or}
-use Rattle.clap.specs.Words.{App, Row, Rule, Text, all_of, first_of, fault_of, matches_of, new_app, new_rule, with_rule}
+use Rattle.clap.specs.Words.{App, HasMatchesOf, Row, Rule, Text, all_of, fault_of, first_of, first_value, found_of, matches_of, new_app, new_rule, rows_of, with_rule}
 use Rattle.std.specs.Str.{bytes_eq}
 use Rattle.clap.specs.Lexer.{usize_max}
+use Rattle.clap.specs.declared.parser.matches.ArgMatches.{ArgMatches}
 use Rattle.clap.specs.declared.parser.matches.ValueSource.{ValueSource}
 use Rattle.clap.specs.declared.parser.matches.ValueSource.TheVariants.{CommandLine as FromWords, DefaultValue}
 use Rattle.clap.specs.declared.error.kind.ErrorKind.{ErrorKind}
@@ -29,9 +30,13 @@ other_words =
 abbrev pub bare_app : App
 bare_app = record { top = record ((new_app (codes "mate")).top) { no_binary_name = true }; subs = [] }
 
+-- a command with the two flags
+abbrev pub flagged_app : App
+flagged_app = with_rule (with_rule bare_app (flag (codes "brief"))) (flag (codes "fold"))
+
 -- the one command: two flags, a required word, and any number of words
 abbrev pub mate_command : App
-mate_command = with_rule (with_rule (with_rule (with_rule bare_app (flag (codes "brief"))) (flag (codes "fold"))) command_word) other_words
+mate_command = with_rule (with_rule flagged_app command_word) other_words
 
 -- the rule takes the words: no error may come
 abbrev pub AreTaken : List Text → Type 0
@@ -80,3 +85,27 @@ ReadsLine words (Ok line) =
     IsLine words (record { brief = line.brief; fold = line.fold; command = line.command.now; args = map (λ w. w.now) line.args.items })
 ReadsLine words (Err NotTaken) = HasNoLine words
 ReadsLine words (Err NoMemory) = Unit {0}
+
+-- the words are taken, and these are their matches
+pub record AreMatches (words : List Text) (m : ArgMatches) : Type 0 where
+  pub taken : AreTaken words
+  pub found : HasMatchesOf mate_command words m
+
+-- matches are found in words that are taken; other words are no line's
+abbrev pub FindsMatches : List Text → Result ArgMatches WordsFault → Type 0
+FindsMatches words (Ok m) = AreMatches words m
+FindsMatches words (Err NotTaken) = HasNoLine words
+FindsMatches words (Err NoMemory) = Unit {0}
+
+-- the line says what the matches say
+pub record IsLineOf (m : ArgMatches) (line : CommandLine) : Type 0 where
+  pub brief : line.brief ≡ is_given (codes "brief") (rows_of (found_of m))
+  pub fold : line.fold ≡ is_given (codes "fold") (rows_of (found_of m))
+  pub command : first_value (found_of m) (codes "command") ≡ Some line.command.now
+  pub args : map (λ w. w.now) line.args.items ≡ unwrap_or (all_of (codes "args") (rows_of (found_of m))) []
+
+-- a line is made exactly if a command is among the matches
+abbrev pub FindsLine : ArgMatches → Result CommandLine WordsFault → Type 0
+FindsLine m (Ok line) = IsLineOf m line
+FindsLine m (Err NotTaken) = first_value (found_of m) (codes "command") ≡ None
+FindsLine m (Err NoMemory) = Unit {0}

@@ -3,7 +3,7 @@
 ghost use Rattle.std.specs.Prelude.{◌≡◌, ◌≤◌, map, option_map, IfSome};
 ghost use Rattle.std.specs.Char.{is_ascii_digit};
 ghost use Rattle.std.specs.List.{list_all};
-ghost use Rattle.command_line.specs.Commands.{task_held, line_said, task_of, node_task, sim_task, gen_task, table_task, compile_task, check_task, expand_task, feed_task, audit_task, version_said, number_said, is_counting};
+ghost use Rattle.command_line.specs.Commands.{task_held, line_said, task_of, node_task, sim_task, gen_task, table_task, compile_task, check_task, expand_task, feed_task, audit_task, runless_task, unflagged_task, version_said, number_said, is_counting};
 
 use crate::CommandLine;
 use crate::audit::Audit;
@@ -38,35 +38,50 @@ pub enum Command<'a> {
 pub fn command_of<'a>(line: &CommandLine<'a>) -> Option<Command<'a>>
     ensures { option_map task_held result ≡ task_of (line_said line.now) }
 {
+    let args = line.args.as_slice();
     if line.command == "node" {
-        return node(line.args.as_slice(), line.fold, line.brief);
+        return node(args, line.fold, line.brief);
     }
     if line.command == "sim" {
-        return sim(line.args.as_slice(), line.fold, line.brief);
+        return sim(args, line.fold, line.brief);
     }
     if line.command == "gen" {
-        return made(line.args.as_slice(), line.fold, line.brief);
+        return made(args, line.fold, line.brief);
     }
-    if line.command == "compile" && !line.brief {
-        return compile(line.args.as_slice(), line.fold);
+    runless(line.command, args, line.fold, line.brief)
+}
+
+/// The command of a word that runs no nodes.
+fn runless<'a>(command: &str, args: &[&'a str], fold: bool, brief: bool) -> Option<Command<'a>>
+    ensures { option_map task_held result ≡ runless_task command.now fold brief (map (λ w. w.now) args.now) }
+{
+    if command == "compile" && !brief {
+        return compile(args, fold);
     }
-    if line.command == "audit" && !line.brief {
-        return audit(line.args.as_slice(), line.fold);
+    if command == "audit" && !brief {
+        return audit(args, fold);
     }
-    if line.brief || line.fold {
+    if brief || fold {
         return None;
     }
-    if line.command == "table" {
-        return table(line.args.as_slice());
+    unflagged(command, args)
+}
+
+/// The command of a word that takes no flag.
+fn unflagged<'a>(command: &str, args: &[&'a str]) -> Option<Command<'a>>
+    ensures { option_map task_held result ≡ unflagged_task command.now (map (λ w. w.now) args.now) }
+{
+    if command == "table" {
+        return table(args);
     }
-    if line.command == "check" {
-        return check(line.args.as_slice());
+    if command == "check" {
+        return check(args);
     }
-    if line.command == "expand" {
-        return expand(line.args.as_slice());
+    if command == "expand" {
+        return expand(args);
     }
-    if line.command == "feed" {
-        return feed(line.args.as_slice());
+    if command == "feed" {
+        return feed(args);
     }
     None
 }

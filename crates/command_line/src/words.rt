@@ -3,7 +3,7 @@
 ghost use Rattle.std.specs.Prelude.{◌≡◌, false, map, string_bytes, unwrap_or, codes, [], IfOk, IfErr};
 ghost use Rattle.clap.specs.Words.{app_of, found_of, rows_of, rule_of, kind_of, all_of};
 ghost use Rattle.command_line.specs.declared.words.WordsFault.TheVariants.{NoMemory};
-ghost use Rattle.command_line.specs.Words.{ReadsLine, TellsWordsFault, mate_command, flag, command_word, other_words, is_given};
+ghost use Rattle.command_line.specs.Words.{FindsLine, FindsMatches, ReadsLine, TellsWordsFault, mate_command, flagged_app, flag, command_word, other_words, is_given};
 
 use clap::error::ErrorKind;
 use clap::parser::ValueSource;
@@ -47,17 +47,31 @@ impl From<AllocError> for WordsFault {
 pub fn read<'a>(alloc: Global, words: &'a [String]) -> Result<CommandLine<'a>, WordsFault>
     ensures { ReadsLine (map string_bytes words.now) result }
 {
-    let matches = match command(alloc)?.try_get_matches_from(words) {
-        Ok(matches) => matches,
-        Err(error) => return Err(fault_of(&error)),
-    };
+    let matches = matches_of(alloc, words)?;
+    line_in(alloc, &matches)
+}
+
+/// What `clap` finds in the words.
+fn matches_of<'a>(alloc: Global, words: &'a [String]) -> Result<ArgMatches<'a>, WordsFault>
+    ensures { FindsMatches (map string_bytes words.now) result }
+{
+    match command(alloc)?.try_get_matches_from(words) {
+        Ok(matches) => Ok(matches),
+        Err(error) => Err(fault_of(&error)),
+    }
+}
+
+/// The line that the matches make; `NotTaken` if there is no command among them.
+fn line_in<'a>(alloc: Global, matches: &ArgMatches<'a>) -> Result<CommandLine<'a>, WordsFault>
+    ensures { FindsLine matches.now result }
+{
     let Some(command) = matches.get_str("command") else {
         return Err(WordsFault::NotTaken);
     };
-    let args = args_in(alloc, &matches)?;
+    let args = args_in(alloc, matches)?;
     Ok(CommandLine {
-        brief: is_given(&matches, "brief"),
-        fold: is_given(&matches, "fold"),
+        brief: is_given(matches, "brief"),
+        fold: is_given(matches, "fold"),
         command,
         args,
     })
@@ -67,12 +81,19 @@ pub fn read<'a>(alloc: Global, words: &'a [String]) -> Result<CommandLine<'a>, W
 fn command<'a>(alloc: Global) -> Result<Command<'a>, AllocError>
     ensures { IfOk result (λ c. app_of c ≡ mate_command) }
 {
+    flags(alloc)?
+        .arg(command_word(alloc))?
+        .arg(other_words(alloc))
+}
+
+/// A command with the two flags.
+fn flags<'a>(alloc: Global) -> Result<Command<'a>, AllocError>
+    ensures { IfOk result (λ c. app_of c ≡ flagged_app) }
+{
     Command::new(alloc, "mate")
         .no_binary_name(true)
         .arg(flag(alloc, "brief"))?
-        .arg(flag(alloc, "fold"))?
-        .arg(command_word(alloc))?
-        .arg(other_words(alloc))
+        .arg(flag(alloc, "fold"))
 }
 
 fn flag<'a>(alloc: Global, name: &'a str) -> Arg<'a>

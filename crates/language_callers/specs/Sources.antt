@@ -8,8 +8,8 @@ use Rattle.ts_syntax.specs.declared.script.Decl.{Decl}
 use Rattle.ts_syntax.specs.declared.script.DeclKind.TheVariants as kind
 use Rattle.ts_syntax.specs.declared.stmt.Step.{Step}
 use Rattle.ts_syntax.specs.declared.word.Word.{Word}
-use Rattle.ts_scope.specs.declared.scope.Entry.{Entry}
-use Rattle.ts_scope.specs.declared.scope.Symbol.TheVariants.{Variable}
+use Rattle.ts_checker.specs.declared.scope.Entry.{Entry}
+use Rattle.ts_checker.specs.declared.scope.Symbol.TheVariants.{Variable}
 
 -- a name at a place
 abbrev pub word : List ℕ → ℕ → Word

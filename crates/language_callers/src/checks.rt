@@ -5,15 +5,14 @@ ghost use Rattle.ts_checked.specs.Checked.{checked_tree};
 ghost use Rattle.ts_syntax.specs.Seen.{source_seen};
 ghost use Rattle.ts_syntax.specs.Tree.{no_acts, act_then, clear, number};
 ghost use Rattle.ts_checker.specs.Answer.{GivesChecked};
-ghost use Rattle.ts_scope.specs.Names.{names_before};
-ghost use Rattle.ts_scope.specs.Seen.{scope_names};
+ghost use Rattle.ts_checker.specs.Names.{names_before};
+ghost use Rattle.ts_checker.specs.Seen.{scope_names};
 ghost use Rattle.language_callers.specs.Scripts.{with_step};
 ghost use Rattle.language_callers.specs.Sources.{word, actuator, private_entry, nine_privates, calling_f, for_x, f_in_the_limit};
 
 use std::alloc::Global;
 use ts_checked::{CVar, Checked};
-use ts_checker::{CheckFault, check};
-use ts_scope::Scope;
+use ts_checker::{CheckFault, Scope, check};
 use ts_syntax::{Decl, Script, Word};
 use vm_desc::Description;
 

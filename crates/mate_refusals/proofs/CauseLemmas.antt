@@ -4,7 +4,7 @@ use Rattle.vm_desc.specs.declared.fault.DescFault.{DescFault}
 use Rattle.vm_desc.specs.declared.fault.DescFault.TheVariants as desc
 use Rattle.ts_syntax.specs.Cut.{bad_byte, big_literal}
 use Rattle.ts_checker.specs.Accepted.{TextRefusal, by_bytes, unexpected, too_deep, by_check}
-use Rattle.ts_scope.specs.declared.fault.CheckFault.TheVariants as check
+use Rattle.ts_checker.specs.declared.fault.CheckFault.TheVariants as check
 use Rattle.mate_refusals.specs.DescriptionCauses.{fault_told}
 use Rattle.mate_refusals.specs.SourceCauses.{refusal_told}
 use Rattle.mate_refusals.specs.declared.description_cause.DescriptionCause.{DescriptionCause}

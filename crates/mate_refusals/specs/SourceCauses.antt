@@ -3,7 +3,7 @@ use Rattle.std.specs.Prelude.{ℕ, List, codes}
 use Rattle.vm_desc.specs.declared.description.Description.{Description}
 use Rattle.ts_syntax.specs.Cut.{bad_byte, big_literal}
 use Rattle.ts_checker.specs.Accepted.{TextRefusal, IsRefusedBy, by_bytes, unexpected, too_deep, by_check}
-use Rattle.ts_scope.specs.declared.fault.CheckFault.TheVariants as check
+use Rattle.ts_checker.specs.declared.fault.CheckFault.TheVariants as check
 use Rattle.ts_compiler.specs.declared.fault.CompileFault.{CompileFault}
 use Rattle.ts_compiler.specs.declared.fault.CompileFault.TheVariants.{StackDepth, TooLong}
 use Rattle.mate_refusals.specs.LineEnds.{number_line, name_line, numbered_name_line}

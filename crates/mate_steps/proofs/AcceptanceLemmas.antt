@@ -9,8 +9,8 @@ use Rattle.ts_parser.specs.Verdict as verdict
 use Rattle.ts_parser.proofs.VerdictLemmas.{one_verdict, some_verdict}
 use Rattle.ts_checker.specs.Accepted.{IsAccepted, IsRefusedBy, TextRefusal, by_bytes, unexpected, too_deep, by_check}
 use Rattle.ts_checker.specs.Checks.{checked_source}
-use Rattle.ts_scope.specs.declared.fault.CheckFault.{CheckFault}
-use Rattle.ts_scope.specs.declared.fault.CheckFault.TheVariants.{NoMemory}
+use Rattle.ts_checker.specs.declared.fault.CheckFault.{CheckFault}
+use Rattle.ts_checker.specs.declared.fault.CheckFault.TheVariants.{NoMemory}
 use Rattle.ts_checker.proofs.ToldLemmas.{checks_told}
 
 -- the tree is accepted, or the refusal is the first

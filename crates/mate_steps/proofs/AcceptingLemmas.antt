@@ -15,8 +15,8 @@ use Rattle.ts_parser.specs.Reading.{ReadsScript, cuts, fails}
 use Rattle.ts_parser.specs.Verdict.{Answers}
 use Rattle.ts_parser.specs.declared.fault.SourceFault.{SourceFault}
 use Rattle.ts_parser.specs.declared.fault.SourceFault.TheVariants as fault
-use Rattle.ts_scope.specs.declared.fault.CheckFault.{CheckFault}
-use Rattle.ts_scope.specs.declared.fault.CheckFault.TheVariants as check
+use Rattle.ts_checker.specs.declared.fault.CheckFault.{CheckFault}
+use Rattle.ts_checker.specs.declared.fault.CheckFault.TheVariants as check
 use Rattle.ts_checker.specs.Accepted.{IsAccepted}
 use Rattle.ts_checker.specs.Answer.{RefusesScript}
 use Rattle.ts_checker.specs.Checks.{checked_source}

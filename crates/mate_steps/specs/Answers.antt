@@ -7,8 +7,8 @@ use Rattle.ts_checked.specs.declared.checked.Checked.{Checked}
 use Rattle.ts_parser.specs.declared.fault.SourceFault.{SourceFault}
 use Rattle.ts_parser.specs.declared.fault.SourceFault.TheVariants as fault
 use Rattle.ts_checker.specs.Accepted.{IsAccepted, IsRefusedBy, by_bytes, unexpected, too_deep, by_check}
-use Rattle.ts_scope.specs.declared.fault.CheckFault.{CheckFault}
-use Rattle.ts_scope.specs.declared.fault.CheckFault.TheVariants as check
+use Rattle.ts_checker.specs.declared.fault.CheckFault.{CheckFault}
+use Rattle.ts_checker.specs.declared.fault.CheckFault.TheVariants as check
 use Rattle.mate_steps.specs.declared.refusal.SourceRefusal.{SourceRefusal}
 use Rattle.mate_steps.specs.declared.refusal.SourceRefusal.TheVariants.{Spelling, Meaning}
 

@@ -3,7 +3,7 @@
 ghost use Rattle.std.specs.Prelude.{◌≡◌, ◌≢◌, ◌⊎◌, ℕ, List};
 ghost use Rattle.vm_desc.specs.declared.description.Description.{Description};
 ghost use Rattle.ts_checked.specs.Statement.{Block};
-ghost use Rattle.ts_scope.specs.declared.fault.CheckFault.TheVariants.{NoMemory};
+ghost use Rattle.ts_checker.specs.declared.fault.CheckFault.TheVariants.{NoMemory};
 ghost use Rattle.ts_checker.specs.Accepted.{IsAccepted, IsRefusedBy, TextRefusal, by_check};
 
 /// The law of acceptance: for a machine, any bytes either mean one tree or have one first refusal, and not both. Lack

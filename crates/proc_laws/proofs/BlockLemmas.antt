@@ -6,9 +6,9 @@ use Rattle.ts_checked.specs.Expression.{Expression}
 use Rattle.ts_checked.specs.Statement.{Statement, Block, no_statements, statement, If, IfElse, For, While}
 use Rattle.ts_syntax.specs.Tree.{Act}
 use Rattle.ts_syntax.specs.Seen.{acts}
-use Rattle.ts_scope.specs.declared.fault.CheckFault.{CheckFault}
-use Rattle.ts_scope.specs.Refusal.{◌>>=◌}
-use Rattle.ts_scope.specs.Names.{ScriptNames}
+use Rattle.ts_checker.specs.declared.fault.CheckFault.{CheckFault}
+use Rattle.ts_checker.specs.Refusal.{◌>>=◌}
+use Rattle.ts_checker.specs.Names.{ScriptNames}
 use Rattle.ts_checker.specs.Checks.{CheckedHead, checked_stmt, checked_block}
 use Rattle.ts_meaning.specs.State.{ScriptState, Evaluation, Done, Over, then_do, with_variable, loop_does, choose}
 use Rattle.ts_meaning.specs.Meaning.{value_of, while_round, for_round, run_stmt, run_block}

@@ -13,10 +13,10 @@ use Rattle.ts_syntax.specs.Tree as given
 use Rattle.ts_syntax.specs.Tree.{Tree, Trees, no_trees, tree_then}
 use Rattle.ts_checked.specs.Expression.{Arguments, argument, Item, Size, MsgItem, Call, SendBuf, Neg, Not, Two}
 use Rattle.ts_checked.specs.Statement.{Do, DoSend}
-use Rattle.ts_scope.specs.declared.fault.CheckFault.{CheckFault}
-use Rattle.ts_scope.specs.declared.fault.CheckFault.TheVariants.{Kind, Arity}
-use Rattle.ts_scope.specs.Refusal.{◌>>=◌, unless_refused}
-use Rattle.ts_scope.specs.Names.{ScriptNames, variable, buffer, function}
+use Rattle.ts_checker.specs.declared.fault.CheckFault.{CheckFault}
+use Rattle.ts_checker.specs.declared.fault.CheckFault.TheVariants.{Kind, Arity}
+use Rattle.ts_checker.specs.Refusal.{◌>>=◌, unless_refused}
+use Rattle.ts_checker.specs.Names.{ScriptNames, variable, buffer, function}
 use Rattle.ts_checker.specs.Checks.{variable_expression, Called, sends, calls, as_expression, as_statement, name_alone, sent_name, sent, tree_count, called_function, checked_call, checked_expr, checked_args, checked_step, CheckedHead, checked_head}
 use Rattle.ts_meaning.specs.Meaning.{run_stmt}
 use Rattle.proc_names.specs.declared.fault.ProcFault.{ProcFault}

@@ -12,13 +12,13 @@ use Rattle.ts_syntax.specs.declared.script.Decl.{Decl}
 use Rattle.ts_syntax.specs.declared.script.DeclKind.{DeclKind}
 use Rattle.ts_syntax.specs.declared.script.DeclKind.TheVariants as of
 use Rattle.ts_checked.specs.declared.checked_stmt.CVar.TheVariants as var
-use Rattle.ts_scope.specs.declared.scope.Symbol.{Symbol}
-use Rattle.ts_scope.specs.declared.scope.Symbol.TheVariants.{Variable, Buffer}
-use Rattle.ts_scope.specs.declared.scope.Entry.{Entry}
-use Rattle.ts_scope.specs.declared.fault.CheckFault.{CheckFault}
-use Rattle.ts_scope.specs.declared.fault.CheckFault.TheVariants.{Twice, TooManyPrivates, Undeclared}
-use Rattle.ts_scope.specs.Refusal.{◌>>=◌, unless_refused}
-use Rattle.ts_scope.specs.Names.{ScriptNames, symbol_of, is_private_symbol, private_count, listed, made, with_name, declare, declare_all, as_variable, as_buffer, variable, function}
+use Rattle.ts_checker.specs.declared.scope.Symbol.{Symbol}
+use Rattle.ts_checker.specs.declared.scope.Symbol.TheVariants.{Variable, Buffer}
+use Rattle.ts_checker.specs.declared.scope.Entry.{Entry}
+use Rattle.ts_checker.specs.declared.fault.CheckFault.{CheckFault}
+use Rattle.ts_checker.specs.declared.fault.CheckFault.TheVariants.{Twice, TooManyPrivates, Undeclared}
+use Rattle.ts_checker.specs.Refusal.{◌>>=◌, unless_refused}
+use Rattle.ts_checker.specs.Names.{ScriptNames, symbol_of, is_private_symbol, private_count, listed, made, with_name, declare, declare_all, as_variable, as_buffer, variable, function}
 use Rattle.proc_names.specs.declared.fault.ProcFault.TheVariants.{Reserved}
 use Rattle.proc_names.specs.NameFaults.{is_reserved, refused_if, word_fault}
 use Rattle.proc_renaming.specs.Renaming.{parameter_name, renamed_as, renamed, nothing_hidden, parameter_decls}

@@ -6,8 +6,8 @@ use Rattle.ts_syntax.specs.declared.word.Word.{Word}
 use Rattle.ts_checked.specs.declared.checked_stmt.CVar.TheVariants as var
 use Rattle.ts_syntax.specs.Tree.{variable, no_trees, tree_then, set, run_procedure, ProcedureSource}
 use Rattle.ts_syntax.specs.Seen.{acts}
-use Rattle.ts_scope.specs.declared.scope.Symbol.TheVariants.{Variable}
-use Rattle.ts_scope.specs.Names.{ScriptNames}
+use Rattle.ts_checker.specs.declared.scope.Symbol.TheVariants.{Variable}
+use Rattle.ts_checker.specs.Names.{ScriptNames}
 use Rattle.ts_meaning.specs.State.{begun_state}
 use Rattle.proc_laws.specs.Frames.{script_run}
 

@@ -11,10 +11,10 @@ use Rattle.ts_checked.specs.Expression.{Expression, Arguments}
 use Rattle.ts_checked.specs.Statement.{Statement}
 use Rattle.ts_syntax.specs.Tree.{Act, set, set_item, append, take_last, clear, call_alone, if_then, if_else, for_next, while_do}
 use Rattle.ts_syntax.specs.Tree.{run_procedure, Acts, no_acts, act_then, Procedure, ProcedureSource}
-use Rattle.ts_scope.specs.declared.scope.Symbol.TheVariants.{Variable}
-use Rattle.ts_scope.specs.declared.scope.Entry.{Entry}
-use Rattle.ts_scope.specs.declared.fault.CheckFault.{CheckFault}
-use Rattle.ts_scope.specs.Names.{ScriptNames, names_before, declare_all}
+use Rattle.ts_checker.specs.declared.scope.Symbol.TheVariants.{Variable}
+use Rattle.ts_checker.specs.declared.scope.Entry.{Entry}
+use Rattle.ts_checker.specs.declared.fault.CheckFault.{CheckFault}
+use Rattle.ts_checker.specs.Names.{ScriptNames, names_before, declare_all}
 use Rattle.ts_checker.specs.Checks.{checked_expr, checked_args, checked_head, checked_stmt, CheckedHead}
 use Rattle.ts_meaning.specs.State.{ScriptState, Evaluation, Done, Over, then_do, with_variable, loop_does, choose, begun_state}
 use Rattle.ts_meaning.specs.Meaning.{value_of, values_of, run_stmt, while_round, for_round, played, outcome_at}

@@ -1,6 +1,6 @@
 pub mod BeginLemmas
 pub mod ReportLemmas
-pub mod StepLemmas
+pub mod RoomLemmas
 pub mod RunLemmas
 pub mod WorldLemmas
 pub mod MoteLemmas

@@ -12,10 +12,10 @@ use Rattle.ts_checked.specs.Expression.{Arguments}
 use Rattle.ts_syntax.specs.Seen.{tree_of, trees_of}
 use Rattle.ts_syntax.specs.declared.expr.Expr.{Expr}
 use Rattle.ts_syntax.specs.declared.word.Word.{Word}
-use Rattle.ts_scope.specs.declared.fault.CheckFault.{CheckFault}
-use Rattle.ts_scope.specs.declared.fault.CheckFault.TheVariants.{Arity, Kind}
-use Rattle.ts_scope.specs.Refusal.{◌>>=◌}
-use Rattle.ts_scope.specs.Names.{ScriptNames, function}
+use Rattle.ts_checker.specs.declared.fault.CheckFault.{CheckFault}
+use Rattle.ts_checker.specs.declared.fault.CheckFault.TheVariants.{Arity, Kind}
+use Rattle.ts_checker.specs.Refusal.{◌>>=◌}
+use Rattle.ts_checker.specs.Names.{ScriptNames, function}
 use Rattle.ts_checker.specs.Checks.{calls, sends, name_alone, sent_name, sent, tree_count, checked_call}
 
 -- a literal of at most 65535, read as a 16-bit number

@@ -1,3 +1,6 @@
+pub mod CheckLemmas
+pub mod DeclLemmas
+pub mod RoomLemmas
 pub mod CallLemmas
 pub mod LoopLemmas
 pub mod PassedLemmas

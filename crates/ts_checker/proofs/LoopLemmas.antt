@@ -7,9 +7,9 @@ use Rattle.ts_syntax.specs.Seen.{trees_of, acts_of, tree_of, act_of}
 use Rattle.ts_syntax.specs.declared.expr.Expr.{Expr}
 use Rattle.ts_syntax.specs.declared.stmt.Stmt.{Stmt}
 use Rattle.ts_checked.proofs.ListLemmas.{drop_item}
-use Rattle.ts_scope.specs.declared.fault.CheckFault.{CheckFault}
-use Rattle.ts_scope.specs.Refusal.{◌>>=◌}
-use Rattle.ts_scope.specs.Names.{ScriptNames}
+use Rattle.ts_checker.specs.declared.fault.CheckFault.{CheckFault}
+use Rattle.ts_checker.specs.Refusal.{◌>>=◌}
+use Rattle.ts_checker.specs.Names.{ScriptNames}
 use Rattle.ts_checker.specs.Checks.{checked_expr, checked_args, checked_stmt, checked_block}
 
 -- arguments behind others

@@ -29,15 +29,15 @@ use Rattle.ts_checked.specs.Expression.{Expression, Arguments}
 use Rattle.ts_checked.specs.Statement.{Statement, Block}
 use Rattle.mate_num.specs.Shapes.{is_shape}
 use Rattle.ts_checked.specs.Right.{is_variable, is_buffer, is_call, is_send_of as is_send_for, argument_count, is_right_expr, are_right, is_step, is_head, is_right_stmt, is_right_block, is_right}
-use Rattle.ts_scope.specs.declared.scope.Symbol.{Symbol}
-use Rattle.ts_scope.specs.declared.scope.Symbol.TheVariants.{Variable, Buffer}
-use Rattle.ts_scope.specs.declared.scope.Entry.{Entry}
-use Rattle.ts_scope.specs.declared.fault.CheckFault.{CheckFault}
-use Rattle.ts_scope.specs.declared.fault.CheckFault.TheVariants.{Undeclared, NotInVm, Twice, Kind, Arity, TooManyPrivates}
-use Rattle.ts_scope.specs.Refusal.{◌>>=◌, unless_refused}
-use Rattle.ts_scope.specs.Names.{ScriptNames, names_before, symbol_of, private_count, listed, made, with_name, declare, declare_all, found_symbol, as_variable, as_buffer, variable as variable_at, buffer as buffer_at, function_from, function, closes_for}
+use Rattle.ts_checker.specs.declared.scope.Symbol.{Symbol}
+use Rattle.ts_checker.specs.declared.scope.Symbol.TheVariants.{Variable, Buffer}
+use Rattle.ts_checker.specs.declared.scope.Entry.{Entry}
+use Rattle.ts_checker.specs.declared.fault.CheckFault.{CheckFault}
+use Rattle.ts_checker.specs.declared.fault.CheckFault.TheVariants.{Undeclared, NotInVm, Twice, Kind, Arity, TooManyPrivates}
+use Rattle.ts_checker.specs.Refusal.{◌>>=◌, unless_refused}
+use Rattle.ts_checker.specs.Names.{ScriptNames, names_before, symbol_of, private_count, listed, made, with_name, declare, declare_all, found_symbol, as_variable, as_buffer, variable as variable_at, buffer as buffer_at, function_from, function, closes_for}
 use Rattle.ts_checker.specs.Checks.{variable_expression, Called, sends, calls, as_expression, as_statement, sent, sent_name, name_alone, tree_count, called_function, checked_call, checked_expr, checked_args, step_number, checked_step, CheckedHead, checked_head, checked_stmt, checked_block, checked_source}
-use Rattle.ts_scope.proofs.CheckLemmas.{bind_keeps, demand_holds}
+use Rattle.ts_checker.proofs.CheckLemmas.{bind_keeps, demand_holds}
 
 -- what a name stands for is in the shape's range
 abbrev pub is_right_symbol : Shape → Symbol → Bool

@@ -6,7 +6,7 @@ use Rattle.ts_syntax.specs.Cut.{cut, CutFault}
 use Rattle.ts_syntax.specs.Tree.{Source}
 use Rattle.ts_syntax.specs.Faults.{Spells, IsUnexpected, IsTooDeep}
 use Rattle.ts_checked.specs.Statement.{Block}
-use Rattle.ts_scope.specs.declared.fault.CheckFault.{CheckFault}
+use Rattle.ts_checker.specs.declared.fault.CheckFault.{CheckFault}
 use Rattle.ts_checker.specs.Checks.{checked_source}
 
 -- the bytes are cut into tokens, which spell a script, whose checks give the tree

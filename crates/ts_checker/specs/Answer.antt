@@ -1,7 +1,7 @@
 -- How an answer of the program is what a check gives, unless memory runs out.
 use Rattle.std.specs.Prelude.{◌≡◌, Result, Ok, Err, ⊤}
-use Rattle.ts_scope.specs.declared.fault.CheckFault.{CheckFault}
-use Rattle.ts_scope.specs.declared.fault.CheckFault.TheVariants.{NoMemory}
+use Rattle.ts_checker.specs.declared.fault.CheckFault.{CheckFault}
+use Rattle.ts_checker.specs.declared.fault.CheckFault.TheVariants.{NoMemory}
 
 -- the check refuses with this fault; nothing is said if the fault is lack of memory
 abbrev pub RefusesScript : {B : Type 0} → CheckFault → Result B CheckFault → Type 0

@@ -18,10 +18,10 @@ use Rattle.ts_checked.specs.Expression.{Expression, Arguments, no_arguments, arg
 use Rattle.ts_checked.specs.Expression.{Call, SendBuf, Neg, Not, Two}
 use Rattle.ts_checked.specs.Statement.{Statement, Block, no_statements, statement, Set, SetItem, Append, Take, Clear, Do, DoSend, If, IfElse}
 use Rattle.ts_checked.specs.Statement.{For, While}
-use Rattle.ts_scope.specs.declared.fault.CheckFault.{CheckFault}
-use Rattle.ts_scope.specs.declared.fault.CheckFault.TheVariants.{Undeclared, Kind, Arity}
-use Rattle.ts_scope.specs.Refusal.{◌>>=◌, unless_refused}
-use Rattle.ts_scope.specs.Names.{ScriptNames, names_before, declare_all, variable as variable_at, buffer as buffer_at, function, closes_for}
+use Rattle.ts_checker.specs.declared.fault.CheckFault.{CheckFault}
+use Rattle.ts_checker.specs.declared.fault.CheckFault.TheVariants.{Undeclared, Kind, Arity}
+use Rattle.ts_checker.specs.Refusal.{◌>>=◌, unless_refused}
+use Rattle.ts_checker.specs.Names.{ScriptNames, names_before, declare_all, variable as variable_at, buffer as buffer_at, function, closes_for}
 
 -- a variable as an expression
 abbrev pub variable_expression : CVar → Expression

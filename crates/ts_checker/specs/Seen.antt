@@ -1,4 +1,4 @@
--- How the checker's own values are seen.
+-- How a scope and the checker's own values are seen.
 use Rattle.std.specs.declared.alloc.Global.{Global}
 use Rattle.std.specs.declared.boxed.Box.{Box}
 use Rattle.ts_checked.specs.Expression.{Expression, Arguments, arguments}
@@ -6,9 +6,14 @@ use Rattle.ts_checked.specs.TreeOf.{expr_tree, args_trees}
 use Rattle.ts_checked.specs.declared.checked_expr.CArgs.{CArgs}
 use Rattle.ts_checked.specs.declared.checked_expr.CExpr.{CExpr}
 use Rattle.ts_checked.specs.declared.checked_stmt.CForHead.{CForHead}
+use Rattle.ts_checker.specs.declared.scope.Scope.{Scope}
 use Rattle.ts_checker.specs.declared.called.Called as of
 use Rattle.ts_checker.specs.declared.called.Called.TheVariants as variant
+use Rattle.ts_checker.specs.Names.{ScriptNames}
 use Rattle.ts_checker.specs.Checks.{Called, sends, calls, CheckedHead}
+
+abbrev pub scope_names : Scope → ScriptNames
+scope_names s = record { machine = s.desc.now; declared = s.names.items }
 
 abbrev pub boxed_expression : Box CExpr Global → Expression
 boxed_expression e = expr_tree e.value

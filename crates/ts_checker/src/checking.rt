@@ -7,10 +7,11 @@ ghost use Rattle.ts_syntax.specs.Seen.{source_seen};
 ghost use Rattle.ts_checker.specs.Answer.{GivesChecked};
 ghost use Rattle.ts_checker.specs.Checks.{checked_source};
 
+use crate::fault::CheckFault;
+use crate::scope::Scope;
 use crate::stmts::block;
 use std::alloc::Global;
 use ts_checked::Checked;
-use ts_scope::{CheckFault, Scope};
 use ts_syntax::Script;
 use vm_desc::{Description, shape};
 

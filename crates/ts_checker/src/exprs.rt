@@ -9,14 +9,14 @@ ghost use Rattle.ts_syntax.specs.Tree as given;
 ghost use Rattle.ts_checked.specs.TreeOf.{expr_tree};
 ghost use Rattle.ts_checker.specs.Answer.{GivesChecked};
 ghost use Rattle.ts_checker.specs.Checks.{variable_expression, name_alone, sent, checked_call, checked_expr, checked_args};
-ghost use Rattle.ts_scope.specs.Seen.{scope_names};
-ghost use Rattle.ts_checker.specs.Seen.{arguments_of, boxed_expression, call_of};
+ghost use Rattle.ts_checker.specs.Seen.{scope_names, arguments_of, boxed_expression, call_of};
 
 use crate::called::Called;
+use crate::fault::CheckFault;
+use crate::scope::Scope;
 use mate_num::BufId;
 use std::alloc::Global;
 use ts_checked::{BinOp, CArgs, CExpr, CVar};
-use ts_scope::{CheckFault, Scope};
 use ts_syntax::{Args, Expr, Word};
 use vm_desc::FunKind;
 

@@ -1,10 +1,15 @@
-//! The checks of a TinyScript script for a machine, and the checked tree that they give.
+//! The names of a TinyScript script on a machine, the checks of the script, and the checked tree that they give.
 #![tactic(auto)]
 
 mod called;
 pub mod checking;
 mod exprs;
+pub mod fault;
+pub mod laws;
+pub mod scope;
 mod stmts;
 
 pub use checking::check;
-pub use ts_scope::CheckFault;
+pub use fault::CheckFault;
+pub use laws::keywords_are_no_names;
+pub use scope::Scope;

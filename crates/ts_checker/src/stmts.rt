@@ -6,14 +6,14 @@ ghost use Rattle.ts_syntax.specs.Tree as given;
 ghost use Rattle.ts_checked.specs.TreeOf.{stmt_tree, block_tree, block_trees};
 ghost use Rattle.ts_checker.specs.Answer.{GivesChecked};
 ghost use Rattle.ts_checker.specs.Checks.{checked_step, checked_head, checked_stmt, checked_block};
-ghost use Rattle.ts_scope.specs.Seen.{scope_names};
-ghost use Rattle.ts_checker.specs.Seen.{checked_head_of};
+ghost use Rattle.ts_checker.specs.Seen.{scope_names, checked_head_of};
 
 use crate::exprs::{call, expression};
+use crate::fault::CheckFault;
+use crate::scope::Scope;
 use mate_num::NoMemory;
 use std::alloc::Global;
 use ts_checked::{CBlock, CForHead, CStmt};
-use ts_scope::{CheckFault, Scope};
 use ts_syntax::{Args, Block, Expr, ForHead, Step, Stmt, Word};
 
 /// Checks the statements of a block.

@@ -20,7 +20,7 @@ use Rattle.ts_syntax.specs.Cut as cut
 use Rattle.ts_syntax.specs.Cut.{in_name, is_digit, word_kind}
 use Rattle.ts_lexer.specs.Spans.{BeginsWith, Passes}
 use Rattle.ts_lexer.proofs.WordLemmas.{NoneReads, among_none}
-use Rattle.ts_scope.specs.Names.{function_from}
+use Rattle.ts_checker.specs.Names.{function_from}
 use Rattle.world_maker.specs.Source.{reads_sensor, first_sensor}
 
 swap : (a b c : Bool) → ((a || b) || c) ≡ ((b || a) || c)

@@ -28,9 +28,9 @@ use Rattle.ts_checked.specs.Expression.{Expression, no_arguments, Num, Shared, C
 use Rattle.ts_checked.specs.Statement.{Block, no_statements, statement, Set}
 use Rattle.ts_syntax.specs.Cut.{cut, cut_from, between}
 use Rattle.ts_syntax.specs.Faults.{Spells}
-use Rattle.ts_scope.specs.Names.{function_from}
+use Rattle.ts_checker.specs.Names.{function_from}
 use Rattle.ts_checker.specs.Checks.{checked_source, checked_block, checked_expr}
-use Rattle.ts_scope.specs.declared.fault.CheckFault.TheVariants.{NotInVm}
+use Rattle.ts_checker.specs.declared.fault.CheckFault.TheVariants.{NotInVm}
 use Rattle.ts_meaning.specs.Translation.{number_code, script_size, script_need}
 use Rattle.world_maker.specs.Source.{first_sensor, sensor_term, source_head, assignment, source_with, source_of}
 use Rattle.world_maker.specs.Sound.{IsSoundSource}

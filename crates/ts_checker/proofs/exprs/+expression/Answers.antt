@@ -7,13 +7,12 @@ use Rattle.ts_syntax.proofs.SeenLemmas.{tree_variable, tree_item, tree_size, tre
 use Rattle.ts_syntax.specs.Seen.{tree_of, trees_of}
 use Rattle.ts_checked.specs.TreeOf.{expr_tree, args_trees}
 use Rattle.ts_syntax.specs.declared.expr.Expr.{Expr}
-use Rattle.ts_scope.specs.declared.fault.CheckFault.{CheckFault}
-use Rattle.ts_scope.specs.Refusal.{◌>>=◌}
+use Rattle.ts_checker.specs.declared.fault.CheckFault.{CheckFault}
+use Rattle.ts_checker.specs.Refusal.{◌>>=◌}
 use Rattle.ts_checker.specs.Answer.{GivesChecked}
-use Rattle.ts_scope.specs.Names.{ScriptNames}
+use Rattle.ts_checker.specs.Names.{ScriptNames}
 use Rattle.ts_checker.specs.Checks.{Called, calls, sends, as_expression, sent, checked_expr, checked_args, checked_call}
-use Rattle.ts_scope.specs.Seen.{scope_names}
-use Rattle.ts_checker.specs.Seen.{arguments_of, boxed_expression, call_of}
+use Rattle.ts_checker.specs.Seen.{scope_names, arguments_of, boxed_expression, call_of}
 use Rattle.ts_checker.proofs.CallLemmas.{call_unfound, call_barred, call_sends, call_counted, call_miscounted}
 use Rattle.ts_checker.proofs.RefusalLemmas.{refused_part, refused_by, left_refused, right_refused}
 use Rattle.ts_checker.proofs.LoopLemmas.{args_next, args_refused, args_end}

@@ -2,7 +2,7 @@ use Rattle.std.proofs.Common.{◌≡◌, drop}
 use Rattle.ts_syntax.specs.Seen.{trees_of}
 use Rattle.ts_checked.specs.TreeOf.{args_trees}
 use Rattle.ts_checker.specs.Checks.{checked_args}
-use Rattle.ts_scope.specs.Seen.{scope_names}
+use Rattle.ts_checker.specs.Seen.{scope_names}
 use Rattle.ts_checker.proofs.LoopLemmas.{with_args}
 use Rattle.ts_checker.proofs.exprs.+expression.Given as goal
 

@@ -1,5 +1,5 @@
 use Rattle.std.proofs.Common.{rules, Some, None, ◌∙◌}
-use Rattle.ts_scope.specs.Seen.{scope_names}
+use Rattle.ts_checker.specs.Seen.{scope_names}
 use Rattle.ts_checker.proofs.CallLemmas.{sent_other, sent_one}
 use Rattle.ts_checker.proofs.exprs.sent.Goals as goal
 use Rattle.ts_checker.proofs.exprs.sent.Goals.{in_default-via-then-args-lt1, in_default-via-else-args-lt1+else-args-lt2}

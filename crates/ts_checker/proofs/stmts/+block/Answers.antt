@@ -4,12 +4,12 @@ use Rattle.ts_syntax.specs.Tree as given
 use Rattle.ts_syntax.specs.Tree.{Act}
 use Rattle.ts_checked.specs.declared.checked_stmt.CStmt.{CStmt}
 use Rattle.ts_syntax.proofs.SeenLemmas.{act_set, act_set_item, act_append, act_take_last, act_clear, act_call_alone, act_for_next, act_while_do, act_run_procedure}
-use Rattle.ts_scope.specs.declared.fault.CheckFault.{CheckFault}
+use Rattle.ts_checker.specs.declared.fault.CheckFault.{CheckFault}
 use Rattle.ts_checker.specs.Answer.{GivesChecked, RefusesScript}
-use Rattle.ts_scope.specs.Names.{ScriptNames}
+use Rattle.ts_checker.specs.Names.{ScriptNames}
 use Rattle.ts_checked.specs.TreeOf.{stmt_tree, block_tree, block_trees}
 use Rattle.ts_checker.specs.Checks.{checked_expr, checked_head, checked_stmt, checked_block}
-use Rattle.ts_scope.specs.Seen.{scope_names}
+use Rattle.ts_checker.specs.Seen.{scope_names}
 use Rattle.ts_checker.proofs.LoopLemmas.{stmts_next, stmts_refused, stmts_end}
 use Rattle.ts_checker.proofs.RefusalLemmas.{refused_part, refused_by, if_test_refused, if_body_refused}
 use Rattle.ts_checker.proofs.PassedLemmas.{while_passes, for_passes}

@@ -2,7 +2,7 @@ use Rattle.std.proofs.Common.{◌≡◌, drop}
 use Rattle.ts_syntax.specs.Seen.{acts_of}
 use Rattle.ts_checked.specs.TreeOf.{block_trees}
 use Rattle.ts_checker.specs.Checks.{checked_block}
-use Rattle.ts_scope.specs.Seen.{scope_names}
+use Rattle.ts_checker.specs.Seen.{scope_names}
 use Rattle.ts_checker.proofs.LoopLemmas.{with_stmts}
 use Rattle.ts_checker.proofs.stmts.+block.Given as goal
 

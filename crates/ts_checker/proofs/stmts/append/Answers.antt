@@ -3,7 +3,7 @@ use Rattle.ts_syntax.specs.Seen.{tree_of}
 use Rattle.ts_syntax.specs.Tree as given
 use Rattle.ts_checked.specs.TreeOf.{stmt_tree}
 use Rattle.ts_checker.specs.Checks.{checked_expr, checked_stmt}
-use Rattle.ts_scope.specs.Seen.{scope_names}
+use Rattle.ts_checker.specs.Seen.{scope_names}
 use Rattle.ts_checker.proofs.RefusalLemmas.{refused_part, refused_by}
 use Rattle.ts_checker.proofs.stmts.append.Goals as goal
 

@@ -1,11 +1,11 @@
 use Rattle.std.proofs.Common.{ap, sym, ◌∙◌}
 use Rattle.std.proofs.lemmas.List.{drop_all}
-use Rattle.ts_scope.specs.Names.{names_before, declare_all}
-use Rattle.ts_scope.specs.Seen.{scope_names}
-use Rattle.ts_scope.proofs.CheckLemmas.{refuses_with}
-use Rattle.ts_scope.proofs.DeclLemmas.{decls_refused, decls_after}
-use Rattle.ts_scope.proofs.RoomLemmas.{fit_none}
-use Rattle.ts_scope.proofs.scope.Scope.of.Goals as goal
+use Rattle.ts_checker.specs.Names.{names_before, declare_all}
+use Rattle.ts_checker.specs.Seen.{scope_names}
+use Rattle.ts_checker.proofs.CheckLemmas.{refuses_with}
+use Rattle.ts_checker.proofs.DeclLemmas.{decls_refused, decls_after}
+use Rattle.ts_checker.proofs.RoomLemmas.{fit_none}
+use Rattle.ts_checker.proofs.scope.Scope.of.Goals as goal
 
 pub loop-decl-init : goal.loop-decl-init
 loop-decl-init c =

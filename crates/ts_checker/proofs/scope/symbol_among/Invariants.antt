@@ -1,6 +1,6 @@
 use Rattle.std.proofs.Common.{◌≡◌, drop}
-use Rattle.ts_scope.specs.Names.{symbol_of}
-use Rattle.ts_scope.proofs.scope.symbol_among.Given as goal
+use Rattle.ts_checker.specs.Names.{symbol_of}
+use Rattle.ts_checker.proofs.scope.symbol_among.Given as goal
 
 -- the name is none of those before this one
 abbrev pub invariant-loop-entry : goal.invariant-loop-entry

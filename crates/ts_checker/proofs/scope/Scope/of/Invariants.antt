@@ -1,8 +1,8 @@
 use Rattle.std.proofs.Common.{◌≡◌, drop}
-use Rattle.ts_scope.specs.Names.{names_before, declare_all}
-use Rattle.ts_scope.specs.Room.{IsFit}
-use Rattle.ts_scope.specs.Seen.{scope_names}
-use Rattle.ts_scope.proofs.scope.Scope.of.Given as goal
+use Rattle.ts_checker.specs.Names.{names_before, declare_all}
+use Rattle.ts_checker.specs.Room.{IsFit}
+use Rattle.ts_checker.specs.Seen.{scope_names}
+use Rattle.ts_checker.proofs.scope.Scope.of.Given as goal
 
 -- the rest of the declarations goes on from the names so far, which fit
 abbrev pub invariant-loop-decl : goal.invariant-loop-decl

@@ -18,15 +18,15 @@ use Rattle.vm_desc.specs.declared.description.Description.{Description}
 use Rattle.ts_syntax.specs.declared.script.DeclKind.{DeclKind}
 use Rattle.ts_syntax.specs.declared.script.DeclKind.TheVariants as of
 use Rattle.ts_checked.specs.declared.checked_stmt.CVar.TheVariants.{Shared, Private}
-use Rattle.ts_scope.specs.declared.scope.Symbol.{Symbol}
-use Rattle.ts_scope.specs.declared.scope.Symbol.TheVariants.{Variable, Buffer}
-use Rattle.ts_scope.specs.declared.scope.Entry.{Entry}
-use Rattle.ts_scope.specs.declared.fault.CheckFault.{CheckFault}
-use Rattle.ts_scope.specs.declared.fault.CheckFault.TheVariants.{NotInVm, TooManyPrivates}
-use Rattle.ts_scope.specs.Refusal.{unless_refused}
-use Rattle.ts_scope.specs.Names.{ScriptNames, is_private_symbol, private_count, symbol_of, listed, made}
-use Rattle.ts_scope.specs.Room.{is_listed, IsFit}
-use Rattle.ts_scope.proofs.CheckLemmas.{bind_keeps, demand_holds}
+use Rattle.ts_checker.specs.declared.scope.Symbol.{Symbol}
+use Rattle.ts_checker.specs.declared.scope.Symbol.TheVariants.{Variable, Buffer}
+use Rattle.ts_checker.specs.declared.scope.Entry.{Entry}
+use Rattle.ts_checker.specs.declared.fault.CheckFault.{CheckFault}
+use Rattle.ts_checker.specs.declared.fault.CheckFault.TheVariants.{NotInVm, TooManyPrivates}
+use Rattle.ts_checker.specs.Refusal.{unless_refused}
+use Rattle.ts_checker.specs.Names.{ScriptNames, is_private_symbol, private_count, symbol_of, listed, made}
+use Rattle.ts_checker.specs.Room.{is_listed, IsFit}
+use Rattle.ts_checker.proofs.CheckLemmas.{bind_keeps, demand_holds}
 
 abbrev has : List (List ℕ) → List ℕ → Bool
 has names q = list_any (bytes_eq q) names

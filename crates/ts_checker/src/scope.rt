@@ -1,7 +1,7 @@
 //! The names of a script, and what they name.
 
 ghost use Rattle.std.specs.Prelude.{◌≡◌, ◌<◌, ◌≤◌, length, position, bytes_eq, IfSome};
-ghost use Rattle.ts_scope.specs.Names.{listed, symbol_of, function_from};
+ghost use Rattle.ts_checker.specs.Names.{listed, symbol_of, function_from};
 
 use crate::fault::CheckFault;
 use arrayvec::ArrayVec;
@@ -19,7 +19,7 @@ pub enum Symbol {
 
 impl Symbol {
     ghost use Rattle.std.specs.Prelude.{◌≡◌};
-    ghost use Rattle.ts_scope.specs.Names.{is_private_symbol};
+    ghost use Rattle.ts_checker.specs.Names.{is_private_symbol};
 
     fn is_private(self) -> bool
         ensures { result ≡ is_private_symbol self }
@@ -96,10 +96,10 @@ fn function_among(functions: &[Function], name: &Name) -> Option<(FunId, FunKind
 
 impl<'a> Scope<'a> {
     ghost use Rattle.std.specs.Prelude.{Ok, Err, MatchResult, OnOk};
-    ghost use Rattle.ts_scope.specs.Room.{IsFit};
-    ghost use Rattle.ts_scope.specs.Names.{names_before, private_count, made, declare, declare_all, found_symbol, variable, buffer};
-    ghost use Rattle.ts_scope.specs.Names.{function, closes_for};
-    ghost use Rattle.ts_scope.specs.Seen.{scope_names};
+    ghost use Rattle.ts_checker.specs.Room.{IsFit};
+    ghost use Rattle.ts_checker.specs.Names.{names_before, private_count, made, declare, declare_all, found_symbol, variable, buffer};
+    ghost use Rattle.ts_checker.specs.Names.{function, closes_for};
+    ghost use Rattle.ts_checker.specs.Seen.{scope_names};
 
     /// The names that the declarations declare, from left to right, or the first refusal of them. It takes no memory.
     pub fn of(desc: &'a Description, decls: &[Decl]) -> Result<Scope<'a>, CheckFault>

@@ -4,10 +4,10 @@ use Rattle.std.specs.List.{IsDistinct, list_all}
 use Rattle.vm_desc.specs.Names.{stands_in}
 use Rattle.vm_desc.specs.declared.description.Description.{Description}
 use Rattle.ts_checked.specs.declared.checked_stmt.CVar.TheVariants.{Shared, Private}
-use Rattle.ts_scope.specs.declared.scope.Symbol.{Symbol}
-use Rattle.ts_scope.specs.declared.scope.Symbol.TheVariants.{Variable, Buffer}
-use Rattle.ts_scope.specs.declared.scope.Entry.{Entry}
-use Rattle.ts_scope.specs.Names.{private_count}
+use Rattle.ts_checker.specs.declared.scope.Symbol.{Symbol}
+use Rattle.ts_checker.specs.declared.scope.Symbol.TheVariants.{Variable, Buffer}
+use Rattle.ts_checker.specs.declared.scope.Entry.{Entry}
+use Rattle.ts_checker.specs.Names.{private_count}
 
 -- a shared variable or a buffer has one of the machine's names
 abbrev pub is_listed : Description → Symbol → List ℕ → Bool

@@ -30,7 +30,7 @@ pub enum CheckFault {
 
 impl From<NoMemory> for CheckFault {
     ghost use Rattle.std.specs.Prelude.{◌≡◌};
-    ghost use Rattle.ts_scope.specs.declared.fault.CheckFault.TheVariants.{NoMemory};
+    ghost use Rattle.ts_checker.specs.declared.fault.CheckFault.TheVariants.{NoMemory};
 
     ghost from_gives = { λ _ fault. fault ≡ NoMemory };
 
@@ -41,7 +41,7 @@ impl From<NoMemory> for CheckFault {
 
 impl<T: Drop> From<AllocFailed<T>> for CheckFault {
     ghost use Rattle.std.specs.Prelude.{◌≡◌};
-    ghost use Rattle.ts_scope.specs.declared.fault.CheckFault.TheVariants.{NoMemory};
+    ghost use Rattle.ts_checker.specs.declared.fault.CheckFault.TheVariants.{NoMemory};
 
     ghost from_gives = { λ _ fault. fault ≡ NoMemory };
 

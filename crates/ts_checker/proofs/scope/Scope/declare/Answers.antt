@@ -1,9 +1,9 @@
 use Rattle.std.proofs.Common.{◌≡◌, true, not, Ok, ap, sym, ◌∙◌, arith}
 use Rattle.std.specs.Prelude.{is_none}
-use Rattle.ts_scope.specs.Names.{symbol_of, made}
-use Rattle.ts_scope.specs.Seen.{scope_names}
-use Rattle.ts_scope.proofs.RoomLemmas.{fit_made, room_made}
-use Rattle.ts_scope.proofs.scope.Scope.declare.Goals as goal
+use Rattle.ts_checker.specs.Names.{symbol_of, made}
+use Rattle.ts_checker.specs.Seen.{scope_names}
+use Rattle.ts_checker.proofs.RoomLemmas.{fit_made, room_made}
+use Rattle.ts_checker.proofs.scope.Scope.declare.Goals as goal
 
 pub push-requires : goal.push-requires
 push-requires c =

@@ -1,6 +1,6 @@
 use Rattle.std.proofs.Common.{◌≡◌, drop}
-use Rattle.ts_scope.specs.Names.{function_from}
-use Rattle.ts_scope.proofs.scope.function_among.Given as goal
+use Rattle.ts_checker.specs.Names.{function_from}
+use Rattle.ts_checker.proofs.scope.function_among.Given as goal
 
 -- the name is none of those before this one
 abbrev pub invariant-loop-index : goal.invariant-loop-index

@@ -12,12 +12,12 @@ use Rattle.ts_syntax.specs.declared.script.DeclKind.{DeclKind}
 use Rattle.ts_syntax.specs.declared.script.DeclKind.TheVariants as of
 use Rattle.ts_checked.specs.declared.checked_stmt.CVar.{CVar}
 use Rattle.ts_checked.specs.declared.checked_stmt.CVar.TheVariants as var
-use Rattle.ts_scope.specs.declared.scope.Symbol.{Symbol}
-use Rattle.ts_scope.specs.declared.scope.Symbol.TheVariants.{Variable, Buffer}
-use Rattle.ts_scope.specs.declared.scope.Entry.{Entry}
-use Rattle.ts_scope.specs.declared.fault.CheckFault.{CheckFault}
-use Rattle.ts_scope.specs.declared.fault.CheckFault.TheVariants.{Undeclared, NotInVm, Twice, Kind, TooManyPrivates}
-use Rattle.ts_scope.specs.Refusal.{◌>>=◌, unless_refused}
+use Rattle.ts_checker.specs.declared.scope.Symbol.{Symbol}
+use Rattle.ts_checker.specs.declared.scope.Symbol.TheVariants.{Variable, Buffer}
+use Rattle.ts_checker.specs.declared.scope.Entry.{Entry}
+use Rattle.ts_checker.specs.declared.fault.CheckFault.{CheckFault}
+use Rattle.ts_checker.specs.declared.fault.CheckFault.TheVariants.{Undeclared, NotInVm, Twice, Kind, TooManyPrivates}
+use Rattle.ts_checker.specs.Refusal.{◌>>=◌, unless_refused}
 
 -- the names of a script: its machine's, and those that it declared so far, each with what it means
 pub record ScriptNames : Type 0 where

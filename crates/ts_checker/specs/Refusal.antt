@@ -1,6 +1,6 @@
 -- Checks one after another: the first refusal ends them.
 use Rattle.std.specs.Prelude.{Bool, true, false, Result, Ok, Err, ⊤}
-use Rattle.ts_scope.specs.declared.fault.CheckFault.{CheckFault}
+use Rattle.ts_checker.specs.declared.fault.CheckFault.{CheckFault}
 
 -- goes on with what a check gave, unless it refused
 infixl 10 ◌>>=◌

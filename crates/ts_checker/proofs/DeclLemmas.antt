@@ -2,9 +2,9 @@
 use Rattle.std.proofs.Common.{◌≡◌, ℕ, ◌+◌, ◌<◌, List, length, drop, get_or, Ok, Err, ap, ◌∙◌}
 use Rattle.ts_syntax.specs.declared.script.Decl.{Decl}
 use Rattle.ts_checked.proofs.ListLemmas.{drop_item}
-use Rattle.ts_scope.specs.declared.fault.CheckFault.{CheckFault}
-use Rattle.ts_scope.specs.Refusal.{◌>>=◌}
-use Rattle.ts_scope.specs.Names.{ScriptNames, declare, declare_all}
+use Rattle.ts_checker.specs.declared.fault.CheckFault.{CheckFault}
+use Rattle.ts_checker.specs.Refusal.{◌>>=◌}
+use Rattle.ts_checker.specs.Names.{ScriptNames, declare, declare_all}
 
 -- a declaration is refused
 pub decls_refused : (n : ScriptNames) (ds : List Decl) (i : ℕ) (d : Decl) (fault : CheckFault) → i < length ds → d ≡ get_or ds i d → declare n d ≡ Err fault

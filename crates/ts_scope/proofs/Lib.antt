@@ -1,3 +1,0 @@
-pub mod CheckLemmas
-pub mod DeclLemmas
-pub mod RoomLemmas

@@ -1,5 +1,0 @@
-pub mod Refusal
-pub mod Names
-pub mod Room
-pub mod Seen
-pub mod Keywords
