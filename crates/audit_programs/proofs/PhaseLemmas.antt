@@ -3,10 +3,10 @@ use Rattle.std.proofs.Common.{◌≡◌, refl}
 use Rattle.std.specs.Prelude.{not}
 use Rattle.mate_journal.specs.Journal.{is_started}
 use Rattle.audit_rules.specs.Roll.{is_queued, is_waiting}
-use Rattle.audit_roll.specs.Views.{stands_at, phase_in}
-use Rattle.audit_roll.specs.declared.phase.Phase.{Phase}
-use Rattle.audit_roll.specs.declared.phase.Phase.TheVariants as phase
-use Rattle.audit_roll.specs.declared.phase.Stage.TheVariants as stage
+use Rattle.audit_rules.specs.Views.{stands_at, phase_in}
+use Rattle.audit_rules.specs.declared.phase.Phase.{Phase}
+use Rattle.audit_rules.specs.declared.phase.Phase.TheVariants as phase
+use Rattle.audit_rules.specs.declared.phase.Stage.TheVariants as stage
 
 pub queued-is : (p : Phase) → is_queued (phase_in p) ≡ stands_at stage.Queued p
 queued-is phase.Queued = refl

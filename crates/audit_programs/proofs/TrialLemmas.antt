@@ -19,8 +19,8 @@ use Rattle.audit_rules.specs.Roll as told
 use Rattle.audit_rules.specs.Roll.{nobody, rolled, LiveAreInstalled}
 use Rattle.audit_rules.specs.Following.{stamps_rise, may_follow, follow_one_another}
 use Rattle.audit_rules.specs.Tests.{installs_right, images_right}
-use Rattle.audit_roll.specs.Views.{HasHandlerBelow, seat_in, roll_in}
-use Rattle.audit_roll.specs.declared.seat.Seat.{Seat}
+use Rattle.audit_rules.specs.Views.{HasHandlerBelow, seat_in, roll_in}
+use Rattle.audit_rules.specs.declared.seat.Seat.{Seat}
 use Rattle.node_programs.specs.Sources.{held_as}
 use Rattle.audit_programs.specs.Ready.{IsReadyAs, installed_programs, ready_at}
 use Rattle.audit_programs.specs.declared.ready.ReadyProgram.{ReadyProgram}

@@ -13,8 +13,8 @@ use Rattle.audit_rules.specs.Roll.{LiveAreInstalled, nobody}
 use Rattle.audit_rules.specs.Following.{entries_follow, follow_one_another}
 use Rattle.audit_rules.specs.Laws.{machine_by}
 use Rattle.audit_rules.specs.Tests.{images_right}
-use Rattle.audit_roll.specs.Views.{seat_in, roll_in}
-use Rattle.audit_roll.specs.declared.seat.Seat.{Seat}
+use Rattle.audit_rules.specs.Views.{seat_in, roll_in}
+use Rattle.audit_rules.specs.declared.seat.Seat.{Seat}
 use Rattle.vm_desc.specs.declared.description.Description.{Description}
 use Rattle.audit_programs.specs.Ready.{IsReadyAs, installed_programs, ready_at}
 use Rattle.audit_programs.specs.declared.ready.ReadyProgram.{ReadyProgram}

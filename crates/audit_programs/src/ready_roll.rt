@@ -9,7 +9,7 @@ ghost use Rattle.audit_programs.specs.Naming.{named_program};
 use crate::finding::find_program;
 use crate::trial::Trial;
 use crate::{ReadyProgram, ReadyPrograms};
-use audit_roll::{Roll, Seat};
+use audit_rules::{Roll, Seat};
 use mate_journal::{Entry, Program};
 use mate_num::{Call, HandlerId, NoMemory, Outcome, Resource, Store};
 use std::alloc::Global;
@@ -69,7 +69,7 @@ impl<'a> ReadyRoll<'a> {
     ghost use Rattle.audit_rules.specs.Rerun.{run_on};
     ghost use Rattle.audit_rules.specs.Shown.{HasLengthsOf};
     ghost use Rattle.audit_rules.specs.Tests.{conflict_of, installs_right};
-    ghost use Rattle.audit_roll.specs.Views.{seat_in, roll_in};
+    ghost use Rattle.audit_rules.specs.Views.{seat_in, roll_in};
     ghost use Rattle.audit_programs.specs.Ready.{IsReadyAs, installed_programs, ready_at};
     ghost use Rattle.audit_programs.specs.Trials.{IsTried, HasReadUpTo, IsSeatReady, AreReady, StayReady, MakesReady, HasKept, machine_for, told_at};
 

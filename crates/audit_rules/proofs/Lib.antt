@@ -15,3 +15,5 @@ pub mod ShownLemmas
 pub mod AnswerLemmas
 pub mod PartLemmas
 pub mod ConflictLemmas
+pub mod ViewLemmas
+pub mod RollTests

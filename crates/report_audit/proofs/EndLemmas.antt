@@ -14,9 +14,9 @@ use Rattle.audit_rules.specs.Rerun.{run_on, is_undisturbed, ends_right, store_le
 use Rattle.audit_rules.specs.Same.{same_end, same_calls}
 use Rattle.audit_rules.specs.Roll as told
 use Rattle.audit_rules.specs.Shown.{HasLengthsOf}
-use Rattle.audit_roll.specs.Views.{seat_in, roll_in}
-use Rattle.audit_roll.specs.declared.roll.Roll.{Roll}
-use Rattle.audit_roll.specs.declared.seat.Seat.{Seat}
+use Rattle.audit_rules.specs.Views.{seat_in, roll_in}
+use Rattle.audit_rules.specs.declared.roll.Roll.{Roll}
+use Rattle.audit_rules.specs.declared.seat.Seat.{Seat}
 use Rattle.audit_programs.proofs.LoopLemmas.{all-more}
 
 pub same_number : (a b : ℕ) → a ≡ b → (a == b) ≡ true

@@ -13,7 +13,7 @@ use Rattle.audit_rules.specs.Roll as told
 use Rattle.audit_rules.specs.Roll.{nobody, rolled}
 use Rattle.audit_rules.specs.Shown.{HasLengthsOf, shows_right, stores_right}
 use Rattle.audit_rules.specs.Tests.{conflict_of}
-use Rattle.audit_roll.specs.Views.{roll_in}
+use Rattle.audit_rules.specs.Views.{roll_in}
 use Rattle.audit_programs.specs.Trials.{HasReadUpTo, machine_for, events_from, told_at}
 use Rattle.audit_programs.specs.declared.ready_roll.ReadyRoll.{ReadyRoll}
 use Rattle.audit_programs.specs.declared.trial.Trial.{Trial}

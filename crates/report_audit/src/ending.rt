@@ -6,13 +6,13 @@ ghost use Rattle.audit_rules.specs.Rerun as told;
 ghost use Rattle.audit_rules.specs.Same.{same_calls as are_one_calls, same_end as are_one_end};
 ghost use Rattle.audit_rules.specs.Shown.{HasLengthsOf};
 ghost use Rattle.audit_rules.specs.Tests.{conflict_of};
-ghost use Rattle.audit_roll.specs.Views.{seat_in, roll_in};
+ghost use Rattle.audit_rules.specs.Views.{seat_in, roll_in};
 ghost use Rattle.audit_programs.specs.Trials.{IsTried, IsSeatReady, machine_for};
 
 use crate::rerun::is_so_far;
 use crate::same::{same_calls, same_end};
 use audit_programs::{ReadyRoll, Trial};
-use audit_roll::{Seat, Stage};
+use audit_rules::{Seat, Stage};
 use mate_num::{End, NoMemory, Outcome, Store};
 use std::alloc::Global;
 

@@ -6,7 +6,7 @@ ghost use Rattle.mate_journal.specs.Journal.{journal_entry};
 ghost use Rattle.mate_journal.specs.Log.{Log};
 ghost use Rattle.audit_rules.specs.Granting as told;
 ghost use Rattle.audit_rules.specs.Tests.{conflict_of};
-ghost use Rattle.audit_roll.specs.Views.{roll_in};
+ghost use Rattle.audit_rules.specs.Views.{roll_in};
 ghost use Rattle.audit_programs.specs.Trials.{HasReadUpTo};
 
 use crate::waiting::{all_held_back, is_free_to_start};

@@ -8,7 +8,7 @@ ghost use Rattle.journal_laws.specs.Growth.{IsNamedBelow};
 ghost use Rattle.node_programs.specs.Sources.{is_held_as};
 ghost use Rattle.audit_rules.specs.Roll.{Roll, nobody, rolled};
 ghost use Rattle.audit_rules.specs.Tests as told;
-ghost use Rattle.audit_roll.specs.Views.{HasHandlerBelow};
+ghost use Rattle.audit_rules.specs.Views.{HasHandlerBelow};
 ghost use Rattle.report_audit.specs.Versions.{HasVersions};
 
 use audit_programs::find_program;

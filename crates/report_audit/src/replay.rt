@@ -7,7 +7,7 @@ ghost use Rattle.mate_journal.specs.Journal.{journal_entry};
 ghost use Rattle.audit_rules.specs.Rerun as told;
 ghost use Rattle.audit_rules.specs.Shown.{HasLengthsOf};
 ghost use Rattle.audit_rules.specs.Tests.{conflict_of};
-ghost use Rattle.audit_roll.specs.Views.{roll_in};
+ghost use Rattle.audit_rules.specs.Views.{roll_in};
 ghost use Rattle.audit_programs.specs.Trials.{IsTried, HasReadUpTo, machine_for};
 
 use crate::ending::run_end;

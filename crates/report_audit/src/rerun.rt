@@ -6,12 +6,12 @@ ghost use Rattle.arrayvec.specs.ArrayVec.{ArrayVec};
 ghost use Rattle.mate_journal.specs.Journal.{is_started};
 ghost use Rattle.audit_rules.specs.Rerun as told;
 ghost use Rattle.audit_rules.specs.Shown.{HasLengthsOf};
-ghost use Rattle.audit_roll.specs.Views.{phase_in, seat_in, roll_in};
+ghost use Rattle.audit_rules.specs.Views.{phase_in, seat_in, roll_in};
 ghost use Rattle.audit_programs.specs.Trials.{IsTried, IsSeatReady, machine_for};
 
 use crate::same::{same_calls, same_end};
 use audit_programs::{ReadyRoll, Trial};
-use audit_roll::{Phase, Seat, Stage};
+use audit_rules::{Phase, Seat, Stage};
 use mate_num::{End, NoMemory, Outcome, Store, copy_of};
 use std::alloc::Global;
 

@@ -8,7 +8,7 @@ ghost use Rattle.audit_rules.specs.Granting as grant;
 ghost use Rattle.audit_rules.specs.Shown as seen;
 ghost use Rattle.audit_rules.specs.Shown.{HasLengthsOf};
 ghost use Rattle.audit_programs.specs.Trials.{IsTried, HasReadUpTo, HasKept, IsSeatReady, machine_for};
-ghost use Rattle.audit_roll.specs.Views.{roll_in};
+ghost use Rattle.audit_rules.specs.Views.{roll_in};
 ghost use Rattle.mate_journal.specs.declared.law.Law.TheVariants as law;
 ghost use Rattle.audit_rules.specs.Tests.{conflict_of, failed_by};
 

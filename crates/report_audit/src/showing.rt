@@ -8,13 +8,13 @@ ghost use Rattle.mate_journal.specs.Stores as journal;
 ghost use Rattle.audit_rules.specs.Same.{same_values as are_same};
 ghost use Rattle.audit_rules.specs.Shown as told;
 ghost use Rattle.audit_rules.specs.Shown.{HasLengthsOf, all_below};
-ghost use Rattle.audit_roll.specs.Views.{seat_in, roll_in};
+ghost use Rattle.audit_rules.specs.Views.{seat_in, roll_in};
 ghost use Rattle.audit_programs.specs.Trials.{IsTried, IsSeatReady, machine_for};
 ghost use Rattle.report_audit.specs.Waiting.{waiting_store};
 
 use crate::same::same_values;
 use audit_programs::{ReadyRoll, Trial};
-use audit_roll::{Seat, Stage};
+use audit_rules::{Seat, Stage};
 use mate_journal::StoreRef;
 use mate_num::{BufId, NoMemory, Resource, Store, VarId};
 use std::alloc::Global;

@@ -6,7 +6,7 @@ ghost use Rattle.mate_journal.specs.Journal.{journal_entry};
 ghost use Rattle.journal_laws.specs.Growth.{IsNamedBelow};
 ghost use Rattle.audit_rules.specs.Shown as told;
 ghost use Rattle.audit_rules.specs.Shown.{HasLengthsOf};
-ghost use Rattle.audit_roll.specs.Views.{roll_in};
+ghost use Rattle.audit_rules.specs.Views.{roll_in};
 ghost use Rattle.audit_programs.specs.Trials.{IsTried, IsSeatReady, machine_for};
 
 use crate::showing::is_store_shown;

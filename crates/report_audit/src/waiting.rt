@@ -6,11 +6,11 @@ ghost use Rattle.arrayvec.specs.ArrayVec.{ArrayVec};
 ghost use Rattle.audit_rules.specs.Granting as told;
 ghost use Rattle.audit_rules.specs.Roll.{is_queued};
 ghost use Rattle.audit_rules.specs.Tests.{conflict_of};
-ghost use Rattle.audit_roll.specs.Views.{seat_in, roll_in};
+ghost use Rattle.audit_rules.specs.Views.{seat_in, roll_in};
 ghost use Rattle.audit_programs.specs.Trials.{IsSeatReady};
 
 use audit_programs::{ReadyRoll, Trial};
-use audit_roll::{Seat, Stage};
+use audit_rules::{Seat, Stage};
 
 /// Whether the other comes before this queued one: it is started, or is queued with a lower number.
 fn is_ahead(queued: &Seat, other: &Seat) -> bool

@@ -5,7 +5,7 @@
 pub mod air;
 pub mod events;
 pub mod hops;
-pub mod installs;
+pub mod installing;
 pub mod text;
 
 pub use air::{
@@ -17,5 +17,7 @@ pub use events::{
     timers_keep_their_rules,
 };
 pub use hops::{injected_versions_arrive, scripts_keep_the_bound, versions_spread};
-pub use installs::{installs_are_injected, installs_are_taken, lines_come_in_order, versions_rise};
+pub use installing::{
+    installs_are_injected, installs_are_taken, lines_come_in_order, versions_rise,
+};
 pub use text::text_grows_by_events;

@@ -1,7 +1,7 @@
 use Rattle.std.proofs.Common.{sym, ◌∙◌}
 use Rattle.audit_rules.specs.Rerun.{is_undisturbed}
 use Rattle.audit_rules.specs.Tests.{conflict_of}
-use Rattle.audit_roll.specs.Views.{seat_in}
+use Rattle.audit_rules.specs.Views.{seat_in}
 use Rattle.audit_programs.specs.Trials.{machine_for}
 use Rattle.audit_programs.proofs.LoopLemmas.{shown, all-more, all-fails}
 use Rattle.report_audit.proofs.ending.all_undisturbed.Goals as goal

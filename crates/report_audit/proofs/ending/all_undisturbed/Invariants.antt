@@ -2,7 +2,7 @@ use Rattle.std.proofs.Common.{◌≡◌, true, map, take}
 use Rattle.std.specs.List.{list_all}
 use Rattle.audit_rules.specs.Rerun.{is_undisturbed}
 use Rattle.audit_rules.specs.Tests.{conflict_of}
-use Rattle.audit_roll.specs.Views.{seat_in}
+use Rattle.audit_rules.specs.Views.{seat_in}
 use Rattle.audit_programs.specs.Trials.{machine_for}
 use Rattle.report_audit.proofs.ending.all_undisturbed.Given as goal
 

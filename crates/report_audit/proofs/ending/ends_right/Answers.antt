@@ -3,7 +3,7 @@ use Rattle.std.specs.Prelude.{unwrap_or}
 use Rattle.mate_num.specs.declared.outcome.Outcome.{Outcome}
 use Rattle.audit_rules.specs.Shown.{HasLengthsOf}
 use Rattle.audit_rules.specs.Tests.{conflict_of}
-use Rattle.audit_roll.specs.Views.{seat_in, roll_in}
+use Rattle.audit_rules.specs.Views.{seat_in, roll_in}
 use Rattle.audit_programs.specs.Trials.{machine_for}
 use Rattle.report_audit.proofs.EndLemmas.{ended-by, ended-not, ended-wrong, ended-right}
 use Rattle.report_audit.proofs.ending.ends_right.Goals as goal

@@ -2,7 +2,7 @@ use Rattle.std.proofs.Common.{◌≡◌, ℕ, false, Option, Some, refl, sym, �
 use Rattle.mate_num.specs.declared.store.Store.{Store}
 use Rattle.audit_rules.specs.Rerun.{ends_right, run_on}
 use Rattle.audit_rules.specs.Tests.{conflict_of}
-use Rattle.audit_roll.specs.Views.{seat_in, roll_in}
+use Rattle.audit_rules.specs.Views.{seat_in, roll_in}
 use Rattle.audit_programs.specs.Trials.{machine_for}
 use Rattle.audit_programs.proofs.LoopLemmas.{shown, all-fails}
 use Rattle.report_audit.proofs.EndLemmas.{HasEnded, ended-here, ended-other}

@@ -4,7 +4,7 @@ use Rattle.std.specs.List.{list_all}
 use Rattle.audit_rules.specs.Rerun.{ends_right, store_left}
 use Rattle.audit_rules.specs.Shown.{HasLengthsOf}
 use Rattle.audit_rules.specs.Tests.{conflict_of}
-use Rattle.audit_roll.specs.Views.{seat_in, roll_in}
+use Rattle.audit_rules.specs.Views.{seat_in, roll_in}
 use Rattle.audit_programs.specs.Trials.{machine_for}
 use Rattle.report_audit.proofs.ending.run_end.Given as goal
 

@@ -5,7 +5,7 @@ use Rattle.mate_journal.specs.declared.entry.Entry.{Entry}
 use Rattle.audit_rules.specs.Rerun.{runs_right, serial_after}
 use Rattle.audit_rules.specs.Shown.{HasLengthsOf}
 use Rattle.audit_rules.specs.Tests.{conflict_of}
-use Rattle.audit_roll.specs.Views.{roll_in}
+use Rattle.audit_rules.specs.Views.{roll_in}
 use Rattle.audit_programs.specs.Trials.{machine_for}
 use Rattle.report_audit.proofs.replay.run_at.Goals as goal
 

@@ -3,7 +3,7 @@ use Rattle.std.specs.Prelude.{◌||◌, not}
 use Rattle.std.specs.List.{list_all}
 use Rattle.mate_journal.specs.Journal.{is_started}
 use Rattle.audit_rules.specs.Rerun.{is_so_far}
-use Rattle.audit_roll.specs.Views.{seat_in}
+use Rattle.audit_rules.specs.Views.{seat_in}
 use Rattle.audit_programs.specs.Trials.{machine_for}
 use Rattle.report_audit.proofs.rerun.all_so_far.Given as goal
 

@@ -1,7 +1,7 @@
 use Rattle.std.proofs.Common.{◌∙◌, ap}
 use Rattle.mate_num.specs.declared.outcome.Outcome.{Outcome}
 use Rattle.audit_rules.specs.Rerun.{outcome_is_so_far}
-use Rattle.audit_roll.specs.Views.{seat_in}
+use Rattle.audit_rules.specs.Views.{seat_in}
 use Rattle.report_audit.proofs.rerun.is_so_far.Goals as goal
 
 pub returns : goal.returns

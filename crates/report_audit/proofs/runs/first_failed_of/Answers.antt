@@ -9,7 +9,7 @@ use Rattle.audit_rules.specs.Rerun.{runs_right, serial_after}
 use Rattle.audit_rules.specs.Roll as told
 use Rattle.audit_rules.specs.Shown.{shows_right}
 use Rattle.audit_rules.specs.Tests.{conflict_of}
-use Rattle.audit_roll.specs.Views.{roll_in}
+use Rattle.audit_rules.specs.Views.{roll_in}
 use Rattle.audit_programs.specs.Trials.{machine_for}
 use Rattle.audit_programs.proofs.TrialLemmas.{seats-ready, named-below}
 use Rattle.report_audit.proofs.FoldLemmas.{Stands-next, entry-told}

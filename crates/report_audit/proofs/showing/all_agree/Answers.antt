@@ -1,6 +1,6 @@
 use Rattle.std.proofs.Common.{sym}
 use Rattle.audit_rules.specs.Shown.{agrees_at}
-use Rattle.audit_roll.specs.Views.{seat_in}
+use Rattle.audit_rules.specs.Views.{seat_in}
 use Rattle.audit_programs.specs.Trials.{machine_for}
 use Rattle.audit_programs.proofs.LoopLemmas.{shown, all-more, all-fails}
 use Rattle.report_audit.specs.Waiting.{waiting_store}

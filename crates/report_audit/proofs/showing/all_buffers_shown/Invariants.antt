@@ -1,7 +1,7 @@
 use Rattle.std.proofs.Common.{◌≡◌, ℕ, true}
 use Rattle.mate_num.specs.declared.resource.Resource.TheVariants as cell
 use Rattle.audit_rules.specs.Shown.{all_below, is_shown_at}
-use Rattle.audit_roll.specs.Views.{roll_in}
+use Rattle.audit_rules.specs.Views.{roll_in}
 use Rattle.audit_programs.specs.Trials.{machine_for}
 use Rattle.report_audit.proofs.showing.all_buffers_shown.Given as goal
 

@@ -1,6 +1,6 @@
 use Rattle.std.proofs.Common.{sym}
 use Rattle.audit_rules.specs.Shown.{writes_at}
-use Rattle.audit_roll.specs.Views.{seat_in}
+use Rattle.audit_rules.specs.Views.{seat_in}
 use Rattle.audit_programs.specs.Trials.{IsSeatReady, machine_for}
 use Rattle.audit_programs.proofs.LoopLemmas.{shown, past-shown, of-all, any-more, any-found, any-done}
 use Rattle.report_audit.proofs.showing.is_written.Goals as goal

@@ -1,7 +1,7 @@
 use Rattle.std.proofs.Common.{◌≡◌, false, map, take}
 use Rattle.std.specs.List.{list_any}
 use Rattle.audit_rules.specs.Shown.{writes_at}
-use Rattle.audit_roll.specs.Views.{seat_in}
+use Rattle.audit_rules.specs.Views.{seat_in}
 use Rattle.audit_programs.specs.Trials.{machine_for}
 use Rattle.report_audit.proofs.showing.is_written.Given as goal
 

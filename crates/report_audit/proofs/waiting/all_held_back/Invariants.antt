@@ -4,7 +4,7 @@ use Rattle.std.specs.List.{list_all}
 use Rattle.audit_rules.specs.Granting.{is_held_back}
 use Rattle.audit_rules.specs.Roll.{is_queued}
 use Rattle.audit_rules.specs.Tests.{conflict_of}
-use Rattle.audit_roll.specs.Views.{seat_in, roll_in}
+use Rattle.audit_rules.specs.Views.{seat_in, roll_in}
 use Rattle.report_audit.proofs.waiting.all_held_back.Given as goal
 
 abbrev pub invariant-loop-seat : goal.invariant-loop-seat

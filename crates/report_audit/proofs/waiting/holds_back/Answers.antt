@@ -1,7 +1,7 @@
 use Rattle.std.proofs.Common.{◌∙◌, Bool, ap}
 use Rattle.std.specs.Prelude.{◌&&◌}
 use Rattle.audit_rules.specs.Tests.{conflict_of}
-use Rattle.audit_roll.specs.Views.{seat_in}
+use Rattle.audit_rules.specs.Views.{seat_in}
 use Rattle.report_audit.proofs.waiting.holds_back.Goals as goal
 
 pub returns-then-is_ahead : goal.returns-then-is_ahead

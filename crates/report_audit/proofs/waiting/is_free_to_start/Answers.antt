@@ -3,7 +3,7 @@ use Rattle.std.specs.Prelude.{◌||◌, ◌==◌, not}
 use Rattle.audit_rules.specs.Granting.{is_held_back}
 use Rattle.audit_rules.specs.Roll as told
 use Rattle.audit_rules.specs.Tests.{conflict_of}
-use Rattle.audit_roll.specs.Views.{seat_in, roll_in}
+use Rattle.audit_rules.specs.Views.{seat_in, roll_in}
 use Rattle.audit_programs.specs.Trials.{IsSeatReady}
 use Rattle.audit_programs.proofs.LoopLemmas.{shown, past-shown, of-all, all-more, all-fails, all-done}
 use Rattle.report_audit.proofs.waiting.is_free_to_start.Goals as goal

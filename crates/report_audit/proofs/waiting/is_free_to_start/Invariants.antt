@@ -3,7 +3,7 @@ use Rattle.std.specs.Prelude.{◌||◌, ◌==◌, not}
 use Rattle.std.specs.List.{list_all}
 use Rattle.audit_rules.specs.Granting.{is_held_back}
 use Rattle.audit_rules.specs.Tests.{conflict_of}
-use Rattle.audit_roll.specs.Views.{seat_in, roll_in}
+use Rattle.audit_rules.specs.Views.{seat_in, roll_in}
 use Rattle.report_audit.proofs.waiting.is_free_to_start.Given as goal
 
 abbrev pub invariant-loop-seat : goal.invariant-loop-seat

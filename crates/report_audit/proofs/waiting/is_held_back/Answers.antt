@@ -1,7 +1,7 @@
 use Rattle.std.proofs.Common.{sym}
 use Rattle.audit_rules.specs.Granting.{holds_back}
 use Rattle.audit_rules.specs.Tests.{conflict_of}
-use Rattle.audit_roll.specs.Views.{seat_in}
+use Rattle.audit_rules.specs.Views.{seat_in}
 use Rattle.audit_programs.specs.Trials.{IsSeatReady}
 use Rattle.audit_programs.proofs.LoopLemmas.{shown, past-shown, of-all, any-more, any-found, any-done}
 use Rattle.report_audit.proofs.waiting.is_held_back.Goals as goal

@@ -1,4 +1,4 @@
-use Rattle.audit_roll.specs.Views.{seat_in}
+use Rattle.audit_rules.specs.Views.{seat_in}
 use Rattle.audit_programs.proofs.ReadyLemmas.{conflict-told}
 use Rattle.audit_programs.proofs.ready_roll.ReadyRoll.conflict.Goals as goal
 

@@ -5,8 +5,8 @@ use Rattle.mate_journal.specs.Journal.{JournalEntry, journal_entry}
 use Rattle.mate_journal.specs.declared.entry.Stamped.{Stamped}
 use Rattle.audit_rules.specs.Roll.{rolled}
 use Rattle.audit_rules.proofs.InstalledLemmas.{LiveAreInstalled-step}
-use Rattle.audit_roll.specs.Views.{roll_in}
-use Rattle.audit_roll.specs.declared.roll.Roll.{Roll}
+use Rattle.audit_rules.specs.Views.{roll_in}
+use Rattle.audit_rules.specs.declared.roll.Roll.{Roll}
 use Rattle.audit_programs.specs.Ready.{installed_programs}
 use Rattle.audit_programs.specs.Trials.{AreReady, machine_for, told_at}
 use Rattle.audit_programs.specs.declared.ready_roll.ReadyRoll.{ReadyRoll}

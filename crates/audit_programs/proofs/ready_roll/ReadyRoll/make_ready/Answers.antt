@@ -4,7 +4,7 @@ use Rattle.mate_journal.specs.Machine.{HeldProgram}
 use Rattle.mate_journal.specs.Tidy.{IsEntryInRange}
 use Rattle.mate_journal.specs.declared.entry.Entry.{Entry}
 use Rattle.audit_rules.specs.Roll as told
-use Rattle.audit_roll.specs.Views.{roll_in}
+use Rattle.audit_rules.specs.Views.{roll_in}
 use Rattle.audit_programs.specs.Ready.{installed_programs}
 use Rattle.audit_programs.specs.Naming.{named_program}
 use Rattle.audit_programs.specs.Trials.{AreReady}

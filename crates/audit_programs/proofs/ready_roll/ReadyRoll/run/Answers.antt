@@ -1,6 +1,6 @@
 use Rattle.std.proofs.Common.{◌∙◌, List, map, ap}
 use Rattle.mate_num.specs.declared.call.Call.{Call}
-use Rattle.audit_roll.specs.Views.{seat_in}
+use Rattle.audit_rules.specs.Views.{seat_in}
 use Rattle.audit_programs.proofs.ReadyLemmas.{run-told, run-lengths}
 use Rattle.audit_programs.proofs.ready_roll.ReadyRoll.run.Goals as goal
 

@@ -1,5 +1,5 @@
 use Rattle.std.proofs.Common.{◌∙◌}
-use Rattle.audit_roll.specs.Views.{seat_in}
+use Rattle.audit_rules.specs.Views.{seat_in}
 use Rattle.audit_programs.proofs.ReadyLemmas.{writes-told}
 use Rattle.audit_programs.proofs.ready_roll.ReadyRoll.writes.Goals as goal
 

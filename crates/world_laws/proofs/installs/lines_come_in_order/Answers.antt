@@ -1,5 +1,0 @@
-use Rattle.world_laws.proofs.Lines.{lines_in_order}
-use Rattle.world_laws.proofs.installs.lines_come_in_order.Goals as goal
-
-pub returns : goal.returns
-returns c = λ w timely. lines_in_order w timely
