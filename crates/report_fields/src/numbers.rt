@@ -108,7 +108,7 @@ fn negative(n: u64) -> Option<i16>
     if n == 0 || n > 32768 {
         return None;
     }
-    Some(-((n - 1) as i16) - 1)
+    Some(-1 - (n - 1) as i16)
 }
 
 fn positive(n: u64) -> Option<i16>
