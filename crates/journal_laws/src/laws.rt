@@ -1,5 +1,5 @@
 //! The laws of journals. Each is what a function promises that does nothing. A journal here is one that is well
-//! formed and keeps the grant rule, from before anything was heard.
+//! formed and keeps the grant rule, from its first entry on.
 
 ghost use Rattle.std.specs.Prelude.{List};
 ghost use Rattle.mate_journal.specs.Machine.{Machine};
@@ -42,7 +42,7 @@ pub fn reads_devices_in_order()
         ReadsDevicesInOrder device_of es }
 {}
 
-/// Wherever no start follows, some invocation is ready, or one waits for the outside, or none is live.
+/// At each place, if no start follows, some invocation is ready, or one waits for an answer, or none is live.
 pub fn is_never_stuck()
     ensures { (m : Machine) (es : List TimedEntry) →
         IsWellFormed m (first_state m) es → GrantsInOrder m (first_state m) 0 es → IsNeverStuck m (first_state m) es }

@@ -11,7 +11,7 @@ pub fn waits_are_apart()
     ensures small { (m : Machine) → JournalsWaitSmall m }
 {}
 
-/// Behind a well-formed journal an invocation that waits stays as it is, until an entry answers it or begins an era.
+/// After a well-formed journal an invocation that waits stays as it is, until an entry answers it or begins an era.
 pub fn waiting_goes_on()
     ensures { (m : Machine) → WaitingGoesOn m }
 {}
@@ -23,7 +23,7 @@ pub fn settling_leaves_waiting()
     ensures awaits { (m : Machine) → SettlingAwaits m }
 {}
 
-/// While the turns of a node settle, at most 32 entries are told.
+/// While the turns of a node settle, at most 32 entries are made.
 pub fn settling_tells_few()
     ensures { (m : Machine) → SettlingTellsFew m }
 {}

@@ -13,13 +13,7 @@ use Rattle.mate_code.specs.Run.{Code, fetch}
 
 -- why code is refused, and at which place; or the length of code that is too long
 pub data Refusal : Type 0 where
-  Decode : (place : ℕ) → Refusal
-  BadTarget : (place : ℕ) → Refusal
-  BackJump : (place : ℕ) → Refusal
-  Underflow : (place : ℕ) → Refusal
-  Overflow : (place : ℕ) → Refusal
-  DepthDiffers : (place : ℕ) → Refusal
-  BadIndex : (place : ℕ) → Refusal
+  Decode BadTarget BackJump Underflow Overflow DepthDiffers BadIndex : (place : ℕ) → Refusal
   NoHalt : Refusal
   TooLong : (len : ℕ) → Refusal
 
@@ -119,8 +113,7 @@ unless (Some refusal) rest = Err refusal
 -- the pass over the rest of the code
 unfoldable pub pass : Shape → Code → Marks → Code → Result Marks Refusal
 pass shape code marks [] = Ok marks
-pass shape code marks (p ∷ rest) =
-    unless (refusal_at shape code marks p.0 p.1) (pass shape code (instr_marks shape p.0 p.1 marks) rest)
+pass shape code marks (p ∷ rest) = unless (refusal_at shape code marks p.0 p.1) (pass shape code (instr_marks shape p.0 p.1 marks) rest)
 
 -- the last instruction halts
 abbrev pub is_end : Flow → Bool

@@ -16,10 +16,8 @@ WhereTold told P = MatchOption told ⊤ P
 
 -- what a read of `name` gives, where the count of faults was `before` and is `now`
 abbrev pub ReadGives : Option Names → Bool → List ℕ → ℕ → ℕ → Result (Vec ℕ) FilesFault → Type 0
-ReadGives told steady name before now (Ok bytes) =
-    (length bytes.items ≤ FILE_MAX) × WhereTold told (λ names. names name ≡ Some bytes.items)
-ReadGives told steady name before now (Err Failed) =
-    Rose before now × (IsTrue steady → WhereTold told (λ names. names name ≡ None))
+ReadGives told steady name before now (Ok bytes) = (length bytes.items ≤ FILE_MAX) × WhereTold told (λ names. names name ≡ Some bytes.items)
+ReadGives told steady name before now (Err Failed) = Rose before now × (IsTrue steady → WhereTold told (λ names. names name ≡ None))
 ReadGives told steady name before now (Err (TooLarge len)) =
     Rose before now × (FILE_MAX < len) × WhereTold told (λ names. IsSomeAnd (names name) (λ bytes. length bytes ≡ len))
 ReadGives told steady name before now (Err NoMemory) = ⊤

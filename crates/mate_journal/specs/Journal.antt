@@ -87,9 +87,7 @@ journal_of l = map (λ e. record { stamp = e.stamp; told = journal_entry l e.ent
 
 -- the phase of an invocation: not yet posted, queued for its locks, ready to run, waiting for an answer, or over
 pub data Phase : Type 0 where
-  Unposted : Phase
-  Queued : Phase
-  Ready : Phase
+  Unposted Queued Ready : Phase
   Waiting : (fun : FunId) (args : ArrayVec ℤ) → Phase
   Over : Phase
 
@@ -178,7 +176,6 @@ abbrev pub next_state : Machine → NodeState → JournalEntry → NodeState
 next_state m r (Posted n h c payload) =
     let i = new_invocation h c (unwrap_or (r.installed h) no_program) payload in
     record r { posts = n; invocations = changed r.invocations n i }
-next_state m r (Dropped h cause) = r
 next_state m r (Started n) = record r { invocations = changed r.invocations n (in_phase Ready (r.invocations n)) }
 next_state m r (Asked n f args) = record r { invocations = changed r.invocations n (in_phase (Waiting f args) (r.invocations n)) }
 next_state m r (Answered n value) =
@@ -188,8 +185,7 @@ next_state m r (Ended n how) =
     record r { serial = (whole_run m r n).store; invocations = changed r.invocations n (in_phase Over (r.invocations n)) }
 next_state m r (Installed p) = record (new_era m r) { installed = λ h. if h.0 == p.handler.0 then Some p else r.installed h }
 next_state m r Reset = new_era m r
-next_state m r (Seen store) = r
-next_state m r (Void cause) = r
+next_state m r _ = r
 
 -- the state after a list of entries with their stamps
 abbrev pub state_after_all : Machine → NodeState → List TimedEntry → NodeState

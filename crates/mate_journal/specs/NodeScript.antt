@@ -21,8 +21,7 @@ pub data Step : Type 0 where
   StepIn : (context : ContextId) (instructions : ℕ) → Step
   Run : Step
   Answer : (context : ContextId) (value : ℤ) → Step
-  Show : Step
-  ResetNode : Step
+  Show ResetNode : Step
 
 -- an event begins only if fewer records are before it
 abbrev pub records_max : ℕ
@@ -141,14 +140,11 @@ HaveMade Ends m records n r p (step ∷ steps) es =
     (records < records_max)
     × (told : List JournalEntry) × (rest : List TimedEntry) × (then : Pace)
     × (es ≡ map (made_at n) told ++ rest)
-    × Makes m r p step told then
-    × HaveMade Ends m (records + length told) (suc n) (state_after_entries m r told) then steps rest
+    × Makes m r p step told then × HaveMade Ends m (records + length told) (suc n) (state_after_entries m r told) then steps rest
 
 -- how a run ends: it is whole, its log is full, or it was cut from outside after a step
 pub data RunEnd : Type 0 where
-  Whole : RunEnd
-  Full : RunEnd
-  Cut : RunEnd
+  Whole Full Cut : RunEnd
 
 -- the last entries, if these steps are left before event n: a whole run has none left, and ends with the store seen
 -- under the next number; a full one stops before a step, if 1,000,000 entries or more are before it

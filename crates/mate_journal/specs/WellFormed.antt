@@ -7,7 +7,7 @@ use Rattle.mate_num.specs.declared.call.Stamp.{Stamp}
 use Rattle.mate_num.specs.declared.id.ContextId.{ContextId}
 use Rattle.mate_num.specs.declared.id.FunId.{FunId}
 use Rattle.mate_journal.specs.Machine.{Machine, IsContextOf}
-use Rattle.mate_journal.specs.Journal.{JournalEntry, Posted, Dropped, Started, Asked, Answered, Ended, Installed, Reset, Seen, Void, TimedEntry, Queued, Ready, Waiting, is_live, NodeState, AtEachEntry}
+use Rattle.mate_journal.specs.Journal.{JournalEntry, Posted, Started, Asked, Answered, Ended, TimedEntry, Queued, Ready, Waiting, is_live, NodeState, AtEachEntry}
 
 -- no live invocation has the context
 abbrev pub IsIdle : NodeState → ContextId → Type 0
@@ -27,24 +27,19 @@ pub record IsWaiting (r : NodeState) (n : ℕ) : Type 0 where
 
 -- an end that closes an invocation: it halted or faulted
 abbrev pub Closes : End → Type 0
-Closes end.Halt = Unit {0}
-Closes (end.Fault kind) = Unit {0}
 Closes (end.Wants fun args) = ⊥
+Closes _ = Unit {0}
 
 -- Posts are numbered from 1, go to a handler for which something is installed, and take a context of it that no
 -- live invocation has. A queued invocation starts once; a started one asks, is answered, and so on in turn; it
 -- ends while it isn't waiting. After its end, or its era's, nothing more is recorded of an invocation.
 abbrev pub MayFollow : Machine → NodeState → JournalEntry → Type 0
 MayFollow m r (Posted n h c payload) = (n ≡ suc r.posts) × IsSome (r.installed h) × IsContextOf m h c × IsIdle r c
-MayFollow m r (Dropped h cause) = Unit {0}
 MayFollow m r (Started n) = (r.invocations n).phase ≡ Queued
 MayFollow m r (Asked n f args) = (r.invocations n).phase ≡ Ready
 MayFollow m r (Answered n value) = IsWaiting r n
 MayFollow m r (Ended n how) = ((r.invocations n).phase ≡ Ready) × Closes how
-MayFollow m r (Installed p) = Unit {0}
-MayFollow m r Reset = Unit {0}
-MayFollow m r (Seen store) = Unit {0}
-MayFollow m r (Void cause) = Unit {0}
+MayFollow m r _ = Unit {0}
 
 -- neither the number nor the time of the event falls, and one event has one time
 pub record NotBefore (old new : Stamp) : Type 0 where

@@ -1,4 +1,4 @@
-//! What a node's run is told by: entries, logs and reports, and what a right journal is.
+//! What records a node's run: entries, logs and reports; and what a right journal is.
 #![tactic(auto)]
 
 pub mod air;

@@ -175,7 +175,7 @@ impl NodeLog {
         });
     }
 
-    /// Keeps that many of each list from the front, or all where there are fewer.
+    /// Keeps that many of each list from the front, or all if there are fewer.
     pub fn cut(&mut self, entries: usize, images: usize, stores: usize)
         ensures entries { self.new.entries ≡ take entries self.old.entries }
         ensures images { self.new.images ≡ take images self.old.images }

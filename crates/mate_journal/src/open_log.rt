@@ -12,8 +12,8 @@ use std::alloc::Global;
 use std::marker::Model;
 use std::mem;
 
-/// What happened on one node, in order. After a `reserve` it is written without memory. Contracts see all of it; memory has
-/// what was told since the last `forget`.
+/// What happened on one node, in order. After a `reserve` it is written without memory. Contracts see all of it; in memory are
+/// the entries since the last `forget`.
 #[derive(Drop)]
 pub struct OpenLog {
     past: Past,
@@ -46,7 +46,7 @@ impl OpenLog {
         }
     }
 
-    /// How many entries were told.
+    /// How many entries were recorded.
     pub fn told(&self) -> usize
         ensures { result ≡ length self.now.all.entries }
     {
@@ -109,7 +109,7 @@ impl OpenLog {
         self.kept.push_install(at, handler, version, image);
     }
 
-    /// Forgets all that was told until now: its memory is free for what comes.
+    /// Forgets all entries so far: their memory is free for those that come.
     pub fn forget(&mut self)
         requires { length self.old.all.entries < 4000000000 }
         ensures same { IsSameLog self.new.all self.old.all }
@@ -121,7 +121,7 @@ impl OpenLog {
         self.kept.cut(0, 0, 0);
     }
 
-    /// Where all was forgotten: takes the room of another empty log, and leaves that one its own. So one room serves many logs
+    /// If all was forgotten: takes the room of another empty log, and leaves that one its own. So one room serves many logs
     /// that are written in turn.
     pub fn trade(&mut self, room: &mut NodeLog)
         requires gone { self.old.gone ≡ gone_of self.old.all }
@@ -133,14 +133,14 @@ impl OpenLog {
         mem::swap(&mut self.kept, room);
     }
 
-    /// What was told since the last `forget`.
+    /// The entries since the last `forget`.
     pub fn kept(&self) -> &NodeLog
         ensures { IsKept self.now result.now }
     {
         &self.kept
     }
 
-    /// All that was told, where nothing was forgotten.
+    /// All entries, if nothing was forgotten.
     pub fn whole(&self) -> &NodeLog
         requires { self.now.gone ≡ nothing_gone }
         ensures { result.now ≡ self.now.all }

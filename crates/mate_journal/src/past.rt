@@ -1,4 +1,4 @@
-//! What stood in a log that is forgotten. It exists in proofs alone.
+//! What was in a log that is forgotten. It exists in proofs alone.
 
 ghost use Rattle.std.specs.Prelude.{◌≡◌};
 ghost use Rattle.std.specs.Borrow.{ftrue};
@@ -8,7 +8,7 @@ ghost use Rattle.mate_journal.specs.OpenLog.{nothing, joined};
 use crate::NodeLog;
 use std::marker::Model;
 
-/// A log that stands nowhere in memory. It takes no bytes, and nothing is known of it but what clauses say.
+/// A log that is nowhere in memory. It takes no bytes, and nothing is known of it but what clauses say.
 #[derive(Drop)]
 pub struct Past {
     pub ghost log: { Log },

@@ -4,8 +4,8 @@ use crate::shared_script::SharedScript;
 use crate::stored_image::StoredImage;
 use mate_num::{HandlerId, Items};
 
-/// A program: the image of a capsule for the handler, with its source where the program was compiled, and without
-/// one where the image was loaded. Programs of one file share their source.
+/// A program: the image of a capsule for the handler, with its source if the program was compiled, and without
+/// one if the image was loaded. Programs of one file share their source.
 pub struct Program {
     pub handler: HandlerId,
     /// 1 to 4294967295.

@@ -131,13 +131,13 @@ impl Report {
     }
 }
 
-/// An event is begun only where fewer records stand before it.
+/// An event begins only if fewer records are before it.
 pub const RECORDS_MAX: usize = 1_000_000;
 
 /// Why a run gave no whole report.
 #[derive(Drop)]
 pub enum RunFault {
-    /// 1,000,000 records or more stood, and an event was left: the report so far.
+    /// There were 1,000,000 records or more, and an event was left: the report so far.
     LogFull(Report),
     /// Memory was refused.
     NoMemory,
@@ -147,7 +147,7 @@ pub enum RunFault {
 /// the events that ended.
 #[derive(Drop)]
 pub enum IntoFault {
-    /// 1,000,000 records or more stood, and an event was left. The report was written whole.
+    /// There were 1,000,000 records or more, and an event was left. The report was written whole.
     LogFull(Report),
     /// Memory was refused, to the run or to the sink.
     NoMemory(Report),

@@ -37,7 +37,7 @@ impl SharedScript {
         }
     }
 
-    /// The same source for one owner more. `NoMemory` comes only where a machine word doesn't count the owners.
+    /// The same source for one owner more. `NoMemory` comes only if a machine word doesn't count the owners.
     pub fn share(&self) -> Result<SharedScript, NoMemory>
         ensures { IfOk result (λ shared. shared ≡ self.now) }
     {

@@ -5,10 +5,10 @@ use Rattle.mate_num.specs.declared.bounds.TheConstants.{SHARED_MAX, BUFFERS_MAX,
 use Rattle.vm_desc.specs.Names.{between, is_name, first_repeat}
 use Rattle.vm_desc.specs.declared.handler.Handler.{Handler}
 use Rattle.vm_desc.specs.declared.handler.HandlerKind.{HandlerKind}
-use Rattle.vm_desc.specs.declared.handler.HandlerKind.TheVariants.{Plain, Timer, Receive, Once}
+use Rattle.vm_desc.specs.declared.handler.HandlerKind.TheVariants.{Timer}
 use Rattle.vm_desc.specs.declared.function.Function.{Function}
 use Rattle.vm_desc.specs.declared.function.FunKind.{FunKind}
-use Rattle.vm_desc.specs.declared.function.FunKind.TheVariants.{Sense, Act, Send, Id, Rand, Clock}
+use Rattle.vm_desc.specs.declared.function.FunKind.TheVariants.{Act}
 use Rattle.vm_desc.specs.declared.settings.TrickleSet.{TrickleSet}
 use Rattle.vm_desc.specs.declared.settings.RadioSet.{RadioSet}
 use Rattle.mate_num.specs.Shapes.{is_device}
@@ -28,22 +28,16 @@ pub record Parts : Type 0 where
 
 -- a timer's period is from 1 to 3,600,000 ms
 abbrev pub is_kind : HandlerKind → Bool
-is_kind Plain = true
 is_kind (Timer period) = between 1 HOUR period
-is_kind Receive = true
-is_kind Once = true
+is_kind _ = true
 
 abbrev pub is_handler : Handler → Bool
 is_handler h = (is_name h.name && is_kind h.kind) && between 1 4 h.contexts
 
 -- how many values a function takes, other than a buffer
 abbrev pub function_args : FunKind → ℕ
-function_args Sense = 0
 function_args (Act args) = args
-function_args Send = 0
-function_args Id = 0
-function_args Rand = 0
-function_args Clock = 0
+function_args _ = 0
 
 abbrev pub is_function : ℕ → Function → Bool
 is_function devices f = ((is_name f.name && nat_le (function_args f.kind) 4) && is_device devices f.device) && between 1 60000 f.latency

@@ -5,17 +5,13 @@ use Rattle.mate_num.specs.declared.shape.Shape.{Shape}
 use Rattle.vm_desc.specs.Limits.{function_args}
 use Rattle.vm_desc.specs.declared.function.Function.{Function}
 use Rattle.vm_desc.specs.declared.function.FunKind.{FunKind}
-use Rattle.vm_desc.specs.declared.function.FunKind.TheVariants.{Sense, Act, Send, Id, Rand, Clock}
+use Rattle.vm_desc.specs.declared.function.FunKind.TheVariants.{Send}
 use Rattle.vm_desc.specs.declared.description.Description.{Description}
 
 -- the function sends a buffer
 abbrev pub sends_buffer : FunKind → Bool
-sends_buffer Sense = false
-sends_buffer (Act args) = false
 sends_buffer Send = true
-sends_buffer Id = false
-sends_buffer Rand = false
-sends_buffer Clock = false
+sends_buffer _ = false
 
 -- what the code knows of a function
 abbrev pub fun_shape : Function → FunShape
