@@ -82,20 +82,6 @@ impl Verified {
         self.instrs.instrs()
     }
 
-    /// The same code. It takes no memory.
-    pub fn copy(&self) -> Verified
-        ensures { result ≡ self.now }
-    {
-        let Ok(bytes) = Code::try_from(self.bytes.as_slice()) else {
-            unreachable!()
-        };
-        Verified {
-            shape: self.shape.copy(),
-            bytes,
-            instrs: self.instrs.copy(),
-        }
-    }
-
     // Verifies the bytes for machines of this shape.
     pub(crate) fn new(table: &Table, shape: Shape, bytes: &[u8]) -> Result<Verified, VerifyFault>
         requires { table.now ≡ table_of shape }
