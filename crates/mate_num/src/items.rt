@@ -1,6 +1,7 @@
 //! A list that grows: the type behind every list of the product that takes memory.
 
-ghost use Rattle.std.specs.Prelude.{◌≡◌, ◌∷◌, ◌++◌, List, [], length, take, MatchResult, IfOk, slice_get, IsTrue, ◌↔◌};
+ghost use Rattle.std.specs.Prelude.{◌≡◌, ◌<◌, ◌∷◌, ◌++◌, List, [], length, take, MatchResult, IfOk, OnOk, slice_get, IsTrue, ◌↔◌};
+ghost use Rattle.std.specs.Vec.{vec_len, vec_capacity};
 ghost use Rattle.std.specs.Option.{option_copied};
 
 use crate::no_memory::NoMemory;
@@ -61,10 +62,11 @@ impl<T> Items<T> {
         T: Drop,
         ensures { MatchResult result (λ _. self.new ≡ self.old ++ item ∷ []) (λ _. self.new ≡ self.old) }
     {
-        if self.items.is_empty() {
-            self.items.reserve_exact(1)?;
+        // (where there is room, the item is written in its place at once)
+        if self.items.len() >= self.items.capacity() {
+            make_room(&mut self.items)?;
         }
-        self.items.push(item)?;
+        self.items.push_reserved(item);
         Ok(())
     }
 
@@ -76,4 +78,18 @@ impl<T> Items<T> {
     {
         self.items.truncate(count);
     }
+}
+
+/// Makes room for an item more at least: for one alone if it is the first.
+#[inline(never)]
+fn make_room<T>(items: &mut Vec<T>) -> Result<(), NoMemory>
+    ensures same { items.new.items ≡ items.old.items }
+    ensures room { OnOk result (vec_len items.new < vec_capacity items.new) }
+{
+    if items.is_empty() {
+        items.reserve_exact(1)?;
+    } else {
+        items.reserve(1)?;
+    }
+    Ok(())
 }
