@@ -6,8 +6,8 @@ use mate_num::FILE_MAX;
 use mate_steps::{SourceRefusal, accept};
 use std::alloc::{AllocError, Global};
 use ts_checked::Checked;
-use ts_parser::SourceFault;
 use ts_checker::CheckFault;
+use ts_parser::SourceFault;
 use vm_desc::Description;
 
 /// The checked tree of a source, or its first refusal.

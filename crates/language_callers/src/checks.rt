@@ -12,8 +12,7 @@ ghost use Rattle.language_callers.specs.Sources.{word, actuator, private_entry, 
 
 use std::alloc::Global;
 use ts_checked::{CVar, Checked};
-use ts_checker::{CheckFault, check};
-use ts_checker::Scope;
+use ts_checker::{CheckFault, Scope, check};
 use ts_syntax::{Decl, Script, Word};
 use vm_desc::Description;
 
