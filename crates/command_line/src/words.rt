@@ -47,8 +47,10 @@ impl From<AllocError> for WordsFault {
 pub fn read<'a>(alloc: Global, words: &'a [String]) -> Result<CommandLine<'a>, WordsFault>
     ensures { ReadsLine (map string_bytes words.now) result }
 {
-    let matches = matches_of(alloc, words)?;
-    line_in(alloc, &matches)
+    match matches_of(alloc, words) {
+        Ok(matches) => line_in(alloc, &matches),
+        Err(fault) => Err(fault),
+    }
 }
 
 /// What `clap` finds in the words.

@@ -1,8 +1,8 @@
 use Rattle.command_line.proofs.LineLemmas.{read_of, unread_of}
 use Rattle.command_line.proofs.words.read.Goals as goal
 
-pub returns : goal.returns
-returns c = read_of _ _ _ c.in_ok-matches.ensures c.line_in.ensures
+pub returns-in-Ok : goal.returns-in-Ok
+returns-in-Ok c = read_of _ _ _ c.in-Ok.ensures c.line_in.ensures
 
-pub returns-in_err-matches : goal.returns-in_err-matches
-returns-in_err-matches c = unread_of _ _ c.in_err-matches.ensures
+pub returns-in-Err : goal.returns-in-Err
+returns-in-Err c = unread_of _ _ c.in-Err.ensures
