@@ -1,0 +1,3 @@
+pub mod SameLoops
+pub mod EndLemmas
+pub mod ShownLemmas
