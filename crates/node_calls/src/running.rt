@@ -3,12 +3,16 @@
 ghost use Rattle.std.specs.Prelude.{◌≡◌, ◌<◌, true};
 ghost use Rattle.mate_num.specs.declared.bounds.TheConstants.{CONTEXTS_MAX};
 ghost use Rattle.node_contexts.specs.At.{at};
+ghost use Rattle.node_contexts.specs.Executing.{CanExecute, HasTurn};
+ghost use Rattle.node_contexts.specs.Programs.{held_at};
 ghost use Rattle.node_invariant.specs.Starting.{KeepsOrder};
 ghost use Rattle.node_calls.specs.Pacing.{RunsFor};
 
 use exec_unit::Ran;
+use fused_runs::run;
 use mate_num::ContextId;
-use node_contexts::turn;
+use node_contexts::{Contexts, Handlers};
+use node_heap::Heap;
 use node_invariant::Parts;
 use vm_desc::Description;
 
@@ -28,4 +32,28 @@ pub fn run_some(description: &Description, parts: &mut Parts, ctx: ContextId, n:
         ctx,
         n,
     )
+}
+
+// The invocation in the context executes n instructions, or fewer if one of them calls a function or ends it.
+fn turn(
+    contexts: &mut Contexts,
+    handlers: &Handlers,
+    heap: &mut Heap,
+    ctx: ContextId,
+    n: u32,
+) -> Ran
+    requires { CanExecute (held_at handlers.now.programs) contexts.old heap.old ctx }
+    ensures { HasTurn (held_at handlers.now.programs) contexts.old heap.old ctx n result contexts.new heap.new }
+{
+    let place = usize::from(ctx.0);
+    let Some(mut seat) = contexts.seats[place].take() else {
+        unreachable!()
+    };
+    let Some(held) = handlers.get(seat.handler) else {
+        unreachable!()
+    };
+    let ran = run(&held.code, &mut seat.machine, heap, n);
+    seat.count += u64::from(ran.instructions);
+    contexts.seats[place] = Some(seat);
+    ran
 }

@@ -1,17 +1,15 @@
-//! What the invocation in a context does: it executes instructions and takes answers.
+//! The invocation in a context: its number, and the answer that it takes.
 
 ghost use Rattle.std.specs.Prelude.{◌≡◌, ◌<◌, IsSome};
 ghost use Rattle.mate_num.specs.declared.bounds.TheConstants.{CONTEXTS_MAX};
 ghost use Rattle.node_contexts.specs.At.{at as at_context, IsPlaced};
 ghost use Rattle.node_contexts.specs.Programs.{held_at};
-ghost use Rattle.node_contexts.specs.Executing.{CanExecute, HasTurn, CanAnswer, IsAnswered};
+ghost use Rattle.node_contexts.specs.Executing.{CanAnswer, IsAnswered};
 
 use crate::contexts::Contexts;
 use crate::handlers::Handlers;
-use exec_unit::{Ran, resume};
-use fused_runs::run;
+use exec_unit::resume;
 use mate_num::ContextId;
-use node_heap::Heap;
 
 /// The number of the invocation in the context.
 pub fn number(contexts: &Contexts, ctx: ContextId) -> u32
@@ -23,30 +21,6 @@ pub fn number(contexts: &Contexts, ctx: ContextId) -> u32
         unreachable!()
     };
     seat.inv
-}
-
-/// The invocation in the context executes n instructions, or fewer if one of them calls a function or ends it.
-pub fn turn(
-    contexts: &mut Contexts,
-    handlers: &Handlers,
-    heap: &mut Heap,
-    ctx: ContextId,
-    n: u32,
-) -> Ran
-    requires { CanExecute (held_at handlers.now.programs) contexts.old heap.old ctx }
-    ensures { HasTurn (held_at handlers.now.programs) contexts.old heap.old ctx n result contexts.new heap.new }
-{
-    let place = usize::from(ctx.0);
-    let Some(mut seat) = contexts.seats[place].take() else {
-        unreachable!()
-    };
-    let Some(held) = handlers.get(seat.handler) else {
-        unreachable!()
-    };
-    let ran = run(&held.code, &mut seat.machine, heap, n);
-    seat.count += u64::from(ran.instructions);
-    contexts.seats[place] = Some(seat);
-    ran
 }
 
 /// Gives the waiting invocation in the context the answer to its call: it is ready, and has its turn after all others.

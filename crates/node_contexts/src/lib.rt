@@ -1,4 +1,4 @@
-//! The contexts of a node, what is installed for its handlers, and the turns of the invocations in them.
+//! The contexts of a node, what is installed for its handlers, and the answers that the invocations in them take.
 #![tactic(auto)]
 
 pub mod contexts;
@@ -7,6 +7,6 @@ pub mod handlers;
 pub mod seat;
 
 pub use contexts::Contexts;
-pub use executing::{answer, number, turn};
+pub use executing::{answer, number};
 pub use handlers::{Handlers, Held};
 pub use seat::Seat;

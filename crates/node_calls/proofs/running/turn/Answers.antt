@@ -4,7 +4,7 @@ use Rattle.std.proofs.lemmas.Grind.{common_steps}
 use Rattle.node_contexts.specs.declared.seat.Seat.{Seat}
 use Rattle.node_contexts.specs.At.{seat_at}
 use Rattle.node_contexts.proofs.ContextLemmas.{HasTurn-from}
-use Rattle.node_contexts.proofs.executing.turn.Goals as goal
+use Rattle.node_calls.proofs.running.turn.Goals as goal
 
 pub returns : goal.returns
 returns c =
