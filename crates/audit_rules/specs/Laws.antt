@@ -5,7 +5,7 @@ use Rattle.vm_desc.specs.declared.description.Description.{Description}
 use Rattle.mate_journal.specs.Described.{machine_of}
 use Rattle.mate_journal.specs.Devices.{AsksDevicesInOrder}
 use Rattle.mate_journal.specs.Grants.{GrantsInOrder}
-use Rattle.mate_journal.specs.Journal.{JournalEntry, Posted, Dropped, Started, Asked, Answered, Ended, Installed, Reset, Seen, Void, TimedEntry, NodeState}
+use Rattle.mate_journal.specs.Journal.{JournalEntry, Installed, TimedEntry, NodeState}
 use Rattle.mate_journal.specs.Journal.{first_state, held, AtEachEntry}
 use Rattle.mate_journal.specs.Machine.{HeldProgram, Machine}
 use Rattle.mate_journal.specs.Serial.{IsSerial}
@@ -23,15 +23,7 @@ IsOneOf ps h = IsTrue (list_any (is_held_as h) ps)
 -- what is installed is one of the programs, and newer than what was installed for its handler
 abbrev pub InstallsProgram : List Program → NodeState → JournalEntry → Type 0
 InstallsProgram ps r (Installed p) = IsOneOf ps p × (held r p.handler < p.version)
-InstallsProgram ps r (Posted n h c payload) = Unit {0}
-InstallsProgram ps r (Dropped h cause) = Unit {0}
-InstallsProgram ps r (Started n) = Unit {0}
-InstallsProgram ps r (Asked n f args) = Unit {0}
-InstallsProgram ps r (Answered n value) = Unit {0}
-InstallsProgram ps r (Ended n how) = Unit {0}
-InstallsProgram ps r Reset = Unit {0}
-InstallsProgram ps r (Seen store) = Unit {0}
-InstallsProgram ps r (Void cause) = Unit {0}
+InstallsProgram ps r _ = Unit {0}
 
 -- the machine of a description whose programs mean their sources
 abbrev pub machine_by : Description → List Program → Machine

@@ -2,6 +2,7 @@
 
 ghost use Rattle.std.specs.Prelude.{◌≡◌, ◌<◌, ◌≤◌, length};
 ghost use Rattle.std.specs.Option.{SomeIff};
+ghost use Rattle.mate_num.specs.declared.bounds.TheConstants.{FRAGMENTS_MAX};
 ghost use Rattle.capsule_codec.specs.Fragments.{piece_len, count_of, piece_at};
 
 use arrayvec::ArrayVec;
@@ -13,7 +14,7 @@ pub type Piece = ArrayVec<u8, 48>;
 /// How many pieces the image has: 22 at most.
 pub fn count(image: &Image) -> u8
     ensures value { result ≡ count_of image.now.items }
-    ensures high { result ≤ 22 }
+    ensures high { result ≤ FRAGMENTS_MAX }
 {
     image.len().div_ceil(piece_len(image)) as u8
 }

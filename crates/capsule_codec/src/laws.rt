@@ -2,7 +2,7 @@
 
 ghost use Rattle.std.specs.Prelude.{◌≡◌, ℕ, ◌<◌, ◌≤◌, List, length, Ok};
 ghost use Rattle.std.specs.List.{concat};
-ghost use Rattle.mate_num.specs.declared.bounds.TheConstants.{SHORT_IMAGE};
+ghost use Rattle.mate_num.specs.declared.bounds.TheConstants.{FRAGMENTS_MAX, SHORT_IMAGE};
 ghost use Rattle.hex.specs.Hex.{IsBytes};
 ghost use Rattle.vm_desc.specs.declared.description.Description.{Description};
 ghost use Rattle.capsule_codec.specs.Image.{CapsuleParts, capsule_image, IsCapsule, IsOfMachine};
@@ -23,6 +23,6 @@ pub fn pieces_make_the_image()
     ensures whole { (image : List ℕ) → concat (pieces_of image) ≡ image }
     ensures cut { (image : List ℕ) → AreCut (piece_len (length image)) (pieces_of image) }
     ensures one { (a b : List ℕ) → pieces_of a ≡ pieces_of b → a ≡ b }
-    ensures short { (pieces : List (List ℕ)) → AreCut 24 pieces → length pieces ≤ 22 → pieces_of (concat pieces) ≡ pieces }
+    ensures short { (pieces : List (List ℕ)) → AreCut 24 pieces → length pieces ≤ FRAGMENTS_MAX → pieces_of (concat pieces) ≡ pieces }
     ensures long { (pieces : List (List ℕ)) → AreCut 48 pieces → SHORT_IMAGE < length (concat pieces) → pieces_of (concat pieces) ≡ pieces }
 {}

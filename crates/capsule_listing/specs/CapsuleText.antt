@@ -17,8 +17,7 @@ handler_name_at d place = slice_index_or (map (λ h. h.name) d.handlers.items) p
 
 -- the handler's name, the version, and how many bytes the code has
 abbrev pub head_line : List ℕ → ℕ → ℕ → List ℕ
-head_line handler version size =
-    codes "capsule " ++ handler ++ codes " " ++ decimal version ++ codes " " ++ decimal size ++ codes "\n"
+head_line handler version size = codes "capsule " ++ handler ++ codes " " ++ decimal version ++ codes " " ++ decimal size ++ codes "\n"
 
 -- the text of a capsule whose bytes of code are these instructions; its locks are what the code reads and writes
 abbrev pub capsule_text : Description → CapsuleParts → Code → List ℕ

@@ -16,10 +16,8 @@ report_of Is = obtained (IsEnded Is)
 
 -- the summary of this report, which says whether it is whole
 abbrev pub IsBrief : Description → Report → Output → Type 0
-IsBrief d r (output.Document x) = ⊥
 IsBrief d r (output.Summary d' s) = (summary_text d' s ≡ brief d r) × (s.whole ≡ r.whole)
-IsBrief d r (output.Run d' script ps) = ⊥
-IsBrief d r (output.World d' w ps) = ⊥
+IsBrief d r _ = ⊥
 
 -- the run, whose report is written event by event; with `--brief` the summary of its report, when it has ended
 abbrev pub output_of : (brief : Bool) → Description → OfRun → Output → Result Output Refusal → Type 0

@@ -19,7 +19,5 @@ CanBeWritten (output.World d w ps) = AreProgramsOfWorld d w ps
 -- a document with this text is to be written
 abbrev pub writes : List ℕ → Result Output Refusal → Type 0
 writes bytes (Ok (output.Document x)) = document_text x ≡ bytes
-writes bytes (Ok (output.Summary d s)) = ⊥
-writes bytes (Ok (output.Run d script ps)) = ⊥
-writes bytes (Ok (output.World d w ps)) = ⊥
 writes bytes (Err r) = r ≡ NoMemory
+writes bytes _ = ⊥

@@ -19,10 +19,8 @@ use Rattle.mate_refusals.specs.declared.refusal.Refusal.TheVariants as refusal
 
 abbrev pub cause_status : Cause → Status
 cause_status (cause.Unread why) = status.FileFault
-cause_status (cause.Source why) = status.BadSource
-cause_status (cause.Code why) = status.BadSource
 cause_status (cause.Capsule why) = status.BadCapsule
-cause_status (cause.Expansion why) = status.BadSource
+cause_status _ = status.BadSource
 
 abbrev pub status_of : Refusal → Status
 status_of refusal.Usage = status.Usage

@@ -1,6 +1,7 @@
 -- Which packets are right for a machine.
 use Rattle.std.specs.Prelude.{◌≡◌, ℕ, ◌+◌, ◌<◌, ◌≤◌, ◌^◌, ℤ, Bool, true, false, List, length, All, FitsSigned}
 use Rattle.std.specs.Int.{w16}
+use Rattle.mate_num.specs.declared.bounds.TheConstants.{FRAGMENTS_MAX}
 use Rattle.capsule_codec.specs.Image.{IsBytes}
 use Rattle.packet_codec.specs.declared.packet.Packet.{Packet}
 use Rattle.packet_codec.specs.declared.packet.Packet.TheVariants.{Vector, Status, Fragment, App}
@@ -21,7 +22,7 @@ pub record IsRightStatus (handlers handler version missing : ℕ) : Type 0 where
 pub record IsRightFragment (handlers handler version index count : ℕ) (large : Bool) (bytes : List ℕ) : Type 0 where
   pub handler_high : handler < handlers
   pub version_low : 1 ≤ version
-  pub count_high : count ≤ 22
+  pub count_high : count ≤ FRAGMENTS_MAX
   pub index_high : index < count
   pub bytes_low : 1 ≤ length bytes
   pub bytes_high : length bytes ≤ full_len large

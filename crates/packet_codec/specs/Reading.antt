@@ -1,6 +1,7 @@
 -- What bytes are to a machine: a packet, or the first fault.
 use Rattle.std.specs.Prelude.{◌≡◌, ℕ, ◌+◌, ◌*◌, nat_lt, nat_le, ◌==◌, ℤ, Bool, true, false, not, ◌&&◌, ◌||◌, if◌then◌else◌, List, [], ◌∷◌, length, Result, Ok, Err, is_err}
 use Rattle.std.specs.Int.{w16, w32, from_be_bytes, cast_signed, is_in_range}
+use Rattle.mate_num.specs.declared.bounds.TheConstants.{FRAGMENTS_MAX}
 use Rattle.vm_desc.specs.declared.description.Description.{Description}
 use Rattle.packet_codec.specs.declared.packet.Packet.{Packet}
 use Rattle.packet_codec.specs.declared.packet.Packet.TheVariants.{Vector, Status, Fragment, App}
@@ -49,7 +50,7 @@ status_read handlers _ = Err BadLength
 -- a handler of the machine, a version, 1 to 22 fragments, one of them, and a full piece unless it is the last one
 abbrev pub is_fragment : ℕ → ℕ → ℕ → ℕ → ℕ → Bool → ℕ → Bool
 is_fragment handlers handler version index count large len =
-    ((nat_lt handler handlers && not (version == 0)) && (nat_le count 22 && nat_lt index count))
+    ((nat_lt handler handlers && not (version == 0)) && (nat_le count FRAGMENTS_MAX && nat_lt index count))
     && (index + 1 == count || nat_le (full_len large) len)
 
 abbrev pub fragment_read : ℕ → Bool → List ℕ → Result Packet PacketFault

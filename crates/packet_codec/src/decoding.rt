@@ -9,7 +9,7 @@ ghost use Rattle.packet_codec.specs.Packet.{full_len, IsRightPacket, HasPacketRa
 use crate::packet::Packet;
 use arrayvec::ArrayVec;
 use capsule_codec::Piece;
-use mate_num::{HandlerId, Payload};
+use mate_num::{FRAGMENTS_MAX, HandlerId, Payload};
 use vm_desc::Description;
 
 /// Why bytes are no packet of the machine.
@@ -169,7 +169,7 @@ fn is_fragment(
 {
     usize::from(handler) < handlers
         && version != 0
-        && count <= 22
+        && usize::from(count) <= FRAGMENTS_MAX
         && index < count
         && (u32::from(index) + 1 == u32::from(count) || len >= full_len(large))
 }

@@ -42,24 +42,18 @@ line_text d l = line_words d l ++ codes "\n"
 abbrev pub IsRightEntry : Description → Entry → Type 0
 IsRightEntry d (entry.Post n h c payload) = (h.0 < length d.handlers.items) × (c.0 < context_count d)
 IsRightEntry d (entry.Dropped h cause) = h.0 < length d.handlers.items
-IsRightEntry d (entry.Start n) = ⊤
 IsRightEntry d (entry.Ask n f args) = f.0 < length d.functions.items
-IsRightEntry d (entry.Answer n v) = ⊤
-IsRightEntry d (entry.Halt n) = ⊤
-IsRightEntry d (entry.Fault n kind) = ⊤
 IsRightEntry d (entry.Install h version image) = ⊥
-IsRightEntry d entry.Reset = ⊤
 IsRightEntry d (entry.Seen store) = ⊥
-IsRightEntry d (entry.Void cause) = ⊤
+IsRightEntry d _ = ⊤
 
 -- node numbers are below 64, and no packet is empty
 abbrev pub IsRightAir : Air → Type 0
-IsRightAir (air.Interval length) = ⊤
-IsRightAir air.Keep = ⊤
 IsRightAir (air.Sent n bytes) = 0 < length bytes.items
 IsRightAir (air.Lost n to) = to < 64
 IsRightAir (air.Got n from) = from < 64
 IsRightAir (air.Noise bytes) = 0 < length bytes.items
+IsRightAir _ = ⊤
 
 abbrev pub IsRightTold : Description → Told → Type 0
 IsRightTold d (told.OnAir a) = IsRightAir a

@@ -1,11 +1,10 @@
 -- The text of the report of lines is the text of the lines.
-use Rattle.std.proofs.Common.{◌≡◌, ℕ, zero, suc, ◌+◌, ◌<◌, ◌≤◌, ◌==◌, max, Bool, true, false, cond, List, [], ◌∷◌, ◌++◌, length, map, drop, get_or, set, Option, Some, None, Result, Ok, Err, refl, sym, ap, subst, ◌∙◌, arith, inl, inr, ◌⊎◌, append_assoc, append-nil, length-append}
-use Rattle.std.specs.Prelude.{All, AllPairs, fold, flat_map, filter, sum_by, IsTrue, IfOk, is_some, codes, slice_get}
+use Rattle.std.proofs.Common.{◌≡◌, ℕ, zero, suc, ◌+◌, ◌<◌, ◌≤◌, ◌==◌, max, Bool, true, false, cond, List, [], ◌∷◌, ◌++◌, length, map, drop, get_or, set, Option, Some, Result, Ok, Err, refl, sym, ap, subst, ◌∙◌, arith, inl, inr, ◌⊎◌, append_assoc, append-nil, length-append}
+use Rattle.std.specs.Prelude.{All, AllPairs, fold, flat_map, filter, sum_by, IfOk, is_some, codes, slice_get}
 use Rattle.std.specs.List.{AllZip}
-use Rattle.std.proofs.lemmas.Bool.{cases_Bool, cond-true, cond-false, eqb-true, eq-eqb, cases_lt, false≢true}
-use Rattle.std.proofs.lemmas.Grind.{flat_map-append}
+use Rattle.std.proofs.lemmas.Bool.{cases_Bool, cond-true, cond-false, eq-eqb, cases_lt, false≢true}
 use Rattle.std.proofs.lemmas.List.{set-append_left}
-use Rattle.std.proofs.lemmas.List.Sums.{sum_by-cons, sum_by_from}
+use Rattle.std.proofs.lemmas.List.Sums.{sum_by-cons}
 use Rattle.std.proofs.lemmas.List.Elements.{All-nil, All-cons, All-head, All-tail, All-push, All-same}
 use Rattle.std.proofs.Math.Seq.{drop-append_seam}
 use Rattle.arrayvec.specs.ArrayVec.{ArrayVec}
@@ -14,14 +13,13 @@ use Rattle.mate_num.specs.declared.call.Stamp.{Stamp}
 use Rattle.mate_num.specs.declared.store.Store.{Store}
 use Rattle.mate_journal.specs.Log.{Log, IsSameLog, GoesOn}
 use Rattle.mate_journal.specs.Tidy.{below, store_named}
-use Rattle.mate_journal.specs.declared.air.Air.{Air}
 use Rattle.mate_journal.specs.declared.air.Aired.{Aired}
 use Rattle.mate_journal.specs.declared.entry.Entry.{Entry}
 use Rattle.mate_journal.specs.declared.entry.Entry.TheVariants as entry
 use Rattle.mate_journal.specs.declared.entry.Stamped.{Stamped}
 use Rattle.mate_journal.specs.declared.report.Report.{Report}
 use Rattle.report_text.specs.Words.{entry_words, stamp_words, seen_words, image_text, image_word, word, number, handler_name}
-use Rattle.report_text.specs.Text.{air_line, entry_line, entry_lines, event_lines, event_piece, events_end, records, end_line, lines, text}
+use Rattle.report_text.specs.Text.{air_line, entry_line, entry_lines, event_lines, events_end, records, end_line, lines, text}
 use Rattle.report_text.specs.Tidy.{Mark}
 use Rattle.report_text.specs.Pieces.{IsNamed, IsBefore, AddsPiece}
 use Rattle.report_text.proofs.PieceLemmas.{lines-piece}
@@ -31,15 +29,15 @@ use Rattle.report_reader.specs.declared.line.Told.{Told}
 use Rattle.report_reader.specs.declared.line.Told.TheVariants as told
 use Rattle.report_reader.specs.Told.{line_text, told_words, IsRightTold, IsRightEntry, log_with}
 use Rattle.report_reading.specs.LastLines.{last_text}
-use Rattle.report_reading.specs.Fits.{is_on_air, line_mark, StandsBehind, IsSound, IsLineBelow, FitsLast, AreFitting}
+use Rattle.report_reading.specs.Fits.{is_on_air, StandsBehind, IsSound, IsLineBelow, FitsLast, AreFitting}
 use Rattle.report_reading.specs.Parts.{stamped, log_with_line, log_after, no_log, log_of, aired_by, aired_of, air_told, logs_of, report_of, IsSameReport}
-use Rattle.report_reading.specs.Reads.{text_of_lines, AreLines, AreOfReport, ReadsReport}
+use Rattle.report_reading.specs.Reads.{text_of_lines, AreOfReport, ReadsReport}
 use Rattle.report_reading.specs.declared.last_line.LastLine.{LastLine}
 use Rattle.report_reading.specs.declared.fault.TextFault.{TextFault}
 use Rattle.report_reading.proofs.OrderLemmas.{get-last, get-before, pairs-last, pairs-front}
 use Rattle.report_reading.proofs.PartLemmas.{log_of-push, air_told-push, map-push}
 use Rattle.report_reading.proofs.TextLemmas.{text-push}
-use Rattle.report_reading.proofs.TidyLemmas.{all-map, air-marks, map-below, entry-marks, OnEntries, OnEntryLines}
+use Rattle.report_reading.proofs.TidyLemmas.{all-map, air-marks, map-below, entry-marks, OnEntryLines}
 
 -- ---- the text of the same report
 

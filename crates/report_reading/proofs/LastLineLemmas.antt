@@ -1,5 +1,5 @@
 -- A last line is read as it is written.
-use Rattle.std.proofs.Common.{◌≡◌, ℕ, ◌^◌, ◌<◌, ◌++◌, Bool, true, false, cond, List, [], ◌∷◌, Option, Some, None, refl, sym, ap, subst, ◌∙◌, arith, inl, inr, append_assoc, append-nil}
+use Rattle.std.proofs.Common.{◌≡◌, ℕ, ◌++◌, Bool, true, false, cond, List, [], ◌∷◌, Option, Some, None, refl, sym, ap, subst, ◌∙◌, inl, inr, append_assoc, append-nil}
 use Rattle.std.specs.Prelude.{codes, IfSome, IfNone}
 use Rattle.std.specs.List.{list_all, join_with_byte}
 use Rattle.std.specs.Fmt.{decimal}
@@ -7,13 +7,12 @@ use Rattle.std.specs.Str.{bytes_eq}
 use Rattle.std.proofs.lemmas.Bool.{cases_Bool, cond-true, cond-false, and_from}
 use Rattle.std.proofs.lemmas.List.Splits.{join_with_byte-slice_split}
 use Rattle.std.proofs.lemmas.Slice.Eq.{bytes_eq-Decides}
-use Rattle.report_text.specs.Words.{number}
 use Rattle.report_text.specs.Text.{end_word}
 use Rattle.report_fields.specs.Words.{words_of, first, rest, reads, only_at_end}
 use Rattle.report_fields.specs.Numbers.{unsigned_of}
-use Rattle.report_fields.proofs.OptionLemmas.{Steps, steps}
+use Rattle.report_fields.proofs.OptionLemmas.{steps}
 use Rattle.report_fields.proofs.NumberLemmas.{decimal-unsigned_of, unsigned_of-decimal}
-use Rattle.report_fields.proofs.FieldLemmas.{Next, next}
+use Rattle.report_fields.proofs.FieldLemmas.{next}
 use Rattle.report_fields.proofs.StoreLemmas.{joined, only_end}
 use Rattle.report_reader.proofs.LineLemmas.{join_words}
 use Rattle.report_fields.proofs.WrittenWords.{is_written, in_line, words_of-joined, line-in_line, written-decimal}

@@ -1,6 +1,6 @@
 -- What the code keeps of the lines that it has read.
-use Rattle.std.proofs.Common.{◌≡◌, ℕ, zero, suc, ◌+◌, ◌<◌, ◌≤◌, ◌==◌, nat_le, ◌&&◌, max, Bool, true, false, cond, List, [], ◌∷◌, ◌++◌, length, map, take, get_or, Option, Some, None, Result, Ok, Err, refl, sym, ap, subst, ◌∙◌, arith, inl, inr, append_assoc, append-nil, length-append}
-use Rattle.std.specs.Prelude.{All, fold, flat_map, IsTrue, ◌↔◌}
+use Rattle.std.proofs.Common.{◌≡◌, ℕ, zero, suc, ◌+◌, ◌<◌, ◌≤◌, ◌==◌, nat_le, ◌&&◌, max, true, false, cond, List, [], ◌∷◌, ◌++◌, length, map, take, get_or, None, Err, refl, sym, ap, subst, ◌∙◌, arith, inl, inr, append-nil, length-append}
+use Rattle.std.specs.Prelude.{All, fold, flat_map}
 use Rattle.std.specs.List.{AllZip}
 use Rattle.std.proofs.lemmas.Bool.{cases_Bool, cond-true, cond-false, and_parts, and_from, eqb-true, eq-eqb, leb-true, le-leb, false≢true}
 use Rattle.std.proofs.lemmas.Grind.{flat_map-append}
@@ -17,15 +17,15 @@ use Rattle.report_reader.specs.declared.line.Line.{Line}
 use Rattle.report_reader.specs.declared.line.Told.{Told}
 use Rattle.report_reader.specs.declared.line.Told.TheVariants as told
 use Rattle.report_reader.specs.Told.{IsRightAir, IsRightTold}
-use Rattle.report_reading.specs.Fits.{IsSound, IsToldBelow, IsLineBelow, FitsLast, AreFitting}
+use Rattle.report_reading.specs.Fits.{IsSound, IsToldBelow, IsLineBelow, FitsLast}
 use Rattle.report_reading.specs.LastLines.{HasLastRanges}
-use Rattle.report_reading.specs.Parts.{stamped, log_with_line, log_after, no_log, log_of, aired_of, air_told, logs_of, report_of, IsSameReport, node_in_air, node_named, nodes_in, nodes_of}
+use Rattle.report_reading.specs.Parts.{stamped, log_with_line, log_after, no_log, log_of, aired_of, air_told, logs_of, report_of, IsSameReport, node_in_air, node_named, nodes_in}
 use Rattle.report_reading.specs.Places.{admits_next, IsPlaceAfter}
 use Rattle.report_reading.specs.Steps.{AreLogsOf, HasRead, TakesLine, AddsLine, AreShort, fits_last}
 use Rattle.report_reading.specs.declared.last_line.LastLine.{LastLine}
 use Rattle.report_reading.specs.declared.parts.Parts.{Parts}
 use Rattle.report_reading.specs.declared.fault.TextFault.{TextFault}
-use Rattle.report_reading.specs.declared.fault.TextFault.TheVariants.{BadLine, NoMemory}
+use Rattle.report_reading.specs.declared.fault.TextFault.TheVariants.{BadLine}
 use Rattle.report_reading.proofs.OrderLemmas.{no_lines, next_order, next_place, next_taken}
 
 -- ---- one more line

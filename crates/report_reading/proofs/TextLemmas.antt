@@ -1,5 +1,5 @@
 -- A text is cut at its LFs in one way, so a line that fits is the line that was read.
-use Rattle.std.proofs.Common.{◌≡◌, ℕ, zero, suc, ◌+◌, ◌<◌, ◌≤◌, ◌==◌, Bool, true, false, not, ◌&&◌, cond, List, [], ◌∷◌, ◌++◌, length, take, drop, Option, Some, None, Result, Ok, Err, refl, sym, ap, subst, ◌∙◌, arith, inl, inr, append_assoc, append-nil, length-append}
+use Rattle.std.proofs.Common.{◌≡◌, ℕ, suc, ◌+◌, ◌<◌, ◌≤◌, ◌==◌, Bool, true, false, not, List, [], ◌∷◌, ◌++◌, length, take, drop, Option, Some, None, Result, Ok, Err, refl, sym, ap, subst, ◌∙◌, arith, inl, inr, append_assoc, append-nil, length-append}
 use Rattle.std.specs.Prelude.{codes, flat_map, IsErrAnd}
 use Rattle.std.specs.List.{list_all, prefix_len}
 use Rattle.std.specs.Option.{option_map}
@@ -8,7 +8,7 @@ use Rattle.std.proofs.lemmas.Grind.{flat_map-append}
 use Rattle.vm_desc.specs.declared.description.Description.{Description}
 use Rattle.mate_journal.specs.declared.report.Report.{Report}
 use Rattle.report_reader.specs.declared.line.Line.{Line}
-use Rattle.report_reader.specs.Told.{line_words, line_text, IsRightLine, HasLineRanges}
+use Rattle.report_reader.specs.Told.{line_words, line_text}
 use Rattle.report_fields.specs.Words.{reads}
 use Rattle.report_fields.specs.Fields.{number_of, node_of}
 use Rattle.report_reader.specs.Reading.{told_of, line_with, line_in}
@@ -16,8 +16,8 @@ use Rattle.report_reader.proofs.WrittenLines.{line_is_read, IsRead}
 use Rattle.report_reading.specs.LastLines.{last_words, last_text, last_in, HasLastRanges}
 use Rattle.report_reading.specs.Fits.{IsSound, FitsLast, AreFitting}
 use Rattle.report_reading.specs.Parts.{report_of, IsSameReport}
-use Rattle.report_reading.specs.Reads.{text_of_lines, NothingFits, GoesOnBehind, IsBadAt, ReadsReport}
-use Rattle.report_reading.specs.Steps.{IsOneLine, TellsNone, HasRead, IsAt, TakesLine, ReadsLast, IsEndedBy, fits_last}
+use Rattle.report_reading.specs.Reads.{text_of_lines, NothingFits, IsBadAt, ReadsReport}
+use Rattle.report_reading.specs.Steps.{IsOneLine, TellsNone, HasRead, IsAt, TakesLine, ReadsLast, fits_last}
 use Rattle.report_reading.specs.declared.last_line.LastLine.{LastLine}
 use Rattle.report_reading.specs.declared.parts.Parts.{Parts}
 use Rattle.report_reading.specs.declared.fault.TextFault.{TextFault}

@@ -1,19 +1,17 @@
 -- The report of lines that fit is tidy.
-use Rattle.std.proofs.Common.{◌≡◌, ℕ, zero, suc, ◌+◌, ◌<◌, ◌≤◌, ◌==◌, Bool, true, false, cond, List, [], ◌∷◌, ◌++◌, length, map, get_or, Option, Some, None, Result, Ok, Err, refl, sym, ap, subst, ◌∙◌, arith, inl, inr, ◌⊎◌, append_assoc, append-nil, length-append}
-use Rattle.std.specs.Prelude.{All, AllPairs, Contains, fold, flat_map, IsTrue, is_some, IfOk}
+use Rattle.std.proofs.Common.{◌≡◌, ℕ, zero, suc, ◌+◌, ◌<◌, ◌≤◌, ◌==◌, Bool, true, false, cond, List, [], ◌∷◌, ◌++◌, length, map, get_or, Option, None, Result, Ok, Err, refl, sym, ap, subst, ◌∙◌, arith, inl, inr, append_assoc, append-nil, length-append}
+use Rattle.std.specs.Prelude.{All, AllPairs, fold, flat_map, IsTrue, is_some, IfOk}
 use Rattle.std.specs.List.{AllZip}
 use Rattle.std.proofs.lemmas.Bool.{cases_Bool, cond-true, cond-false, eqb-true}
 use Rattle.std.proofs.lemmas.Grind.{flat_map-append}
-use Rattle.std.proofs.lemmas.List.Elements.{All-nil, All-cons, All-head, All-tail, All-push, All-append, All-same, All-map, All-contains, Contains-append_left, Contains-push}
+use Rattle.std.proofs.lemmas.List.Elements.{All-nil, All-cons, All-head, All-tail, All-push, All-append, All-same, All-map}
 use Rattle.arrayvec.specs.ArrayVec.{ArrayVec}
 use Rattle.vm_desc.proofs.ListLemmas.{AllPairs-head, AllPairs-tail}
 use Rattle.vm_desc.specs.declared.description.Description.{Description}
 use Rattle.mate_num.specs.declared.call.Stamp.{Stamp}
 use Rattle.mate_num.specs.declared.store.Store.{Store}
 use Rattle.mate_journal.specs.Log.{Log, IsSameLog}
-use Rattle.mate_journal.specs.Tidy.{image_named, store_named, names_in, below, IsEntryInRange, IsStoreOf, EventsRise, entry_event, NumbersInOrder, IsTidyLog, HasFullImages}
-use Rattle.mate_journal.specs.declared.air.Air.{Air}
-use Rattle.mate_journal.specs.declared.air.Air.TheVariants as air
+use Rattle.mate_journal.specs.Tidy.{image_named, store_named, names_in, below, IsEntryInRange, IsStoreOf, EventsRise, entry_event, IsTidyLog, HasFullImages}
 use Rattle.mate_journal.specs.declared.air.Aired.{Aired}
 use Rattle.mate_journal.specs.declared.entry.Entry.{Entry}
 use Rattle.mate_journal.specs.declared.entry.Entry.TheVariants as entry
@@ -26,12 +24,11 @@ use Rattle.report_reader.specs.declared.line.Line.{Line}
 use Rattle.report_reader.specs.declared.line.Told.{Told}
 use Rattle.report_reader.specs.declared.line.Told.TheVariants as told
 use Rattle.report_reader.specs.Told.{IsRightTold, IsRightEntry}
-use Rattle.report_reading.specs.Fits.{is_on_air, is_shown, line_mark, line_marks, StandsBehind, AreInOrder, IsSound, AreFitting, IsToldBelow, IsLineBelow, FitsLast}
+use Rattle.report_reading.specs.Fits.{is_on_air, is_shown, line_mark, line_marks, StandsBehind, IsSound, AreFitting, IsToldBelow, IsLineBelow, FitsLast}
 use Rattle.report_reading.specs.Parts.{stamped, log_with_line, log_after, no_log, log_of, aired_by, aired_of, air_told, logs_of, report_of, IsSameReport}
 use Rattle.report_reading.specs.Reads.{AreOfReport, ReadsReport}
 use Rattle.report_reading.specs.declared.fault.TextFault.{TextFault}
 use Rattle.report_reading.specs.declared.last_line.LastLine.{LastLine}
-use Rattle.report_reading.proofs.OrderLemmas.{pairs-last, pairs-front}
 
 -- ---- one log
 

@@ -1,23 +1,19 @@
 -- Of any bytes one verdict holds: one report, or one bad line.
-use Rattle.std.proofs.Common.{◌≡◌, ℕ, ◌+◌, ◌<◌, ◌≤◌, List, [], ◌∷◌, ◌++◌, length, map, Some, refl, sym, ap, subst, ◌∙◌, arith, inl, inr, ◌⊎◌, append_assoc, append-nil, length-append}
+use Rattle.std.proofs.Common.{◌≡◌, ℕ, ◌+◌, ◌≤◌, List, [], ◌∷◌, ◌++◌, length, map, refl, sym, ap, subst, ◌∙◌, arith, inl, inr, ◌⊎◌, append_assoc, append-nil}
 use Rattle.std.specs.Prelude.{All, codes}
-use Rattle.std.specs.List.{AllZip}
-use Rattle.std.proofs.lemmas.List.Elements.{All-nil, All-head, All-tail, All-map}
+use Rattle.std.proofs.lemmas.List.Elements.{All-head, All-tail, All-map}
 use Rattle.vm_desc.specs.declared.description.Description.{Description}
-use Rattle.mate_journal.specs.Log.{Log, IsSameLog}
-use Rattle.mate_journal.specs.declared.report.Report.{Report}
 use Rattle.report_text.specs.Tidy.{Mark, IsNoEarlier, AreOfOneNode, IsLastSeen}
 use Rattle.report_text.proofs.EventLemmas.{All-front, All-of_map}
 use Rattle.report_reader.specs.declared.line.Line.{Line}
 use Rattle.report_reader.specs.Told.{line_words, line_text}
 use Rattle.report_reading.specs.LastLines.{last_words, last_text, HasLastRanges}
-use Rattle.report_reading.specs.Fits.{is_shown, line_mark, line_marks, StandsBehind, AreInOrder, IsSound, AreFitting, FitsLast}
-use Rattle.report_reading.specs.Parts.{report_of, IsSameReport}
-use Rattle.report_reading.specs.Reads.{text_of_lines, AreLines, NothingFits, GoesOnBehind, IsBadAt, IsBadLine, AreOfReport}
+use Rattle.report_reading.specs.Fits.{line_mark, line_marks, StandsBehind, IsSound, AreFitting, FitsLast}
+use Rattle.report_reading.specs.Reads.{text_of_lines, AreLines, IsBadAt, IsBadLine}
 use Rattle.report_reading.specs.declared.last_line.LastLine.{LastLine}
-use Rattle.report_reading.proofs.OrderLemmas.{pairs-front, last_marks}
+use Rattle.report_reading.proofs.OrderLemmas.{pairs-front}
 use Rattle.report_reading.proofs.LastLineLemmas.{last-in_line}
-use Rattle.report_reading.proofs.TextLemmas.{SameCut, same_cut, line_read, same_line, same_last, no_line-last}
+use Rattle.report_reading.proofs.TextLemmas.{same_cut, line_read, same_line, same_last, no_line-last}
 
 -- ---- the first of lines that fit, fit
 

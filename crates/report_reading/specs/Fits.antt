@@ -12,15 +12,11 @@ use Rattle.report_reading.specs.declared.last_line.LastLine.{LastLine}
 -- whether a line records what happened on the air, and whether it shows a store
 abbrev pub is_on_air : Told → Bool
 is_on_air (told.OnAir a) = true
-is_on_air (told.Made e) = false
-is_on_air (told.Installed h version image) = false
-is_on_air (told.Shown s) = false
+is_on_air _ = false
 
 abbrev pub is_shown : Told → Bool
-is_shown (told.OnAir a) = false
-is_shown (told.Made e) = false
-is_shown (told.Installed h version image) = false
 is_shown (told.Shown s) = true
+is_shown _ = false
 
 -- a line as a record of a report: when, where, and whether it shows a store
 abbrev pub line_mark : Line → Mark
@@ -56,9 +52,7 @@ pub record AreFitting (d : Description) (ls : List Line) : Type 0 where
 -- the node of a line, and those that it names, are below a number
 abbrev pub IsToldBelow : ℕ → Told → Type 0
 IsToldBelow nodes (told.OnAir a) = IsAirInRange nodes a
-IsToldBelow nodes (told.Made e) = ⊤
-IsToldBelow nodes (told.Installed h version image) = ⊤
-IsToldBelow nodes (told.Shown s) = ⊤
+IsToldBelow nodes _ = ⊤
 
 pub record IsLineBelow (nodes : ℕ) (l : Line) : Type 0 where
   pub node : l.node < nodes

@@ -47,9 +47,7 @@ log_of node ls = fold (log_after node) no_log ls
 -- what a line records of the air
 abbrev pub aired_by : Stamp → ℕ → Told → List Aired
 aired_by at node (told.OnAir a) = record { stamp = at; node = node; air = a } ∷ []
-aired_by at node (told.Made e) = []
-aired_by at node (told.Installed h version image) = []
-aired_by at node (told.Shown s) = []
+aired_by at node _ = []
 
 abbrev pub aired_of : Line → List Aired
 aired_of l = aired_by l.stamp l.node l.told

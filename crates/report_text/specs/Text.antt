@@ -29,8 +29,7 @@ entry_lines d event node (l ∷ ls) =
 
 -- the lines of one event: first what happened on the air, then the entries
 abbrev pub event_lines : Description → Report → ℕ → List ℕ
-event_lines d r event =
-    flat_map air_line (filter (λ a. a.stamp.event == event) r.air) ++ entry_lines d event 0 r.nodes
+event_lines d r event = flat_map air_line (filter (λ a. a.stamp.event == event) r.air) ++ entry_lines d event 0 r.nodes
 
 -- a number greater than that of each event with a record
 abbrev pub events_end : Report → ℕ

@@ -13,12 +13,11 @@ use Rattle.report_text.specs.Progress.{air_event}
 
 -- a node's number and the packets on the air; no packet is empty
 abbrev pub IsAirInRange : ℕ → Air → Type 0
-IsAirInRange nodes (air.Interval length) = ⊤
-IsAirInRange nodes air.Keep = ⊤
 IsAirInRange nodes (air.Sent n bytes) = 0 < length bytes.items
 IsAirInRange nodes (air.Lost n to) = to < nodes
 IsAirInRange nodes (air.Got n from) = from < nodes
 IsAirInRange nodes (air.Noise bytes) = 0 < length bytes.items
+IsAirInRange nodes _ = ⊤
 
 -- along what happened on the air the nodes don't fall within an event
 abbrev pub AirNodesRise : List Aired → Type 0

@@ -83,8 +83,7 @@ buffer_word (name, vs) = codes " " ++ name ++ codes "=[" ++ spaced vs.items ++ c
 
 -- a word per shared variable, and then one per buffer
 abbrev pub store_words : Description → Store → List ℕ
-store_words d s =
-    flat_map shared_word (zip d.shared.items s.shared.items) ++ flat_map buffer_word (zip d.buffers.items s.buffers.items)
+store_words d s = flat_map shared_word (zip d.shared.items s.shared.items) ++ flat_map buffer_word (zip d.buffers.items s.buffers.items)
 
 -- the image and the store that an entry names
 abbrev pub image_text : Option (ArrayVec ℕ) → List ℕ
@@ -103,8 +102,7 @@ IsShort _ = ⊤
 
 -- the words of an entry, each after a space
 abbrev pub entry_words : Description → Log → Entry → List ℕ
-entry_words d l (entry.Post n h c payload) =
-    codes " post" ++ number n ++ word (handler_name d h) ++ number c.0 ++ values payload.items
+entry_words d l (entry.Post n h c payload) = codes " post" ++ number n ++ word (handler_name d h) ++ number c.0 ++ values payload.items
 entry_words d l (entry.Dropped h cause) = codes " drop" ++ word (handler_name d h) ++ word (drop_word cause)
 entry_words d l (entry.Start n) = codes " start" ++ number n
 entry_words d l (entry.Ask n f args) = codes " ask" ++ number n ++ word (function_name d f) ++ values args.items

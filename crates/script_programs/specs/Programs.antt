@@ -68,12 +68,7 @@ names_file step.Reset = false
 abbrev pub step_program : Folder → Description → Bool → List (List ℕ) → Step → Result (Option Program) Refusal → Type 0
 step_program f d fold names (step.Install h version k) = gives_program (installed f d fold h version (name_at names k))
 step_program f d fold names (step.Load k) = gives_program (loaded f d (name_at names k))
-step_program f d fold names (step.Post h payload) = gives_none
-step_program f d fold names (step.Step ctx n) = gives_none
-step_program f d fold names step.Run = gives_none
-step_program f d fold names (step.Answer ctx value) = gives_none
-step_program f d fold names step.Show = gives_none
-step_program f d fold names step.Reset = gives_none
+step_program f d fold names _ = gives_none
 
 -- after these programs, those of the steps that are left
 abbrev pub programs_after : Folder → Description → Bool → List (List ℕ) → List Program → List Step → Result (List Program) Refusal → Type 0

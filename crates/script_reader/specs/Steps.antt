@@ -1,6 +1,5 @@
 -- The steps of a node script, and which are right for a machine.
 use Rattle.std.specs.Prelude.{◌≡◌, ℕ, ◌<◌, ◌≤◌, ℤ, List, length, All, AllPairs}
-use Rattle.mate_num.specs.declared.id.HandlerId.{HandlerId}
 use Rattle.vm_desc.specs.declared.description.Description.{Description}
 use Rattle.vm_desc.specs.Whole.{context_count}
 use Rattle.script_reader.specs.declared.steps.Step.{Step}
@@ -33,10 +32,8 @@ IsRightStep d files (step.Install handler version program) = IsRightInstall d fi
 IsRightStep d files (step.Load program) = program < files
 IsRightStep d files (step.Post handler payload) = IsRightPost d handler.0 payload.items
 IsRightStep d files (step.Step ctx n) = IsRightTurn d ctx.0 n
-IsRightStep d files step.Run = Unit {0}
 IsRightStep d files (step.Answer ctx value) = ctx.0 < context_count d
-IsRightStep d files step.Show = Unit {0}
-IsRightStep d files step.Reset = Unit {0}
+IsRightStep d files _ = Unit {0}
 
 -- two installs of one handler: the later one has the greater version
 abbrev pub Rises : Step → Step → Type 0

@@ -53,9 +53,8 @@ sent_name n place (Some w) = buffer_at n w
 
 -- the buffer that a call sends, of a function whose name is at the place: its one argument, a name alone
 abbrev pub sent : ScriptNames → ℕ → Trees → Result BufId CheckFault
-sent n place no_trees = Err (Arity place)
 sent n place (tree_then e no_trees) = sent_name n place (name_alone e)
-sent n place (tree_then e (tree_then d es)) = Err (Arity place)
+sent n place _ = Err (Arity place)
 
 abbrev pub tree_count : Trees → ℕ
 tree_count no_trees = zero
@@ -86,14 +85,12 @@ abbrev mutual
   checked_expr n allowed (given.call w es) = checked_call n allowed w es (checked_args n allowed es) >>= (λ c. Ok (as_expression c))
   checked_expr n allowed (given.negative e) = checked_expr n allowed e >>= (λ a. Ok (Neg a))
   checked_expr n allowed (given.inverse e) = checked_expr n allowed e >>= (λ a. Ok (Not a))
-  checked_expr n allowed (given.two o l r) =
-      checked_expr n allowed l >>= (λ a. checked_expr n allowed r >>= (λ b. Ok (Two o a b)))
+  checked_expr n allowed (given.two o l r) = checked_expr n allowed l >>= (λ a. checked_expr n allowed r >>= (λ b. Ok (Two o a b)))
   checked_expr n allowed (given.paren e) = checked_expr n allowed e
 
   pub checked_args : ScriptNames → Bool → Trees → Result Arguments CheckFault
   checked_args n allowed no_trees = Ok no_arguments
-  checked_args n allowed (tree_then e es) =
-      checked_expr n allowed e >>= (λ a. checked_args n allowed es >>= (λ more. Ok (argument a more)))
+  checked_args n allowed (tree_then e es) = checked_expr n allowed e >>= (λ a. checked_args n allowed es >>= (λ more. Ok (argument a more)))
 
 -- the step of a `for`: 1 if none is written, else from -32767 to 32767, and not 0
 abbrev pub step_number : Bool → ℕ → ℤ

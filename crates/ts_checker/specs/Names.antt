@@ -35,9 +35,8 @@ symbol_of (x ∷ xs) name = if bytes_eq name x.name then Some x.symbol else symb
 
 -- how many of the names are private variables
 abbrev pub is_private_symbol : Symbol → Bool
-is_private_symbol (Variable (var.Shared v)) = false
 is_private_symbol (Variable (var.Private i)) = true
-is_private_symbol (Buffer p) = false
+is_private_symbol _ = false
 
 abbrev pub private_count : List Entry → ℕ
 private_count xs = count_by (λ x. is_private_symbol x.symbol) xs

@@ -23,8 +23,7 @@ pub record WritesInstrs (old more new : List Instr) : Type 0 where
 
 -- at a place, a test, and a part that runs if it is true: else it goes on `behind` bytes after the part
 abbrev pub guarded_code : ℕ → Expression → Block → ℕ → List Instr
-guarded_code place e a behind =
-    expr_code e ++ Jz (place + expr_size e + 3 + block_size a + behind) ∷ block_code (place + expr_size e + 3) a
+guarded_code place e a behind = expr_code e ++ Jz (place + expr_size e + 3 + block_size a + behind) ∷ block_code (place + expr_size e + 3) a
 
 -- the first value of a `for`, and its test
 abbrev pub head_code : CVar → Expression → Expression → ℤ → List Instr

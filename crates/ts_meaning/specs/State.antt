@@ -74,8 +74,7 @@ first_ten values = record { items = take 10 values }
 -- a call takes the next answer and is listed with it; with no answer left it ends the run
 abbrev pub call_answered : FunId → ArrayVec ℤ → List ℤ → ScriptState → Evaluation ℤ
 call_answered f args [] s = Over (Wants f args) s
-call_answered f args (a ∷ left) s =
-    Done a (record s { left = left; calls = s.calls ++ record { fun = f; args = args; result = a } ∷ [] })
+call_answered f args (a ∷ left) s = Done a (record s { left = left; calls = s.calls ++ record { fun = f; args = args; result = a } ∷ [] })
 
 abbrev pub next_answer : FunId → ArrayVec ℤ → ScriptState → Evaluation ℤ
 next_answer f args s = call_answered f args s.left s
@@ -119,11 +118,4 @@ round_if false body s = Done false s
 -- a run begins with the private variables at 0
 abbrev pub begun_state : Store → ArrayVec ℤ → List ℤ → ℕ → ScriptState
 begun_state store msg answers turns =
-    record {
-      store = store;
-      privates = replicate 8 (pos 0);
-      msg = msg.items;
-      left = answers;
-      calls = [];
-      turns = turns;
-    }
+    record { store = store; privates = replicate 8 (pos 0); msg = msg.items; left = answers; calls = []; turns = turns }

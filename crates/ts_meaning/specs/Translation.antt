@@ -71,18 +71,13 @@ abbrev mutual
 -- the stack that an expression needs; and arguments, above n values that are there already
 abbrev mutual
   pub expr_need : Expression → ℕ
-  expr_need (Num n) = 1
-  expr_need (Shared v) = 1
-  expr_need (Private i) = 1
   expr_need (Item p e) = expr_need e
-  expr_need (Size p) = 1
   expr_need (MsgItem e) = expr_need e
-  expr_need MsgSize = 1
   expr_need (Call f args) = max 1 (args_need 0 args)
-  expr_need (SendBuf f p) = 1
   expr_need (Neg e) = expr_need e
   expr_need (Not e) = expr_need e
   expr_need (Two o l r) = max (expr_need l) (1 + expr_need r)
+  expr_need _ = 1
 
   pub args_need : ℕ → Arguments → ℕ
   args_need below no_arguments = 0
@@ -155,16 +150,14 @@ abbrev mutual
   stmt_code place (Clear p) = instr.BClear p ∷ []
   stmt_code place (Do f args) = expr_code (Call f args) ++ instr.Drop ∷ []
   stmt_code place (DoSend f p) = expr_code (SendBuf f p) ++ instr.Drop ∷ []
-  stmt_code place (If e a) =
-      expr_code e ++ instr.Jz (place + expr_size e + 3 + block_size a) ∷ block_code (place + expr_size e + 3) a
+  stmt_code place (If e a) = expr_code e ++ instr.Jz (place + expr_size e + 3 + block_size a) ∷ block_code (place + expr_size e + 3) a
   stmt_code place (IfElse e a b) =
       expr_code e ++ instr.Jz (else_begin place e a) ∷ (block_code (place + expr_size e + 3) a ++
       instr.Jmp (else_end place e a b) ∷ block_code (else_begin place e a) b)
   stmt_code place (For x from to step a) =
       expr_code from ++ set_code x ∷ get_code x ∷ (expr_code to ++ within_code step ∷ instr.Jz (for_end place from to step a) ∷
       (block_code (for_body place from to) a ++ (step_code x step ++ instr.Back (for_test place from) ∷ [])))
-  stmt_code place (While e a) =
-      expr_code e ++ instr.Jz (while_end place e a) ∷ (block_code (while_body place e) a ++ instr.Back place ∷ [])
+  stmt_code place (While e a) = expr_code e ++ instr.Jz (while_end place e a) ∷ (block_code (while_body place e) a ++ instr.Back place ∷ [])
 
   pub block_code : ℕ → Block → List Instr
   block_code place no_statements = []

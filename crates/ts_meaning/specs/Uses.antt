@@ -9,7 +9,7 @@ use Rattle.mate_num.specs.declared.resource.Resource.{Resource}
 use Rattle.mate_num.specs.declared.resource.Resource.TheVariants as resource
 use Rattle.mate_num.specs.declared.shape.Shape.{Shape}
 use Rattle.mate_num.specs.declared.store.Store.{Store}
-use Rattle.ts_checked.specs.Expression.{Expression, Arguments, no_arguments, argument, Num, Shared, Private, Item, Size, MsgItem, MsgSize}
+use Rattle.ts_checked.specs.Expression.{Expression, Arguments, no_arguments, argument, Shared, Private, Item, Size, MsgItem}
 use Rattle.ts_checked.specs.Expression.{Call, SendBuf, Neg, Not, Two}
 use Rattle.ts_checked.specs.Statement.{Statement, Block, no_statements, statement, Set, SetItem, Append, Take, Clear, Do, DoSend, If, IfElse}
 use Rattle.ts_checked.specs.Statement.{For, While}
@@ -32,18 +32,16 @@ calls_device shape f r = is_device_of (function_shape shape f) r
 -- an expression reads r: its variables, the buffers whose values or sizes it takes, and those that it sends
 abbrev mutual
   pub expr_reads : Expression → Resource → Bool
-  expr_reads (Num n) r = false
   expr_reads (Shared v) r = is_same_resource (resource.Shared v) r
-  expr_reads (Private i) r = false
   expr_reads (Item p e) r = is_this_buffer p r || expr_reads e r
   expr_reads (Size p) r = is_this_buffer p r
   expr_reads (MsgItem e) r = expr_reads e r
-  expr_reads MsgSize r = false
   expr_reads (Call f args) r = args_read args r
   expr_reads (SendBuf f p) r = is_this_buffer p r
   expr_reads (Neg e) r = expr_reads e r
   expr_reads (Not e) r = expr_reads e r
   expr_reads (Two op l e) r = expr_reads l r || expr_reads e r
+  expr_reads _ r = false
 
   pub args_read : Arguments → Resource → Bool
   args_read no_arguments r = false
@@ -52,18 +50,14 @@ abbrev mutual
 -- an expression writes r: the devices of the functions that it calls
 abbrev mutual
   pub expr_writes : Shape → Expression → Resource → Bool
-  expr_writes shape (Num n) r = false
-  expr_writes shape (Shared v) r = false
-  expr_writes shape (Private i) r = false
   expr_writes shape (Item p e) r = expr_writes shape e r
-  expr_writes shape (Size p) r = false
   expr_writes shape (MsgItem e) r = expr_writes shape e r
-  expr_writes shape MsgSize r = false
   expr_writes shape (Call f args) r = calls_device shape f r || args_write shape args r
   expr_writes shape (SendBuf f p) r = calls_device shape f r
   expr_writes shape (Neg e) r = expr_writes shape e r
   expr_writes shape (Not e) r = expr_writes shape e r
   expr_writes shape (Two op l e) r = expr_writes shape l r || expr_writes shape e r
+  expr_writes shape _ r = false
 
   pub args_write : Shape → Arguments → Resource → Bool
   args_write shape no_arguments r = false
@@ -75,14 +69,13 @@ abbrev mutual
   stmt_reads (Set x e) r = expr_reads e r
   stmt_reads (SetItem p i e) r = expr_reads i r || expr_reads e r
   stmt_reads (Append p e) r = expr_reads e r
-  stmt_reads (Take x p) r = false
-  stmt_reads (Clear p) r = false
   stmt_reads (Do f args) r = args_read args r
   stmt_reads (DoSend f p) r = is_this_buffer p r
   stmt_reads (If e a) r = expr_reads e r || block_reads a r
   stmt_reads (IfElse e a b) r = expr_reads e r || block_reads a r || block_reads b r
   stmt_reads (For x from to step a) r = is_this_variable x r || expr_reads from r || expr_reads to r || block_reads a r
   stmt_reads (While e a) r = expr_reads e r || block_reads a r
+  stmt_reads _ r = false
 
   pub block_reads : Block → Resource → Bool
   block_reads no_statements r = false

@@ -9,8 +9,7 @@ use Rattle.vm_reader.specs.declared.known.Place.TheVariants as place
 
 -- the keys of one table
 abbrev pub known_words : Place → List (List ℕ)
-known_words place.Document =
-    codes "vm" ∷ codes "shared" ∷ codes "buffers" ∷ codes "devices" ∷ codes "turns" ∷ codes "quantum" ∷ []
+known_words place.Document = codes "vm" ∷ codes "shared" ∷ codes "buffers" ∷ codes "devices" ∷ codes "turns" ∷ codes "quantum" ∷ []
 known_words place.Handler = codes "name" ∷ codes "kind" ∷ codes "contexts" ∷ codes "period" ∷ []
 known_words place.Function = codes "name" ∷ codes "kind" ∷ codes "args" ∷ codes "device" ∷ codes "latency" ∷ []
 known_words place.Trickle = codes "imin" ∷ codes "doublings" ∷ codes "k" ∷ []

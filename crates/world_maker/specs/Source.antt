@@ -7,11 +7,7 @@ use Rattle.vm_desc.specs.declared.function.FunKind.TheVariants as kind
 
 abbrev pub reads_sensor : FunKind → Bool
 reads_sensor kind.Sense = true
-reads_sensor (kind.Act args) = false
-reads_sensor kind.Send = false
-reads_sensor kind.Id = false
-reads_sensor kind.Rand = false
-reads_sensor kind.Clock = false
+reads_sensor _ = false
 
 -- the name of the first function that reads a sensor
 abbrev pub first_sensor : List Function → Option (List ℕ)

@@ -34,10 +34,7 @@ with_series s (r ∷ series) = if is_of_pair s.node s.fun.0 r then record r { va
 
 abbrev pub newest_with : List ℕ → What → List ℕ
 newest_with newest (what.Inject program handler version) = slice_set newest handler.0 version
-newest_with newest (what.Post handler payload) = newest
-newest_with newest what.Show = newest
-newest_with newest what.Reset = newest
-newest_with newest (what.Noise bytes) = newest
+newest_with newest _ = newest
 
 abbrev pub with_told : WorldProgress → WorldSaid → WorldProgress
 with_told p (SaysNodes nodes) = record p { stage = stage.Random; world = record p.world { nodes = nodes } }

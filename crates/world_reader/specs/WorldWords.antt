@@ -28,11 +28,7 @@ a_time until last = a_number 0 until Range >>= (λ time. found (not_back last ti
 
 abbrev pub if_senses : ℕ → FunKind → Result FunId Cause
 if_senses n kind.Sense = Ok (record { 0 = n })
-if_senses n (kind.Act args) = Err Name
-if_senses n kind.Send = Err Name
-if_senses n kind.Id = Err Name
-if_senses n kind.Rand = Err Name
-if_senses n kind.Clock = Err Name
+if_senses n _ = Err Name
 
 -- the function with a name, among those from a number on, if it reads a sensor
 abbrev pub sensor_from : List ℕ → ℕ → List Function → Result FunId Cause

@@ -10,8 +10,7 @@ pub data Cause : Type 0 where
   -- a period of a timer handler
   Period : (node : ℕ) (handler : HandlerId) → Cause
   -- the point and the end of a node's Trickle interval
-  Fire : (node : ℕ) → Cause
-  Expire : (node : ℕ) → Cause
+  Fire Expire : (node : ℕ) → Cause
   -- the node sends the next fragment that it owes
   Pump : (node : ℕ) → Cause
   -- the answer to a call

@@ -39,8 +39,7 @@ pub data Deed : Type 0 where
   Installing : (program : HeldProgram) → Deed
   Posting : (handlers : List HandlerId) (payload : ArrayVec ℤ) → Deed
   Answering : (invocation : ℕ) (value : ℤ) → Deed
-  Showing : Deed
-  Resetting : Deed
+  Showing Resetting : Deed
 
 -- what is recorded of the air first; the deed; what happens to the exchange, the latest first; what happens to the timer;
 -- and the packets that are sent, apart from messages
@@ -132,20 +131,13 @@ begun_length n e = of_event e.timer where
 
 -- an era begins: live invocations are cut
 abbrev pub cuts : Deed → Bool
-cuts Nothing = false
 cuts (Installing p) = true
-cuts (Posting hs payload) = false
-cuts (Answering inv value) = false
-cuts Showing = false
 cuts Resetting = true
+cuts _ = false
 
 abbrev pub resets : Deed → Bool
-resets Nothing = false
-resets (Installing p) = false
-resets (Posting hs payload) = false
-resets (Answering inv value) = false
-resets Showing = false
 resets Resetting = true
+resets _ = false
 
 -- something is marked to be sent
 abbrev pub is_owing : World → List Happening → Bool

@@ -101,8 +101,7 @@ pub record SeesStore (w : World) (k : ℕ) (ms : List Moment) (last : List Enter
 -- the last entries of a node
 abbrev pub EndsJournal : World → ℕ → RunEnd → List Moment → List Entered → Type 0
 EndsJournal w k Whole ms last = SeesStore w k ms last
-EndsJournal w k Full ms last = last ≡ []
-EndsJournal w k Cut ms last = last ≡ []
+EndsJournal w k _ ms last = last ≡ []
 
 -- a node's whole journal
 pub record IsJournalOf (w : World) (how : RunEnd) (ms : List Moment) (k : ℕ) (es : List Entered) : Type 0 where

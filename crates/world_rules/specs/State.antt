@@ -52,48 +52,24 @@ of_time t xs = filter_map (at_this t) xs
 -- ---- calls
 
 abbrev pub asked_by : JournalEntry → Option FunId
-asked_by (Posted n h c payload) = None
-asked_by (Dropped h cause) = None
-asked_by (Started n) = None
 asked_by (Asked n f args) = Some f
-asked_by (Answered n value) = None
-asked_by (Ended n how) = None
-asked_by (Installed p) = None
-asked_by Reset = None
-asked_by (Seen store) = None
-asked_by (Void cause) = None
+asked_by _ = None
 
 -- the functions that the entries call
 abbrev pub calls_in : List JournalEntry → List FunId
 calls_in told = filter_map asked_by told
 
 abbrev pub is_send_kind : FunKind → Bool
-is_send_kind fun.Sense = false
-is_send_kind (fun.Act args) = false
 is_send_kind fun.Send = true
-is_send_kind fun.Id = false
-is_send_kind fun.Rand = false
-is_send_kind fun.Clock = false
+is_send_kind _ = false
 
 abbrev pub is_rand_kind : FunKind → Bool
-is_rand_kind fun.Sense = false
-is_rand_kind (fun.Act args) = false
-is_rand_kind fun.Send = false
-is_rand_kind fun.Id = false
 is_rand_kind fun.Rand = true
-is_rand_kind fun.Clock = false
+is_rand_kind _ = false
 
 abbrev pub message_in : World → JournalEntry → Option Packet
-message_in w (Posted n h c payload) = None
-message_in w (Dropped h cause) = None
-message_in w (Started n) = None
 message_in w (Asked n f args) = if is_send_kind (called_kind w f) then Some (App args) else None
-message_in w (Answered n value) = None
-message_in w (Ended n how) = None
-message_in w (Installed p) = None
-message_in w Reset = None
-message_in w (Seen store) = None
-message_in w (Void cause) = None
+message_in w _ = None
 
 -- the messages that the entries send
 abbrev pub messages : World → List JournalEntry → List Packet
@@ -195,13 +171,8 @@ timer_after n e time =
     option_map_or (λ (t : trickle.TimerEvent). after_happening n.timer (record { event = t; time = time })) e.timer n.timer
 
 abbrev pub is_pump : Cause → Bool
-is_pump (event.Planned line) = false
-is_pump (event.Period node h) = false
-is_pump (event.Fire node) = false
-is_pump (event.Expire node) = false
 is_pump (event.Pump node) = true
-is_pump (event.Due node c inv value) = false
-is_pump (event.Deliver link number packet) = false
+is_pump _ = false
 
 -- the due pump is still due: it isn't the one that comes, and isn't cancelled
 abbrev pub still_pumps : Cause → NodeEffect → Node → Bool
@@ -221,14 +192,9 @@ node_after w n m =
 
 -- the next period of a timer handler
 abbrev pub next_period : World → Cause → ℕ → List Scheduled
-next_period w (event.Planned line) time = []
 next_period w (event.Period node h) time = option_map_or (λ p. record { time = time + p; cause = event.Period node h }
     ∷ []) (period_of w h.0) []
-next_period w (event.Fire node) time = []
-next_period w (event.Expire node) time = []
-next_period w (event.Pump node) time = []
-next_period w (event.Due node c inv value) time = []
-next_period w (event.Deliver link number packet) time = []
+next_period w _ time = []
 
 -- the point and the end of an interval
 abbrev pub of_interval : ℕ → Timer → List Scheduled
@@ -259,13 +225,11 @@ schedules w s m =
 -- Cancelled are, at its node: the answers to cut invocations, the point and the end of an interval in which a new one
 -- began, and the pump of a node that was reset.
 abbrev pub is_kept : ℕ → NodeEffect → Bool → Cause → Bool
-is_kept node e begins (event.Planned line) = true
-is_kept node e begins (event.Period k h) = true
 is_kept node e begins (event.Fire k) = not (begins && k == node)
 is_kept node e begins (event.Expire k) = not (begins && k == node)
 is_kept node e begins (event.Pump k) = not (resets e.deed && k == node)
 is_kept node e begins (event.Due k c inv value) = not (cuts e.deed && k == node)
-is_kept node e begins (event.Deliver link number packet) = true
+is_kept node e begins _ = true
 
 abbrev pub is_some_length : Option ℕ → Bool
 is_some_length None = false

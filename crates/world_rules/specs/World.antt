@@ -27,8 +27,7 @@ use Rattle.world_script.specs.declared.world.What.TheVariants as what
 pub data Want : Type 0 where
   Inject : (program : HeldProgram) → Want
   Post : (handler : HandlerId) (payload : ArrayVec ℤ) → Want
-  Show : Want
-  ResetNode : Want
+  Show ResetNode : Want
   Noise : (bytes : ArrayVec ℕ) → Want
 
 pub record PlannedLine : Type 0 where
@@ -93,10 +92,8 @@ receivers w = filter_map (λ h. if_so (is_receiver (slice_get w.description.hand
 
 -- the period of a timer handler
 abbrev pub period_in : HandlerKind → Option ℕ
-period_in kind.Plain = None
 period_in (kind.Timer period) = Some period
-period_in kind.Receive = None
-period_in kind.Once = None
+period_in _ = None
 
 abbrev pub period_of : World → ℕ → Option ℕ
 period_of w h = option_map_or (λ (x : Handler). period_in x.kind) (slice_get w.description.handlers.items h) None

@@ -63,10 +63,7 @@ pub record IsRightPlanned (d : Description) (nodes until files : ℕ) (p : Plann
 -- what holds of the handler and the version of an injection
 abbrev pub IfInjects : What → (HandlerId → ℕ → Type 0) → Type 0
 IfInjects (what.Inject program handler version) P = P handler version
-IfInjects (what.Post handler payload) P = Unit {0}
-IfInjects what.Show P = Unit {0}
-IfInjects what.Reset P = Unit {0}
-IfInjects (what.Noise bytes) P = Unit {0}
+IfInjects _ P = Unit {0}
 
 -- the later one isn't earlier in time, and of two injections for one handler it has the greater version
 pub record Follow (p later : Planned) : Type 0 where

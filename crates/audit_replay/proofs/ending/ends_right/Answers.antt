@@ -1,4 +1,4 @@
-use Rattle.std.proofs.Common.{Option, Some, sym, ◌∙◌, ap, subst}
+use Rattle.std.proofs.Common.{Some, sym, ◌∙◌, ap, subst}
 use Rattle.std.specs.Prelude.{unwrap_or}
 use Rattle.mate_num.specs.declared.outcome.Outcome.{Outcome}
 use Rattle.audit_rules.specs.Shown.{HasLengthsOf}

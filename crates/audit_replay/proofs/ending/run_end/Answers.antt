@@ -1,4 +1,4 @@
-use Rattle.std.proofs.Common.{◌≡◌, ℕ, false, Option, Some, refl, sym, ◌∙◌, ◌+◌, ap, subst}
+use Rattle.std.proofs.Common.{◌≡◌, ℕ, false, Option, Some, refl, sym, ◌∙◌, ◌+◌, subst}
 use Rattle.mate_num.specs.declared.store.Store.{Store}
 use Rattle.audit_rules.specs.Rerun.{ends_right, run_on}
 use Rattle.audit_rules.specs.Tests.{conflict_of}

@@ -1,4 +1,4 @@
-use Rattle.std.proofs.Common.{◌≡◌, ◌<◌, ℕ, get_or, length, sym, ◌∙◌, rules, arith}
+use Rattle.std.proofs.Common.{◌≡◌, ◌<◌, get_or, length, sym, ◌∙◌, rules, arith}
 use Rattle.report_fields.proofs.NumeralLemmas.{IsLeading-first}
 use Rattle.report_fields.proofs.numbers.first_numeral.Goals as goal
 use Rattle.report_fields.proofs.numbers.first_numeral.Goals.{else-digits-bytes-via-then-digits-bytes+else-bytes-digits-ne32, else-digits-bytes-via-else-digits-bytes}

@@ -1,4 +1,4 @@
-use Rattle.std.proofs.Common.{◌<◌, ◌++◌, ◌∷◌, List, ℕ, length, take, sym, ap, ◌∙◌, arith}
+use Rattle.std.proofs.Common.{◌++◌, ◌∷◌, List, ℕ, length, take, sym, ap, ◌∙◌, arith}
 use Rattle.report_reading.proofs.TextLemmas.{no_end, cut_at}
 use Rattle.report_reading.proofs.text.first_line.Goals as goal
 

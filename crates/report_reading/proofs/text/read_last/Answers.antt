@@ -1,4 +1,4 @@
-use Rattle.std.proofs.Common.{◌≡◌, ◌<◌, List, [], ℕ, length, true, false, sym, ap, ◌∙◌, arith, rules}
+use Rattle.std.proofs.Common.{◌≡◌, ◌<◌, [], length, true, false, sym, ◌∙◌}
 use Rattle.report_reading.proofs.TextLemmas.{nothing-told, nothing-last, last_refused, last_goes_on, last_ends, some_left, none_left}
 use Rattle.report_reading.proofs.text.read_last.Goals as goal
 

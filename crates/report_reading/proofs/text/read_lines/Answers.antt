@@ -1,4 +1,3 @@
-use Rattle.std.proofs.Common.{sym}
 use Rattle.report_reader.specs.LightLine.{bulky_line}
 use Rattle.report_reading.proofs.TextLemmas.{at_first, at_next, reads_end, reads_bad, reads_failed, reads_last}
 use Rattle.report_reading.proofs.text.read_lines.Goals as goal
