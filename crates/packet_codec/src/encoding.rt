@@ -1,6 +1,7 @@
 //! From packets to bytes.
 
 ghost use Rattle.std.specs.Prelude.{◌≡◌, ◌+◌, ◌*◌, ◌^◌, ◌<◌, ◌≤◌, ◌++◌, [], ◌∷◌, length, All, Ok, FitsSigned};
+ghost use Rattle.mate_num.specs.declared.bounds.TheConstants.{PACKET_MAX};
 ghost use Rattle.std.specs.Int.{w16};
 ghost use Rattle.capsule_codec.specs.Image.{IsBytes};
 ghost use Rattle.packet_codec.specs.Packet.{IsRightPacket, HasPacketRanges};
@@ -82,7 +83,7 @@ fn put_body(out: &mut PacketBytes, packet: &Packet)
 
 // Appends four bytes for each version.
 fn put_versions(out: &mut PacketBytes, versions: &[u32])
-    requires { length out.old.items + 4 * length versions.now ≤ 64 }
+    requires { length out.old.items + 4 * length versions.now ≤ PACKET_MAX }
     ensures bytes { out.new.items ≡ out.old.items ++ version_bytes versions.now }
     ensures ranges { All (λ version. version < 2 ^ 32) versions.now }
 {
@@ -93,7 +94,7 @@ fn put_versions(out: &mut PacketBytes, versions: &[u32])
 
 // Appends two bytes for each value.
 fn put_values(out: &mut PacketBytes, values: &[i16])
-    requires { length out.old.items + 2 * length values.now ≤ 64 }
+    requires { length out.old.items + 2 * length values.now ≤ PACKET_MAX }
     ensures bytes { out.new.items ≡ out.old.items ++ value_bytes values.now }
     ensures ranges { All (λ value. FitsSigned w16 value) values.now }
 {
@@ -104,7 +105,7 @@ fn put_values(out: &mut PacketBytes, values: &[i16])
 
 // Appends the bytes; there must be room for them.
 fn put(out: &mut PacketBytes, bytes: &[u8])
-    requires { length out.old.items + length bytes.now ≤ 64 }
+    requires { length out.old.items + length bytes.now ≤ PACKET_MAX }
     ensures bytes { out.new.items ≡ out.old.items ++ bytes.now }
     ensures fits { IsBytes bytes.now }
 {

@@ -1,5 +1,6 @@
 -- What the fields of a record denote, each by one word, or by all that are left.
 use Rattle.std.specs.Prelude.{ℕ, ◌^◌, List, [], ◌∷◌, ℤ, Option, None, Some, if◌then◌else◌}
+use Rattle.mate_num.specs.declared.bounds.TheConstants.{NODES_MAX}
 use Rattle.std.specs.Option.{option_map}
 use Rattle.std.specs.Str.{bytes_eq}
 use Rattle.arrayvec.specs.ArrayVec.{ArrayVec}
@@ -20,7 +21,7 @@ abbrev pub number_of : List ℕ → Option ℕ
 number_of word = below_of (2 ^ 32) word
 
 abbrev pub node_of : List ℕ → Option ℕ
-node_of word = below_of 64 word
+node_of word = below_of NODES_MAX word
 
 unfoldable pub drop_of : List ℕ → Option DropCause
 drop_of word = named_among drop_word (drop.NoCode ∷ drop.AllBusy ∷ []) word

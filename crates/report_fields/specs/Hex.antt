@@ -3,7 +3,7 @@ use Rattle.std.specs.Prelude.{ℕ, ◌*◌, ◌%◌, ◌==◌, nat_le, Bool, not
 use Rattle.std.specs.List.{list_all}
 use Rattle.arrayvec.specs.ArrayVec.{ArrayVec}
 use Rattle.capsule_codec.specs.HexText.{bytes_of_digits}
-use Rattle.mate_num.specs.declared.bounds.TheConstants.{IMAGE_MAX}
+use Rattle.mate_num.specs.declared.bounds.TheConstants.{IMAGE_MAX, PACKET_MAX}
 
 abbrev pub is_lower_digit : ℕ → Bool
 is_lower_digit b = (nat_le 48 b && nat_le b 57) || (nat_le 97 b && nat_le b 102)
@@ -21,4 +21,4 @@ abbrev pub image_of : List ℕ → Option (ArrayVec ℕ)
 image_of word = hex_of IMAGE_MAX word
 
 abbrev pub packet_of : List ℕ → Option (ArrayVec ℕ)
-packet_of word = hex_of 64 word
+packet_of word = hex_of PACKET_MAX word

@@ -5,9 +5,7 @@ ghost use Rattle.std.specs.List.{list_all};
 ghost use Rattle.report_fields.specs.Hex.{is_lower_digit, is_hex_word, image_of, packet_of};
 
 use capsule_codec::read_digits;
-use mate_num::{IMAGE_MAX, Image, PacketBytes};
-
-const PACKET_MAX: usize = 64;
+use mate_num::{IMAGE_MAX, Image, PACKET_MAX, PacketBytes};
 
 fn is_lower_digit(byte: u8) -> bool
     ensures { result ≡ is_lower_digit byte }
@@ -45,7 +43,7 @@ pub fn image_of(word: &[u8]) -> Option<Image>
     Some(image)
 }
 
-/// The packet that a word tells: 1 to 64 bytes.
+/// The packet that a word tells: 1 to `PACKET_MAX` bytes.
 #[tactic(auto, using(crate::proofs::HexLemmas::digits_of_word))]
 pub fn packet_of(word: &[u8]) -> Option<PacketBytes>
     ensures { result ≡ packet_of word.now }

@@ -7,11 +7,9 @@ ghost use Rattle.report_text.specs.Tidy.{IsTidy};
 use crate::merge::records;
 use mate_files::{Pen, Sink, SinkFault};
 use mate_journal::Report;
+use mate_num::NODES_MAX;
 use report_text::text::{count_records, end_line};
 use vm_desc::Description;
-
-// The most nodes that a tidy report has.
-const NODES_MAX: usize = 64;
 
 /// Writes the text of a tidy report: a line per record, in the order of events, and the last line.
 ///

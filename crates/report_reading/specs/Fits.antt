@@ -1,5 +1,6 @@
 -- Which lines of a report fit one after another, and which last line fits after them.
 use Rattle.std.specs.Prelude.{◌≡◌, ◌≤◌, ◌<◌, ℕ, Bool, true, false, List, map, length, All, AllPairs, IsTrue, ⊤}
+use Rattle.mate_num.specs.declared.bounds.TheConstants.{NODES_MAX}
 use Rattle.vm_desc.specs.declared.description.Description.{Description}
 use Rattle.report_text.specs.Tidy.{Mark, IsNoEarlier, AreOfOneNode, IsAirInRange}
 use Rattle.report_reader.specs.declared.line.Line.{Line}
@@ -63,5 +64,5 @@ pub record FitsLast (ls : List Line) (e : LastLine) : Type 0 where
   pub ranges : HasLastRanges e
   pub records : e.records ≡ length ls
   pub low : 1 ≤ e.nodes
-  pub high : e.nodes ≤ 64
+  pub high : e.nodes ≤ NODES_MAX
   pub above : All (IsLineBelow e.nodes) ls

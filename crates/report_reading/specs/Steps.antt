@@ -1,5 +1,6 @@
 -- How far the code has come in a text. It follows the code; `Reads.antt` has what is promised.
 use Rattle.std.specs.Prelude.{◌≡◌, ◌<◌, ◌≤◌, ◌+◌, ℕ, List, [], ◌∷◌, ◌++◌, length, slice_index_or, not, ◌==◌, ◌&&◌, nat_le, Bool, true, max}
+use Rattle.mate_num.specs.declared.bounds.TheConstants.{NODES_MAX}
 use Rattle.std.specs.Prelude.{All, Some, Result, Ok, Err, ⊤}
 use Rattle.std.specs.List.{list_all}
 use Rattle.vm_desc.specs.declared.description.Description.{Description}
@@ -19,8 +20,8 @@ use Rattle.report_reading.specs.declared.fault.TextFault.TheVariants.{BadLine, N
 
 -- the logs of the 64 nodes that there can be
 pub record AreLogsOf (ls : List Line) (logs : List Log) : Type 0 where
-  pub count : length logs ≡ 64
-  pub same : (node : ℕ) (d : Log) → node < 64 → IsSameLog (slice_index_or logs node d) (log_of node ls)
+  pub count : length logs ≡ NODES_MAX
+  pub same : (node : ℕ) (d : Log) → node < NODES_MAX → IsSameLog (slice_index_or logs node d) (log_of node ls)
 
 -- what is kept of lines that fit
 pub record HasRead (d : Description) (ls : List Line) (p : Parts) : Type 0 where
@@ -82,4 +83,4 @@ AreShort logs = All (λ (l : Log). (length l.images < 4100000000) × (length l.s
 
 -- the test of a last line
 abbrev pub fits_last : Parts → LastLine → Bool
-fits_last p e = ((e.records == p.count && nat_le 1 e.nodes) && nat_le e.nodes 64) && nat_le p.nodes e.nodes
+fits_last p e = ((e.records == p.count && nat_le 1 e.nodes) && nat_le e.nodes NODES_MAX) && nat_le p.nodes e.nodes

@@ -1,6 +1,7 @@
 //! The parts of a report, while its lines are read.
 
 ghost use Rattle.std.specs.Prelude.{◌≡◌, ◌≤◌, ◌<◌, ◌+◌, ◌∷◌, ◌++◌, [], List, ℕ, length, take, max, All, OnOk, MatchResult, IfOk, Err};
+ghost use Rattle.mate_num.specs.declared.bounds.TheConstants.{NODES_MAX};
 ghost use Rattle.std.specs.Prelude.{IsTrue, ◌↔◌};
 ghost use Rattle.vm_desc.specs.declared.description.Description.{Description};
 ghost use Rattle.mate_journal.specs.Log.{Log, IsSameLog};
@@ -16,12 +17,9 @@ use crate::fault::TextFault;
 use crate::last_line::LastLine;
 use crate::place::{Place, admits_next, place_after};
 use mate_journal::{Air, Aired, Airs, NodeLog, NodeLogs, Report, Stamped};
-use mate_num::{NoMemory, Stamp};
+use mate_num::{NODES_MAX, NoMemory, Stamp};
 use report_reader::{Bulk, LightLine, LightTold};
 use std::alloc::Global;
-
-/// The most nodes that a report has.
-const NODES_MAX: u8 = 64;
 
 /// What the lines of a text recorded so far.
 #[derive(Drop)]
@@ -112,7 +110,7 @@ impl Parts {
 
     /// Takes the next line, whose image or store is in `bulk`. A line that doesn't fit after those before it is the bad line.
     pub fn take(&mut self, line: LightLine, bulk: &Bulk) -> Result<(), TextFault>
-        requires node { line.node < 64 }
+        requires node { line.node < NODES_MAX }
         requires few { self.old.count < 4000000000 }
         requires read { (d : Description) × (ls : List Line) × HasRead d ls self.old }
         ensures { (d : Description) (ls : List Line) → HasRead d ls self.old → IsSound d (bulky_line bulk.now line)
@@ -156,7 +154,7 @@ impl Parts {
 
     /// The report of the lines that were read, with this last line.
     pub fn into_report(self, alloc: Global, last: LastLine) -> Result<Report, NoMemory>
-        requires { last.nodes ≤ 64 }
+        requires { last.nodes ≤ NODES_MAX }
         ensures { IfOk result (λ r. (d : Description) (ls : List Line) → HasRead d ls self → IsSameReport r (report_of ls last)) }
     {
         let Parts { logs, air, .. } = self;

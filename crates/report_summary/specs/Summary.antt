@@ -1,5 +1,6 @@
 -- The summary of a report, from what was counted.
 use Rattle.std.specs.Prelude.{◌≡◌, ◌≤◌, ◌+◌, ◌*◌, ◌^◌, ◌==◌, ℕ, Bool, if◌then◌else◌, List, [], ◌∷◌, ◌++◌, codes, length, max, fold}
+use Rattle.mate_num.specs.declared.bounds.TheConstants.{NODES_MAX}
 use Rattle.std.specs.Prelude.{flat_map, count_by, sum_by, All}
 use Rattle.vm_desc.specs.declared.description.Description.{Description}
 use Rattle.mate_journal.specs.Tidy.{below}
@@ -23,7 +24,7 @@ pub record SumsReport (d : Description) (s : Summary) (r : Report) : Type 0 wher
 
 -- their sums are counted by 64 bits
 pub record AreSmall (ts : List LogTally) : Type 0 where
-  pub count : length ts ≤ 64
+  pub count : length ts ≤ NODES_MAX
   pub each : All (IsUpTo (3 * 2 ^ 56)) ts
 
 pub record IsSmall (s : Summary) : Type 0 where

@@ -1,5 +1,6 @@
 -- Tidy reports: what a text of a report takes for granted.
 use Rattle.std.specs.Prelude.{◌≡◌, ◌≤◌, ◌<◌, ℕ, suc, Bool, false, List, [], ◌∷◌, ◌++◌, map, ◌⊎◌, length, All, IsTrue, is_some, ⊤}
+use Rattle.mate_num.specs.declared.bounds.TheConstants.{NODES_MAX}
 use Rattle.mate_num.specs.declared.call.Stamp.{Stamp}
 use Rattle.vm_desc.specs.declared.description.Description.{Description}
 use Rattle.mate_journal.specs.Log.{Log}
@@ -57,7 +58,7 @@ AreOfOneNode ms a b = a.stamp.event ≡ b.stamp.event → (a.node ≡ b.node) �
 -- last, are each of one node.
 pub record IsTidy (d : Description) (r : Report) : Type 0 where
   pub nodes_low : 1 ≤ length r.nodes
-  pub nodes_high : length r.nodes ≤ 64
+  pub nodes_high : length r.nodes ≤ NODES_MAX
   pub logs : All (IsTidyLog d) r.nodes
   pub images : All HasFullImages r.nodes
   pub air_in_range : All (λ (a : Aired). (a.node < length r.nodes) × IsAirInRange (length r.nodes) a.air) r.air

@@ -1,6 +1,7 @@
 //! How many entries and records of the air there are of each kind, counted in one pass.
 
 ghost use Rattle.std.specs.Prelude.{◌≡◌, ◌+◌, ◌*◌, ◌^◌, ◌≤◌, length};
+ghost use Rattle.mate_num.specs.declared.bounds.TheConstants.{NODES_MAX};
 ghost use Rattle.report_text.specs.Brief.{is_entry, is_air, entries_of, air_of};
 ghost use Rattle.report_text.specs.Counts.{entries_in, air_in, one_if, AreUpTo, IsAirUpTo, CountsEntries};
 ghost use Rattle.report_text.specs.declared.summary.EntryKind.{EntryKind as Kind};
@@ -32,7 +33,7 @@ pub struct AirCounts {
 impl EntryCounts {
     /// The counts of the logs' entries.
     pub fn of(logs: &[NodeLog]) -> EntryCounts
-        requires { length logs.now ≤ 64 }
+        requires { length logs.now ≤ NODES_MAX }
         ensures { (k : Kind) → entries_in k result ≡ entries_of k logs.now }
     {
         let mut counts = EntryCounts {

@@ -1,6 +1,7 @@
 //! The summary of a report.
 
 ghost use Rattle.std.specs.Prelude.{◌≡◌, ◌==◌, if◌then◌else◌, ◌+◌, ◌<◌, ◌≤◌, ◌^◌, length, max, fold, flat_map, count_by};
+ghost use Rattle.mate_num.specs.declared.bounds.TheConstants.{NODES_MAX};
 ghost use Rattle.mate_files.specs.Pen.{Prints};
 ghost use Rattle.mate_files.specs.Sink.{Puts};
 ghost use Rattle.mate_journal.specs.Tidy.{below};
@@ -53,7 +54,7 @@ pub fn brief<S: Sink>(desc: &Description, report: &Report, out: &mut S) -> Resul
 }
 
 fn count_lines<S: Sink>(pen: &mut Pen, out: &mut S, report: &Report)
-    requires { length report.now.nodes ≤ 64 }
+    requires { length report.now.nodes ≤ NODES_MAX }
     ensures { Prints (S.written out.old) (S.faults out.old) pen.old.result (S.written out.new) (S.faults out.new) pen.new.result
         (count_lines report.now) }
 {

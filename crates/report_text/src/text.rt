@@ -1,6 +1,7 @@
 //! The pieces of a report's text: the lines of an event, and the last line.
 
 ghost use Rattle.std.specs.Prelude.{◌≡◌, ◌≤◌, ◌++◌, ◌*◌, ◌^◌, length, [], drop, flat_map, sum_by, IsTrue};
+ghost use Rattle.mate_num.specs.declared.bounds.TheConstants.{NODES_MAX};
 ghost use Rattle.mate_files.specs.Pen.{Prints};
 ghost use Rattle.mate_files.specs.Sink.{Puts};
 ghost use Rattle.report_text.specs.Text.{air_line, event_piece, lines, entry_line, end_word, end_line, records};
@@ -15,7 +16,7 @@ use mate_journal::{Aired, NodeLog, Report, Stamped};
 use vm_desc::Description;
 
 fn count_entries(logs: &[NodeLog]) -> u64
-    requires { length logs.now ≤ 64 }
+    requires { length logs.now ≤ NODES_MAX }
     ensures value { result ≡ sum_by (λ l. length l.entries) logs.now }
     ensures fits { result ≤ length logs.now * 2 ^ 57 }
 {
@@ -28,7 +29,7 @@ fn count_entries(logs: &[NodeLog]) -> u64
 
 /// How many records the report has: of all logs, and of the air.
 pub fn count_records(report: &Report) -> u64
-    requires { length report.now.nodes ≤ 64 }
+    requires { length report.now.nodes ≤ NODES_MAX }
     ensures { result ≡ records report.now }
 {
     report.air().len() as u64 + count_entries(report.nodes())

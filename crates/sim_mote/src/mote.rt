@@ -1,7 +1,7 @@
 //! A node of a world with its timer, its exchange and its calls, and what events do to it.
 
 ghost use Rattle.std.specs.Prelude.{◌≡◌, ◌+◌, ◌<◌, ◌≤◌, ℕ, true, List, length, All, OnOk, IfOk, ◌⊎◌};
-ghost use Rattle.mate_num.specs.declared.bounds.TheConstants.{CONTEXTS_MAX, HOUR};
+ghost use Rattle.mate_num.specs.declared.bounds.TheConstants.{CONTEXTS_MAX, HOUR, NODES_MAX};
 ghost use Rattle.mate_journal.specs.NodeScript.{Occasion, AnswersCall, ShowsOnce};
 ghost use Rattle.node_invariant.specs.Meaning.{machine_in};
 ghost use Rattle.node_calls.specs.Calls.{NobodyWaits};
@@ -41,7 +41,7 @@ pub struct Mote {
 impl Mote {
     /// A node at the start of a world whose random streams begin at `random`.
     pub fn new(alloc: Global, desc: &Description, random: u64, node: u8) -> Result<Mote, NoMemory>
-        requires { node < 64 }
+        requires { node < NODES_MAX }
         ensures { IfOk result (BeginsMote desc.now random node) }
     {
         Ok(Mote {

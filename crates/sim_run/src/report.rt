@@ -1,6 +1,7 @@
 //! The report of a world's run.
 
 ghost use Rattle.std.specs.Prelude.{◌≡◌, ◌≤◌, length, All, OnOk};
+ghost use Rattle.mate_num.specs.declared.bounds.TheConstants.{NODES_MAX};
 ghost use Rattle.vm_desc.specs.declared.description.Description.{Description};
 ghost use Rattle.node_invariant.specs.Meaning.{machine_in};
 ghost use Rattle.open_node.specs.Journal.{KeepsJournal};
@@ -71,7 +72,7 @@ fn see_store(mote: &mut Mote, at: Stamp) -> Result<(), NoMemory>
 /// The report of a run of so many events. It takes no memory: `logs` has a log for each node.
 pub fn report_of(logs: NodeLogs, sim: Simulation, events: u64, whole: bool) -> Report
     requires count { length logs ≡ length sim.motes.items }
-    requires few { length sim.motes.items ≤ 64 }
+    requires few { length sim.motes.items ≤ NODES_MAX }
     requires whole { IsWhole sim }
     ensures is { result ≡ told_report sim events whole }
     ensures keeps { (d : Description) → AreOfMachine d sim.motes.items → All (KeepsJournal d (machine_in d)) result.nodes }
@@ -87,7 +88,7 @@ pub fn report_of(logs: NodeLogs, sim: Simulation, events: u64, whole: bool) -> R
 /// The nodes' logs, put in place of those that are there.
 fn logs_in(logs: NodeLogs, motes: Vec<Mote>) -> NodeLogs
     requires count { length logs ≡ length motes.items }
-    requires few { length motes.items ≤ 64 }
+    requires few { length motes.items ≤ NODES_MAX }
     requires whole { All (λ (m : MoteState). m.node.gone ≡ nothing_gone) motes.items }
     ensures is { result ≡ mote_logs motes.items }
     ensures keeps { (d : Description) → AreOfMachine d motes.items → All (KeepsJournal d (machine_in d)) result }

@@ -1,6 +1,7 @@
 //! A world between its events: the radio, the nodes, and how many records there are.
 
 ghost use Rattle.std.specs.Prelude.{◌≡◌, ◌<◌, ◌≤◌, ◌∷◌, [], List, length, slice_get, Some, All, IfOk, ◌⊎◌};
+ghost use Rattle.mate_num.specs.declared.bounds.TheConstants.{NODES_MAX};
 ghost use Rattle.world_script.specs.World.{IsRightWorld};
 ghost use Rattle.mate_journal.specs.Log.{IsEmpty, IsSameLog};
 ghost use Rattle.mate_journal.specs.OpenLog.{gone_of};
@@ -138,7 +139,7 @@ fn begin_motes(
     world: &World,
     radio: &mut Radio,
 ) -> Result<Vec<Mote>, NoMemory>
-    requires nodes { world.now.nodes ≤ 64 }
+    requires nodes { world.now.nodes ≤ NODES_MAX }
     requires now { radio.old.agenda.now ≡ 0 }
     ensures { IfOk result (λ motes. (ps : List ProgramOfFile)
         → HaveBegun (code_world desc.now world.now ps) world.now.nodes radio.old radio.new motes.items) }
@@ -158,7 +159,7 @@ fn begin_mote(
     node: u8,
     radio: &mut Radio,
 ) -> Result<Mote, NoMemory>
-    requires node { node < 64 }
+    requires node { node < NODES_MAX }
     requires now { radio.old.agenda.now ≡ 0 }
     ensures begins { IfOk result (BeginsMote desc.now random node) }
     ensures adds { IfOk result (λ mote. AddsToAir radio.old radio.new (aired_at beginning node (air.Interval mote.timer.running.length)

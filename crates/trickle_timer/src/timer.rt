@@ -1,7 +1,7 @@
 //! One node's timer: the interval that runs, its point, and what was received in it.
 
 ghost use Rattle.std.specs.Prelude.{◌≡◌, ◌+◌, ◌/◌, ◌%◌, ◌^◌, ◌<◌, ◌≤◌, ◌&&◌, [], List, not, nat_lt, nat_le, IsTrue, if◌then◌else◌};
-ghost use Rattle.mate_num.specs.declared.bounds.TheConstants.{HOUR};
+ghost use Rattle.mate_num.specs.declared.bounds.TheConstants.{HOUR, NODES_MAX};
 ghost use Rattle.rand_pcg.specs.Pcg.{pcg32};
 ghost use Rattle.vm_desc.specs.Limits.{is_trickle, longest};
 ghost use Rattle.trickle_timer.specs.Intervals.{Reset, Again, Expired};
@@ -62,7 +62,7 @@ impl Trickle {
     /// next word of the generator that begins at `random`, in the stream `2 * node`.
     pub fn start(set: TrickleSet, random: u64, node: u8, now: u32) -> Trickle
         requires settings { IsTrue (is_trickle set) }
-        requires node { node < 64 }
+        requires node { node < NODES_MAX }
         requires hour { now ≤ HOUR }
         ensures first { result ≡ started_timer (record { set = set; random = random; node = node; time = now }) }
         ensures stands { IsTimerOf (record { set = set; random = random; node = node; time = now }) [] result }

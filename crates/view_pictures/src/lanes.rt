@@ -2,10 +2,9 @@
 
 use crate::marks::{Mark, What};
 use crate::window::Window;
-use mate_num::CONTEXTS_MAX;
+use mate_num::{CONTEXTS_MAX, NODES_MAX};
 use std::alloc::Global;
 use view_records::ViewFault;
-use view_records::nodes::NODES_MAX;
 
 /// How much room is above the lanes, in pixels.
 pub const HEAD: u64 = 76;
@@ -87,7 +86,7 @@ impl Lanes {
     ) -> Result<Lanes, ViewFault> {
         let mut lanes = Vec::new(alloc);
         let mut bottom = HEAD;
-        for node in 0..NODES_MAX {
+        for node in 0..NODES_MAX as u8 {
             if u64::from(node) < nodes && window.has_node(node) {
                 let lane = Lane {
                     node,

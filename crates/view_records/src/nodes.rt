@@ -3,12 +3,9 @@
 use crate::fault::ViewFault;
 use crate::stretch::{Live, Phase, Stretch, StretchEnd};
 use mate_journal::Entry;
-use mate_num::{CONTEXTS_MAX, HANDLERS_MAX, Stamp};
+use mate_num::{CONTEXTS_MAX, HANDLERS_MAX, NODES_MAX, Stamp};
 use report_reader::{Line, Told};
 use std::alloc::Global;
-
-/// The most nodes that a report has.
-pub const NODES_MAX: u8 = 64;
 
 /// The live invocations, by node and context, and the versions that nodes hold.
 #[derive(Drop)]
@@ -23,11 +20,11 @@ impl Nodes {
     /// Nodes on which nothing has happened.
     pub fn new(alloc: Global) -> Result<Nodes, ViewFault> {
         let mut live = Vec::new(alloc);
-        for _ in 0..usize::from(NODES_MAX) * CONTEXTS_MAX {
+        for _ in 0..NODES_MAX * CONTEXTS_MAX {
             live.push(None)?;
         }
         let mut versions = Vec::new(alloc);
-        for _ in 0..usize::from(NODES_MAX) * HANDLERS_MAX {
+        for _ in 0..NODES_MAX * HANDLERS_MAX {
             versions.push(0)?;
         }
         Ok(Nodes {
@@ -88,7 +85,7 @@ impl Nodes {
     /// The newest version of a handler that any node holds; 0 for none.
     pub fn newest(&self, handler: u8) -> u32 {
         let mut newest = 0;
-        for node in 0..NODES_MAX {
+        for node in 0..NODES_MAX as u8 {
             newest = self.version(node, handler).max(newest);
         }
         newest
@@ -97,7 +94,7 @@ impl Nodes {
     /// How many nodes hold this version of a handler.
     pub fn holders(&self, handler: u8, version: u32) -> u64 {
         let mut count = 0u64;
-        for node in 0..NODES_MAX {
+        for node in 0..NODES_MAX as u8 {
             if self.version(node, handler) == version {
                 count = count.saturating_add(1);
             }
@@ -273,7 +270,7 @@ impl Nodes {
     /// The report ends: the stretches of all that is live are appended to `ended`.
     pub fn finish(&mut self, ended: &mut Vec<Stretch>) -> Result<(), ViewFault> {
         let now = self.now;
-        for node in 0..NODES_MAX {
+        for node in 0..NODES_MAX as u8 {
             self.cut(node, now, StretchEnd::Open, ended)?;
         }
         Ok(())

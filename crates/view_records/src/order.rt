@@ -1,8 +1,8 @@
 //! Which lines are a report's: each fits after those before it, and the last one counts them.
 
 use crate::fault::ViewFault;
-use crate::nodes::NODES_MAX;
 use mate_journal::Air;
+use mate_num::NODES_MAX;
 use report_reader::{Bulk, LightLine, LightTold};
 use report_reading::last_line::LastLine;
 use report_reading::place::{Place, admits_next, place_after};
@@ -50,7 +50,7 @@ impl Order {
     pub fn end(&self, last: &LastLine) -> Result<(), ViewFault> {
         let fits = last.records == self.count
             && 1 <= last.nodes
-            && last.nodes <= u64::from(NODES_MAX)
+            && last.nodes <= NODES_MAX as u64
             && self.nodes <= last.nodes;
         if fits { Ok(()) } else { Err(self.bad_line(1)) }
     }

@@ -1,10 +1,9 @@
 //! What is counted over a report: by node, by handler and by function.
 
 use mate_journal::{Air, Entry};
-use mate_num::HANDLERS_MAX;
+use mate_num::{HANDLERS_MAX, NODES_MAX};
 use report_reader::{Line, Told};
 use std::alloc::Global;
-use view_records::nodes::NODES_MAX;
 use view_records::{Phase, Stretch, StretchEnd, ViewFault};
 
 /// The most functions that a machine has.
@@ -114,7 +113,7 @@ impl Sums {
     /// Nothing counted yet.
     pub fn new(alloc: Global) -> Result<Sums, ViewFault> {
         Ok(Sums {
-            nodes: Grid::new(alloc, usize::from(NODES_MAX), NODE_COLUMNS.len())?,
+            nodes: Grid::new(alloc, NODES_MAX, NODE_COLUMNS.len())?,
             handlers: Grid::new(alloc, HANDLERS_MAX, HANDLER_COLUMNS.len())?,
             functions: Grid::new(alloc, FUNCTIONS_MAX, FUNCTION_COLUMNS.len())?,
         })

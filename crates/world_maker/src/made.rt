@@ -1,6 +1,7 @@
 //! The world of a number, with its sources.
 
 ghost use Rattle.std.specs.Prelude.{◌≡◌, ◌≤◌, ◌++◌, ◌*◌, [], length, replicate, IfOk, OnOk};
+ghost use Rattle.mate_num.specs.declared.bounds.TheConstants.{NODES_MAX};
 ghost use Rattle.world_maker.specs.Source.{source_of};
 ghost use Rattle.world_script.specs.World.{IsRightWorld};
 ghost use Rattle.world_maker.specs.Made.{node_count, made_world, made_sources};
@@ -52,7 +53,7 @@ pub fn generate(alloc: Global, desc: &Description, number: u64) -> Result<Genera
 fn node_count(number: u64) -> u8
     ensures value { result ≡ node_count number }
     ensures low { 8 ≤ result }
-    ensures high { result ≤ 64 }
+    ensures high { result ≤ NODES_MAX }
 {
     (8 + number % 57) as u8
 }

@@ -1,6 +1,7 @@
 //! What is recorded of a world's run, so that its report can be handed out.
 
 ghost use Rattle.std.specs.Prelude.{◌≡◌, ◌<◌, ◌≤◌, length, MatchResult};
+ghost use Rattle.mate_num.specs.declared.bounds.TheConstants.{NODES_MAX};
 ghost use Rattle.run_record.specs.Records.{IsSameRecord};
 ghost use Rattle.sim_run.specs.Reporting.{mote_logs};
 ghost use Rattle.world_pieces.specs.Recording.{IsRecordOf, IsRecordBefore, HaveStoresBehind, IsRecorded, IsRecordedBefore, AreStoresBefore};
@@ -33,7 +34,7 @@ pub fn record_event(
 
 /// Records the stores that the nodes have at hand, if a record is kept. `NoMemory` leaves it as it was, but for its room.
 pub(crate) fn record_stores(records: &mut Option<Record>, sim: &Simulation) -> Result<(), NoMemory>
-    requires few { length sim.now.motes.items ≤ 64 }
+    requires few { length sim.now.motes.items ≤ NODES_MAX }
     requires before { AreStoresBefore records.old sim.now }
     ensures recorded { MatchResult result (λ _. IsRecorded records.new sim.now) (λ _. StaysRecorded records.old records.new) }
     ensures kept { has_record records.new ≡ has_record records.old }
@@ -60,7 +61,7 @@ pub(crate) fn add_event(records: &mut Record, sim: &Simulation, node: u8) -> Res
 
 /// Appends the store that each node has at hand. `NoMemory` leaves the record as it was, but for its room.
 fn add_stores(records: &mut Record, motes: &[Mote]) -> Result<(), NoMemory>
-    requires few { length motes.now ≤ 64 }
+    requires few { length motes.now ≤ NODES_MAX }
     requires before { HaveStoresBehind records.old motes.now }
     ensures { MatchResult result (λ _. IsRecordOf records.new (mote_logs motes.now) records.old.air)
         (λ _. IsSameRecord records.old records.new) }

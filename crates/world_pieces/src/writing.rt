@@ -1,6 +1,7 @@
 //! The parts of a run of a world whose lines are written as its events end: its start, one event's lines, and its end.
 
 ghost use Rattle.std.specs.Prelude.{◌≡◌, ◌≤◌, ◌<◌, ◌+◌, length, drop, sum_by, slice_get, All, Some, IfOk, IfSome, Err, false};
+ghost use Rattle.mate_num.specs.declared.bounds.TheConstants.{NODES_MAX};
 ghost use Rattle.mate_files.specs.Sink.{Puts};
 ghost use Rattle.mate_journal.specs.NodeScript.{Whole};
 ghost use Rattle.report_text.specs.Text.{event_piece};
@@ -149,7 +150,7 @@ pub fn write_piece<S: Sink>(
 #[inline(never)]
 fn write_stores<S: Sink>(desc: &Description, motes: &[Mote], out: &mut S) -> Result<(), SinkFault>
     requires some { All (λ (m : MoteState). m.node.gone.entries < length m.node.log.entries) motes.now }
-    requires few { length motes.now ≤ 64 }
+    requires few { length motes.now ≤ NODES_MAX }
     ensures { Puts (S.written out.old) (S.faults out.old) (S.written out.new) (S.faults out.new) result
         (store_lines desc.now 0 (mote_logs motes.now)) }
 {
@@ -168,7 +169,7 @@ fn write_stores<S: Sink>(desc: &Description, motes: &[Mote], out: &mut S) -> Res
 /// Writes the last line of the report so far, behind its other lines, and so ends the run.
 #[inline(never)]
 pub fn write_last<S: Sink>(sim: &Simulation, events: u64, whole: bool, out: &mut S) -> Pass
-    requires { length sim.now.motes.items ≤ 64 }
+    requires { length sim.now.motes.items ≤ NODES_MAX }
     ensures { PutsLastLine (told_report sim.now events whole) (S.written out.old) (S.faults out.old) (S.written out.new) (S.faults out.new)
         result }
 {
@@ -187,7 +188,7 @@ fn put_last<S: Sink>(
     whole: bool,
     out: &mut S,
 ) -> Result<(), SinkFault>
-    requires { length sim.now.motes.items ≤ 64 }
+    requires { length sim.now.motes.items ≤ NODES_MAX }
     ensures { Puts (S.written out.old) (S.faults out.old) (S.written out.new) (S.faults out.new) result
         (last_line (told_report sim.now events whole)) }
 {

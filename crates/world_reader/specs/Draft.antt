@@ -2,7 +2,7 @@
 use Rattle.std.specs.Prelude.{◌≡◌, ℕ, ◌+◌, ◌*◌, ◌<◌, ◌≤◌, ◌==◌, ◌&&◌, Bool, true, false, if◌then◌else◌, List, [], ◌∷◌, length, slice_index}
 use Rattle.std.specs.Prelude.{slice_index_or, All, Option, option_map, Result, Ok, Err, ⊤}
 use Rattle.std.specs.List.{AllPairs}
-use Rattle.mate_num.specs.declared.bounds.TheConstants.{HOUR}
+use Rattle.mate_num.specs.declared.bounds.TheConstants.{HOUR, NODES_MAX}
 use Rattle.vm_desc.specs.declared.description.Description.{Description}
 use Rattle.world_script.specs.declared.world.World.{World}
 use Rattle.world_script.specs.declared.world.Series.{Series}
@@ -60,7 +60,7 @@ IsNotedAt newest e = IfInjects e.what (λ handler version. version ≤ slice_ind
 pub record KeepsWorld (d : Description) (p : WorldProgress) : Type 0 where
   pub bare : IsBare p.stage p.world
   pub nodes_low : 1 ≤ p.world.nodes
-  pub nodes_high : p.world.nodes ≤ 64
+  pub nodes_high : p.world.nodes ≤ NODES_MAX
   pub until_low : 1 ≤ p.world.until
   pub until_high : p.world.until ≤ HOUR
   pub links : All (IsRightLink p.world.nodes) p.world.links
@@ -80,7 +80,7 @@ pub record IsRightEvent (d : Description) (p : WorldProgress) (e : Planned) (fil
   pub newer : IfInjects e.what (λ handler version. slice_index p.newest handler.0 < version)
 
 abbrev pub IsRightWorldSaid : Description → WorldProgress → WorldSaid → Type 0
-IsRightWorldSaid d p (SaysNodes nodes) = (1 ≤ nodes) × (nodes ≤ 64) × (p.stage ≡ stage.Nodes)
+IsRightWorldSaid d p (SaysNodes nodes) = (1 ≤ nodes) × (nodes ≤ NODES_MAX) × (p.stage ≡ stage.Nodes)
 IsRightWorldSaid d p (SaysRandom random) = p.stage ≡ stage.Random
 IsRightWorldSaid d p (SaysUntil until) = (1 ≤ until) × (until ≤ HOUR) × (p.stage ≡ stage.Until)
 IsRightWorldSaid d p (SaysSuppress on) = Unit {0}
@@ -104,5 +104,5 @@ place_from n node fun (s ∷ series) = if is_of_pair node fun s then n else plac
 pub record AreTables (linked : List Bool) (places : List ℕ) (w : World) : Type 0 where
   pub linked_len : length linked ≡ 4096
   pub places_len : length places ≡ 2048
-  pub links : (from to : ℕ) → from < 64 → to < 64 → slice_index_or linked (from * 64 + to) false ≡ is_linked from to w.links
-  pub series : (node fun : ℕ) → node < 64 → fun < 32 → slice_index places (node * 32 + fun) ≡ place_from 1 node fun w.series
+  pub links : (from to : ℕ) → from < NODES_MAX → to < NODES_MAX → slice_index_or linked (from * NODES_MAX + to) false ≡ is_linked from to w.links
+  pub series : (node fun : ℕ) → node < NODES_MAX → fun < 32 → slice_index places (node * 32 + fun) ≡ place_from 1 node fun w.series

@@ -3,7 +3,7 @@ use Rattle.std.specs.Prelude.{ℕ, ◌^◌, ◌-◌, ◌==◌, Bool, true, false
 use Rattle.std.specs.Prelude.{Some, None, Result, Ok, Err}
 use Rattle.std.specs.List.{list_any}
 use Rattle.std.specs.Str.{bytes_eq}
-use Rattle.mate_num.specs.declared.bounds.TheConstants.{HOUR}
+use Rattle.mate_num.specs.declared.bounds.TheConstants.{HOUR, NODES_MAX}
 use Rattle.vm_desc.specs.declared.description.Description.{Description}
 use Rattle.script_reader.specs.declared.fault.Cause.{Cause}
 use Rattle.script_reader.specs.declared.fault.Cause.TheVariants.{Word, Range}
@@ -134,7 +134,7 @@ by_its_verb verb wanted reading = if bytes_eq verb wanted then reading else foun
 
 -- `nodes N`, `random S` and `until MS`
 unfoldable pub some_nodes : List ℕ → WordReading ℕ
-some_nodes verb = by_its_verb verb (codes "nodes") (a_number 1 64 Range)
+some_nodes verb = by_its_verb verb (codes "nodes") (a_number 1 NODES_MAX Range)
 
 unfoldable pub a_random : List ℕ → WordReading ℕ
 a_random verb = by_its_verb verb (codes "random") (a_number 0 (2 ^ 64 - 1) Range)

@@ -1,5 +1,6 @@
 -- The words that only a world's script has: nodes, times, sensors, series of values, and noise.
 use Rattle.std.specs.Prelude.{ℕ, ◌+◌, ◌-◌, nat_lt, nat_le, ◌==◌, ℤ, if◌then◌else◌, List, [], ◌∷◌, length, Result, Ok, Err}
+use Rattle.mate_num.specs.declared.bounds.TheConstants.{PACKET_MAX}
 use Rattle.std.specs.Str.{bytes_eq}
 use Rattle.arrayvec.specs.ArrayVec.{ArrayVec}
 use Rattle.mate_num.specs.declared.id.FunId.{FunId}
@@ -50,7 +51,7 @@ some_values (w ∷ words) = found (values_from [] (w ∷ words)) []
 abbrev pub if_noise : Description → List ℕ → Result (ArrayVec ℕ) Cause
 if_noise d bytes =
     if length bytes == 0 then Err Number
-    else if nat_lt 64 (length bytes) then Err Range
+    else if nat_lt PACKET_MAX (length bytes) then Err Range
     else if is_noise d bytes then Ok (record { items = bytes })
     else Err Packet
 

@@ -1,6 +1,7 @@
 //! What a line adds to the world so far.
 
 ghost use Rattle.std.specs.Prelude.{◌≡◌, ◌<◌, false, length, IfErr, OnOk, option_map};
+ghost use Rattle.mate_num.specs.declared.bounds.TheConstants.{NODES_MAX};
 ghost use Rattle.world_script.specs.World.{with_values};
 ghost use Rattle.world_reader.specs.WorldLines.{SaysLink, SaysSeries, SaysPlanned};
 ghost use Rattle.world_reader.specs.Draft.{world_progress_of, world_said_of, AreTables};
@@ -42,8 +43,8 @@ pub fn take(draft: &mut Draft, command: Command<'_>) -> Result<(), ScriptFault>
 
 // Adds a link, and if `both` is true the one back as well.
 fn join(draft: &mut Draft, link: Link, both: bool) -> Result<(), NoMemory>
-    requires from { link.from < 64 }
-    requires to { link.to < 64 }
+    requires from { link.from < NODES_MAX }
+    requires to { link.to < NODES_MAX }
     requires tables { AreTables draft.old.linked draft.old.places draft.old.world }
     ensures value { OnOk result (world_progress_of draft.new ≡ with_told (world_progress_of draft.old) (SaysLink link both)) }
     ensures tables { OnOk result (AreTables draft.new.linked draft.new.places draft.new.world) }
@@ -63,8 +64,8 @@ fn join(draft: &mut Draft, link: Link, both: bool) -> Result<(), NoMemory>
 }
 
 fn join_one(draft: &mut Draft, link: Link) -> Result<(), NoMemory>
-    requires from { link.from < 64 }
-    requires to { link.to < 64 }
+    requires from { link.from < NODES_MAX }
+    requires to { link.to < NODES_MAX }
     requires tables { AreTables draft.old.linked draft.old.places draft.old.world }
     ensures value { OnOk result (world_progress_of draft.new ≡ with_told (world_progress_of draft.old) (SaysLink link false)) }
     ensures tables { OnOk result (AreTables draft.new.linked draft.new.places draft.new.world) }
@@ -75,7 +76,7 @@ fn join_one(draft: &mut Draft, link: Link) -> Result<(), NoMemory>
 
 // Adds the values to their series, or a new one.
 fn give(draft: &mut Draft, series: Series) -> Result<(), NoMemory>
-    requires node { series.node < 64 }
+    requires node { series.node < NODES_MAX }
     requires fun { series.fun.0 < 32 }
     requires tables { AreTables draft.old.linked draft.old.places draft.old.world }
     ensures value { OnOk result (world_progress_of draft.new ≡ with_told (world_progress_of draft.old) (SaysSeries series)) }

@@ -1,7 +1,7 @@
 //! What a whole line says, by the world so far.
 
 ghost use Rattle.std.specs.Prelude.{◌<◌, ◌≤◌, ◌^◌, length, IfOk};
-ghost use Rattle.mate_num.specs.declared.bounds.TheConstants.{HOUR};
+ghost use Rattle.mate_num.specs.declared.bounds.TheConstants.{HOUR, NODES_MAX};
 ghost use Rattle.script_reader.specs.Lines.{split_words};
 ghost use Rattle.script_reader.specs.Words.{ReadsWords};
 ghost use Rattle.world_reader.specs.WorldLines.{some_nodes, a_random, an_until, behind_verb, a_world_line};
@@ -65,7 +65,7 @@ impl Draft {
 fn nodes_in(verb: &str, words: &mut Words<'_>) -> Result<u8, Cause>
     ensures value { ReadsWords (λ n. n) (some_nodes verb.now) (split_words words.old) result (split_words words.new) }
     ensures low { IfOk result (λ n. 1 ≤ n) }
-    ensures high { IfOk result (λ n. n ≤ 64) }
+    ensures high { IfOk result (λ n. n ≤ NODES_MAX) }
 {
     if verb == "nodes" {
         let nodes = words.number(1, 64, Cause::Range)?;

@@ -1,6 +1,7 @@
 //! What the settings of a world's script say.
 
 ghost use Rattle.std.specs.Prelude.{◌≡◌, ◌<◌, ◌≤◌, ◌^◌, length, true, IfOk};
+ghost use Rattle.mate_num.specs.declared.bounds.TheConstants.{NODES_MAX};
 ghost use Rattle.script_reader.specs.Lines.{split_words};
 ghost use Rattle.script_reader.specs.Words.{ReadsWords};
 ghost use Rattle.world_reader.specs.declared.stage.Stage.TheVariants as stages;
@@ -72,9 +73,9 @@ impl Draft {
     // The node at a link's other end.
     #[tactic(auto, unfolding(crate::specs::WorldLines::a_far_end))]
     fn far_end(&self, both: bool, from: u8, words: &mut Words<'_>) -> Result<u8, Cause>
-        requires from { from < 64 }
+        requires from { from < NODES_MAX }
         requires low { 1 ≤ self.now.world.nodes }
-        requires high { self.now.world.nodes ≤ 64 }
+        requires high { self.now.world.nodes ≤ NODES_MAX }
         requires tables { AreTables self.now.linked self.now.places self.now.world }
         ensures value { ReadsWords (λ n. n) (a_far_end self.now.world both from) (split_words words.old) result (split_words words.new) }
         ensures below { IfOk result (λ to. to < self.now.world.nodes) }
@@ -90,8 +91,8 @@ impl Draft {
 
     // Whether a link may join the nodes, and if `both` is true the one back as well.
     fn is_free(&self, both: bool, from: u8, to: u8) -> bool
-        requires from { from < 64 }
-        requires to { to < 64 }
+        requires from { from < NODES_MAX }
+        requires to { to < NODES_MAX }
         requires tables { AreTables self.now.linked self.now.places self.now.world }
         ensures { result ≡ is_free self.now.world.links both from to }
     {
@@ -99,8 +100,8 @@ impl Draft {
     }
 
     fn is_linked(&self, from: u8, to: u8) -> bool
-        requires from { from < 64 }
-        requires to { to < 64 }
+        requires from { from < NODES_MAX }
+        requires to { to < NODES_MAX }
         requires tables { AreTables self.now.linked self.now.places self.now.world }
         ensures { result ≡ is_linked from to self.now.world.links }
     {

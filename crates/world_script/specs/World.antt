@@ -2,7 +2,7 @@
 use Rattle.std.specs.Prelude.{◌≡◌, ℕ, zero, suc, ◌<◌, ◌≤◌, ℤ, List, [], ◌∷◌, ◌++◌, length, All, IsTrue, slice_get}
 use Rattle.std.specs.List.{AllPairs}
 use Rattle.std.specs.Option.{IsSomeAnd}
-use Rattle.mate_num.specs.declared.bounds.TheConstants.{HOUR}
+use Rattle.mate_num.specs.declared.bounds.TheConstants.{HOUR, NODES_MAX, PACKET_MAX}
 use Rattle.mate_num.specs.declared.id.HandlerId.{HandlerId}
 use Rattle.vm_desc.specs.declared.description.Description.{Description}
 use Rattle.vm_desc.specs.declared.function.Function.{Function}
@@ -44,7 +44,7 @@ AreOtherSeries s r = s.node ≡ r.node → s.fun ≡ r.fun → ⊥
 -- bytes that a node may hear, and that are no packet
 pub record IsRightNoise (d : Description) (bytes : List ℕ) : Type 0 where
   pub some : 1 ≤ length bytes
-  pub few : length bytes ≤ 64
+  pub few : length bytes ≤ PACKET_MAX
   pub noise : IsTrue (is_noise d bytes)
 
 -- the numbers are the machine's, and the file is one of this number
@@ -73,7 +73,7 @@ pub record Follow (p later : Planned) : Type 0 where
 -- the links join the nodes, each direction once; each sensor of a node has one series; the events are in order
 pub record IsRightWorld (d : Description) (w : World) : Type 0 where
   pub nodes_low : 1 ≤ w.nodes
-  pub nodes_high : w.nodes ≤ 64
+  pub nodes_high : w.nodes ≤ NODES_MAX
   pub until_low : 1 ≤ w.until
   pub until_high : w.until ≤ HOUR
   pub links : All (IsRightLink w.nodes) w.links
