@@ -1,5 +1,5 @@
 -- The report that is handed out is what is promised.
-use Rattle.std.proofs.Common.{◌≡◌, ℕ, List, Option, Some, refl, sym, subst, ◌-◌}
+use Rattle.std.proofs.Common.{◌≡◌, ℕ, List, Option, Some, refl, sym, subst}
 use Rattle.mate_journal.specs.NodeScript.{RunEnd}
 use Rattle.mate_journal.specs.Ranges.{HasReportRanges}
 use Rattle.mate_journal.specs.declared.report.Report.{Report}

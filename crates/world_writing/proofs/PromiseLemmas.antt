@@ -1,5 +1,5 @@
 -- What was written of a world's run is what is promised.
-use Rattle.std.proofs.Common.{ℕ, List, Option, refl, ◌-◌}
+use Rattle.std.proofs.Common.{ℕ, List, Option, refl}
 use Rattle.mate_journal.specs.NodeScript.{RunEnd}
 use Rattle.mate_journal.specs.Ranges.{HasReportRanges}
 use Rattle.mate_journal.specs.declared.report.Report.{Report}
