@@ -34,3 +34,13 @@ Expands source (Err (TooLarge count)) = IsTooLarge source count
 Expands source (Err (TooNested depth)) = IsTooNested source depth
 Expands source (Err NoMemory) = ⊤
 Expands source (Err _) = ⊥
+
+-- within both limits
+pub record IsWithin (source : ProcedureSource) : Type 0 where
+  pub small : acts_count (expansion source).body ≤ STATEMENTS_MAX
+  pub shallow : acts_depth (expansion source).body ≤ DEPTH_MAX
+
+-- it is within them, or why it isn't; lack of memory says nothing
+abbrev pub IsWithinOr : ProcedureSource → Result (Unit {0}) ProcFault → Type 0
+IsWithinOr source (Ok _) = IsWithin source
+IsWithinOr source (Err fault) = Expands source (Err fault)

@@ -19,7 +19,7 @@ use std::alloc::Global;
 use ts_syntax::{Args, Block, Word};
 
 /// Appends the assignments of a `do`, and returns the body of its procedure if it has statements.
-pub(crate) fn call<'a>(
+pub fn call<'a>(
     alloc: Global,
     plan: &Plan<'a>,
     count: usize,

@@ -1,12 +1,12 @@
 //! The expansion of a whole script.
 
-ghost use Rattle.std.specs.Prelude.{◌≡◌, ◌≤◌, min, map, IfOk};
+ghost use Rattle.std.specs.Prelude.{◌≡◌, ◌≤◌, ◌<◌, ◌^◌, min, map, IfOk};
 ghost use Rattle.ts_syntax.specs.Seen.{acts_of, procedure_of, source_seen};
 ghost use Rattle.proc_names.specs.Heads.{parameter_count};
 ghost use Rattle.proc_names.specs.Named.{written_of};
 ghost use Rattle.proc_expansion.specs.declared.expanding.TheConstants.{STATEMENTS_MAX, DEPTH_MAX};
 ghost use Rattle.proc_expansion.specs.declared.extent.TheConstants.{COUNT_MAX};
-ghost use Rattle.proc_expansion.specs.Answer.{Expands};
+ghost use Rattle.proc_expansion.specs.Answer.{Expands, IsWithinOr};
 ghost use Rattle.proc_expansion.specs.Expansion.{callees, expansion};
 ghost use Rattle.proc_expansion.specs.Extent.{acts_count, acts_depth};
 ghost use Rattle.proc_expansion.specs.Live.{BecomesSame};
@@ -21,7 +21,7 @@ use proc_names::{PScript, ProcFault};
 use proc_renaming::Hidden;
 use proc_renaming::numbers::declarations;
 use std::alloc::Global;
-use ts_syntax::{Script, Stmt};
+use ts_syntax::{Block, Proc, Script, Stmt};
 
 /// The greatest number of statements of an expansion, those inside blocks counted.
 pub const STATEMENTS_MAX: u32 = 10_000;
@@ -40,6 +40,18 @@ pub const DEPTH_MAX: u32 = 32;
 pub fn expand(alloc: Global, script: &PScript) -> Result<Script, ProcFault>
     ensures { Expands (written_of script.now) result }
 {
+    match within_limits(alloc, script) {
+        Ok(()) => Ok(whole(alloc, script)?),
+        Err(fault) => Err(fault),
+    }
+}
+
+/// Whether an expansion has at most 10,000 statements in blocks that nest at most 32 deep. `TooLarge` comes exactly if
+/// it has more statements, and `TooNested` exactly if it hasn't and its blocks nest deeper. `NoMemory` may come instead
+/// of any answer.
+pub fn within_limits(alloc: Global, script: &PScript) -> Result<(), ProcFault>
+    ensures { IsWithinOr (written_of script.now) result }
+{
     let plan = Plan::of(alloc, script.procs().as_slice())?;
     let extent = whole_extent(&plan, script);
     if extent.count > STATEMENTS_MAX {
@@ -52,16 +64,19 @@ pub fn expand(alloc: Global, script: &PScript) -> Result<Script, ProcFault>
             depth: extent.depth,
         });
     }
-    let has_empty = plan.extents.iter().any(|body| body.count == 0);
-    let has_passing = plan
-        .heads
-        .procs
-        .iter()
-        .any(|proc| matches!(proc.body.as_slice(), [Stmt::Run(_, _)]));
-    if has_empty || has_passing {
-        return Ok(shortened(alloc, &plan, script)?);
+    Ok(())
+}
+
+// The plain script, whose blocks don't nest too deep.
+fn whole(alloc: Global, script: &PScript) -> Result<Script, NoMemory>
+    requires { acts_depth (expansion (written_of script.now)).body ≤ DEPTH_MAX }
+    ensures { IfOk result (λ new. source_seen new ≡ expansion (written_of script.now)) }
+{
+    let plan = Plan::of(alloc, script.procs().as_slice())?;
+    if plan.has_idle() {
+        return shortened(alloc, &plan, script);
     }
-    Ok(written(alloc, &plan, script, script.body().as_slice())?)
+    written(alloc, &plan, script, script.body().as_slice())
 }
 
 // The plain script, made from procedures and statements whose calls were shortened.
@@ -70,14 +85,25 @@ fn shortened(alloc: Global, plan: &Plan, script: &PScript) -> Result<Script, NoM
     requires shallow { acts_depth (expansion (written_of script.now)).body ≤ DEPTH_MAX }
     ensures { IfOk result (λ new. source_seen new ≡ expansion (written_of script.now)) }
 {
+    let live = shorter(alloc, plan, script)?;
+    let shorter = Plan::of(alloc, live.0.as_slice())?;
+    written(alloc, &shorter, script, live.1.as_slice())
+}
+
+/// The procedures and the statements of a script with shorter calls: they expand to the same.
+pub fn shorter(alloc: Global, plan: &Plan, script: &PScript) -> Result<(Vec<Proc>, Block), NoMemory>
+    requires { map procedure_of plan.now.heads.procs.now ≡ (written_of script.now).procs }
+    ensures bodies { IfOk result (λ r. bodies_of r.0.items ≡ callees (written_of script.now).procs) }
+    ensures same { IfOk result (λ r. BecomesSame (callees (written_of script.now).procs) (acts_of r.1) (written_of script.now).body) }
+    ensures counted { IfOk result (λ r. parameter_count (map procedure_of r.0.items) ≡ parameter_count (written_of script.now).procs) }
+    ensures few { IfOk result (λ r. parameter_count (map procedure_of r.0.items) < 2 ^ 32) }
+{
     let hidden = Hidden::of(alloc, 0, &[])?;
     let live = live_procs(alloc, plan, &hidden)?;
     let targets = live.1.as_slice();
     let count = plan.heads.procs.len();
     let body = live_block(alloc, plan, targets, count, &hidden, script.body())?;
-    let procs = live.0.as_slice();
-    let shorter = Plan::of(alloc, procs)?;
-    written(alloc, &shorter, script, body.as_slice())
+    Ok((live.0, body))
 }
 
 // How large the expansion is, by a plan of the script's procedures.

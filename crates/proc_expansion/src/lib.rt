@@ -1,14 +1,16 @@
 //! The expansion of a TinyScript script with procedures to a plain script.
 #![tactic(auto)]
 
-mod calls;
+pub mod calls;
 pub mod expanding;
-mod extent;
+pub mod extent;
 mod live;
-mod pending;
-mod plan;
-mod stack;
+pub mod pending;
+pub mod plan;
+pub mod stack;
 mod statements;
 mod targets;
 
-pub use expanding::expand;
+pub use expanding::{DEPTH_MAX, expand, shorter, within_limits};
+pub use pending::Pending;
+pub use plan::Plan;

@@ -10,10 +10,10 @@ use ts_syntax::Stmt;
 
 /// Statements that are still to be written, after `count` procedures, and the parameters that hide names in them.
 #[derive(Drop)]
-pub(crate) struct Pending<'a> {
-    pub(crate) stmts: &'a [Stmt],
-    pub(crate) count: usize,
-    pub(crate) hidden: Hidden<'a>,
+pub struct Pending<'a> {
+    pub stmts: &'a [Stmt],
+    pub count: usize,
+    pub hidden: Hidden<'a>,
 }
 
 impl<'a> Pending<'a> {
@@ -22,7 +22,7 @@ impl<'a> Pending<'a> {
     ghost use Rattle.proc_expansion.specs.Pending.{acts_left, steps_left, steps_of_bodies, act_steps};
 
     /// The first of the statements, and the others; None exactly if there are none.
-    pub(crate) fn split_first(self) -> Option<(&'a Stmt, Pending<'a>)>
+    pub fn split_first(self) -> Option<(&'a Stmt, Pending<'a>)>
         ensures left { (procs : List Proc) → MatchOption result (acts_left procs self.entry ≡ [])
             (λ r. acts_left procs self.entry ≡ expanded_act (take r.1.count (bodies_of procs)) (hiding_of r.1.hidden) (act_of r.0.now)
             ++ acts_left procs r.1) }

@@ -10,16 +10,16 @@ use crate::extent::{Extent, extents};
 use mate_num::NoMemory;
 use proc_names::Heads;
 use std::alloc::Global;
-use ts_syntax::Proc;
+use ts_syntax::{Proc, Stmt};
 
 /// The procedures of a script, with the number of each one's first parameter, the extent of its body, and how many parameters
 /// they have.
 #[derive(Drop)]
-pub(crate) struct Plan<'a> {
-    pub(crate) heads: Heads<'a>,
-    pub(crate) firsts: Vec<u32>,
-    pub(crate) extents: Vec<Extent>,
-    pub(crate) parameters: u32,
+pub struct Plan<'a> {
+    pub heads: Heads<'a>,
+    pub firsts: Vec<u32>,
+    pub extents: Vec<Extent>,
+    pub parameters: u32,
     ghost numbered: { firsts.items ≡ firsts_of (bodies_of heads.procs.now) },
     ghost measured: { extents.items ≡ body_extents (bodies_of heads.procs.now) },
     ghost counted: { parameters ≡ parameter_count (map procedure_of heads.procs.now) },
@@ -28,7 +28,7 @@ pub(crate) struct Plan<'a> {
 
 impl<'a> Plan<'a> {
     /// The plan of these procedures. `NoMemory` is the only refusal.
-    pub(crate) fn of(alloc: Global, procs: &'a [Proc]) -> Result<Plan<'a>, NoMemory>
+    pub fn of(alloc: Global, procs: &'a [Proc]) -> Result<Plan<'a>, NoMemory>
         requires { parameter_count (map procedure_of procs.now) < 2 ^ 32 }
         ensures { IfOk result (λ plan. plan.heads.procs.now ≡ procs.now) }
     {
@@ -41,6 +41,17 @@ impl<'a> Plan<'a> {
             extents,
             parameters,
         })
+    }
+
+    /// Whether some procedure is empty, or does nothing but run another one.
+    pub fn has_idle(&self) -> bool {
+        let has_empty = self.extents.iter().any(|body| body.count == 0);
+        let has_passing = self
+            .heads
+            .procs
+            .iter()
+            .any(|proc| matches!(proc.body.as_slice(), [Stmt::Run(_, _)]));
+        has_empty || has_passing
     }
 }
 

@@ -9,10 +9,7 @@ use mate_num::NoMemory;
 
 /// Puts a body on a stack, if there is one.
 #[tactic(auto, using(crate::proofs::WritingLemmas::left_on_push, crate::proofs::WritingLemmas::steps_on_push))]
-pub(crate) fn push_if<'a>(
-    stack: &mut Vec<Pending<'a>>,
-    body: Option<Pending<'a>>,
-) -> Result<(), NoMemory>
+pub fn push_if<'a>(stack: &mut Vec<Pending<'a>>, body: Option<Pending<'a>>) -> Result<(), NoMemory>
     ensures left { (procs : List Proc) → OnOk result (left_on procs stack.new.items ≡ left_if procs body.entry
         ++ left_on procs stack.old.items) }
     ensures steps { (procs : List Proc) → OnOk result (steps_on procs stack.new.items ≡ steps_on procs stack.old.items
@@ -29,7 +26,7 @@ pub(crate) fn push_if<'a>(
 
 /// Puts what is left of a body on a stack, and above it the body that comes before that, if there is one.
 #[tactic(auto, using(crate::proofs::WritingLemmas::left_on_push, crate::proofs::WritingLemmas::steps_on_push))]
-pub(crate) fn push_next<'a>(
+pub fn push_next<'a>(
     stack: &mut Vec<Pending<'a>>,
     rest: Pending<'a>,
     body: Option<Pending<'a>>,

@@ -31,7 +31,7 @@ impl<'a> Hidden<'a> {
     }
 
     /// The name of a variable or a buffer, as it is in the expansion.
-    pub(crate) fn word(&self, word: &Word) -> Word
+    pub fn word(&self, word: &Word) -> Word
         ensures { result ≡ renamed (hiding_of self.now) word.now }
     {
         let name = match self.params.place(&word.name) {

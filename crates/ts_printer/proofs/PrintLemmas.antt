@@ -1,5 +1,5 @@
 -- Tokens that a printer prints in a row.
-use Rattle.std.proofs.Common.{◌≡◌, ℕ, Bool, true, false, ◌&&◌, List, [], ◌∷◌, ◌++◌, Option, Result, refl, sym, ◌∙◌, ap, subst, append_assoc, append-nil}
+use Rattle.std.proofs.Common.{◌≡◌, ℕ, Bool, true, false, ◌&&◌, List, [], ◌∷◌, ◌++◌, Option, None, Some, Result, refl, sym, ◌∙◌, ap, subst, append_assoc, append-nil}
 use Rattle.mate_files.specs.Pen.{Prints}
 use Rattle.mate_files.proofs.PenLemmas.{Prints-nil, Prints-by, ◌⟫◌}
 use Rattle.mate_files.specs.declared.sink.SinkFault.{SinkFault}
@@ -13,10 +13,11 @@ use Rattle.ts_syntax.specs.declared.stmt.ForHead.{ForHead}
 use Rattle.ts_syntax.specs.declared.stmt.Stmt.TheVariants as does
 use Rattle.ts_syntax.specs.declared.token.TokenKind.TheVariants as kind
 use Rattle.ts_syntax.specs.declared.word.Word.{Word}
-use Rattle.ts_syntax.proofs.SeenLemmas.{act_for_next}
+use Rattle.ts_syntax.proofs.SeenLemmas.{act_for_next, act_if_then, act_if_else}
 use Rattle.ts_syntax.specs.declared.script.Decl.{Decl}
 use Rattle.ts_syntax.specs.Spelling.{spelled, step_spelled, args_spelled, more_spelled, act_spelled, acts_spelled, name, decl_start, decls_gap, decls_spelled}
 use Rattle.ts_syntax.specs.Seen.{tree_of, trees_of, act_of, acts_of}
+use Rattle.ts_printer.specs.Naming.{named_expr, named_args, named_act, named_acts}
 use Rattle.ts_printer.specs.Print.{PrintsTokens, comma_before, closing, head_spelled}
 
 -- the tokens of the arguments from the first on, or behind it
@@ -73,56 +74,61 @@ pub tokens_by : {w0 w1 : Option (List ℕ)} {f0 f1 : ℕ} {a b : Printer} {ks ls
 tokens_by {w0} {w1} {f0} {f1} {a} {b} e p = subst (λ z. PrintsTokens w0 f0 a w1 f1 b z) (sym e) p
 
 -- an expression that a pointer leads to
-pub behind_box : {w0 w1 : Option (List ℕ)} {f0 f1 : ℕ} {a b : Printer} {d e : Expr} → d ≡ e → PrintsTokens w0 f0 a w1 f1 b (spelled (tree_of d)) → PrintsTokens w0 f0 a w1 f1 b (spelled (tree_of e))
-behind_box p q = tokens_by (ap (λ x. spelled (tree_of x)) (sym p)) q
+pub behind_box : (n : Word → Word) {w0 w1 : Option (List ℕ)} {f0 f1 : ℕ} {a b : Printer} {d e : Expr} → d ≡ e → PrintsTokens w0 f0 a w1 f1 b (spelled (named_expr n (tree_of d)))
+    → PrintsTokens w0 f0 a w1 f1 b (spelled (named_expr n (tree_of e)))
+behind_box n p q = tokens_by (ap (λ x. spelled (named_expr n (tree_of x))) (sym p)) q
 
 -- arguments that are printed up to a place
-pub record ArgsUpTo (w0 : Option (List ℕ)) (f0 : ℕ) (a : Printer) (w1 : Option (List ℕ)) (f1 : ℕ) (b : Printer) (first : Bool) (rest all : List Expr) : Type 0 where
+pub record ArgsUpTo (n : Word → Word) (w0 : Option (List ℕ)) (f0 : ℕ) (a : Printer) (w1 : Option (List ℕ)) (f1 : ℕ) (b : Printer) (first : Bool) (rest all : List Expr) : Type 0 where
   pub front : List TokenKind
-  pub whole : args_spelled (trees_of all) ≡ front ++ rest_spelled first (trees_of rest)
+  pub whole : args_spelled (named_args n (trees_of all)) ≡ front ++ rest_spelled first (named_args n (trees_of rest))
   pub printed : PrintsTokens w0 f0 a w1 f1 b front
 
-pub args_start : (w : Option (List ℕ)) (f : ℕ) (a : Printer) (all : List Expr) → ArgsUpTo w f a w f a true all all
-args_start w f a all = record { front = []; whole = refl; printed = no_token }
+pub args_start : (n : Word → Word) (w : Option (List ℕ)) (f : ℕ) (a : Printer) (all : List Expr) → ArgsUpTo n w f a w f a true all all
+args_start n w f a all = record { front = []; whole = refl; printed = no_token }
 
-pub args_end : {w0 w1 : Option (List ℕ)} {f0 f1 : ℕ} {a b : Printer} (first : Bool) {rest all : List Expr} → rest ≡ [] → ArgsUpTo w0 f0 a w1 f1 b first rest all → PrintsTokens w0 f0 a w1 f1 b (args_spelled (trees_of all))
-args_end first {rest} e u = tokens_by (u.whole ∙ ap (λ z. u.front ++ z) (ap (λ z. rest_spelled first (trees_of z)) e ∙ none first) ∙ append-nil u.front) u.printed
+pub args_end : (n : Word → Word) {w0 w1 : Option (List ℕ)} {f0 f1 : ℕ} {a b : Printer} (first : Bool) {rest all : List Expr} → rest ≡ [] → ArgsUpTo n w0 f0 a w1 f1 b first rest all
+    → PrintsTokens w0 f0 a w1 f1 b (args_spelled (named_args n (trees_of all)))
+args_end n first {rest} e u = tokens_by (u.whole ∙ ap (λ z. u.front ++ z) (ap (λ z. rest_spelled first (named_args n (trees_of z))) e ∙ none first) ∙ append-nil u.front) u.printed
   where
-    none : (first : Bool) → rest_spelled first (trees_of []) ≡ []
+    none : (first : Bool) → rest_spelled first (named_args n (trees_of [])) ≡ []
     none true = refl
     none false = refl
 
-rest_then : (first : Bool) (e : Expr) (es : List Expr) → rest_spelled first (trees_of (e ∷ es)) ≡ comma_before first ++ (spelled (tree_of e) ++ rest_spelled false (trees_of es))
-rest_then true e es = refl
-rest_then false e es = refl
+rest_then : (n : Word → Word) (first : Bool) (e : Expr) (es : List Expr)
+    → rest_spelled first (named_args n (trees_of (e ∷ es))) ≡ comma_before first ++ (spelled (named_expr n (tree_of e)) ++ rest_spelled false (named_args n (trees_of es)))
+rest_then n true e es = refl
+rest_then n false e es = refl
 
-pub args_next : {w0 w1 w2 w3 : Option (List ℕ)} {f0 f1 f2 f3 : ℕ} {a b c d : Printer} (first : Bool) {e : Expr} {rest es all : List Expr} → rest ≡ e ∷ es
-    → ArgsUpTo w0 f0 a w1 f1 b first rest all → PrintsTokens w1 f1 b w2 f2 c (comma_before first) → PrintsTokens w2 f2 c w3 f3 d (spelled (tree_of e)) → ArgsUpTo w0 f0 a w3 f3 d false es all
-args_next first {e} {rest} {es} h u p q = record {
-  front = u.front ++ comma_before first ++ spelled (tree_of e);
-  whole = u.whole ∙ ap (λ z. u.front ++ z) (ap (λ z. rest_spelled first (trees_of z)) h ∙ rest_then first e es)
-      ∙ sym (append_assoc u.front (comma_before first) (spelled (tree_of e) ++ rest_spelled false (trees_of es)))
-      ∙ sym (append_assoc (u.front ++ comma_before first) (spelled (tree_of e)) (rest_spelled false (trees_of es)));
+pub args_next : (n : Word → Word) {w0 w1 w2 w3 : Option (List ℕ)} {f0 f1 f2 f3 : ℕ} {a b c d : Printer} (first : Bool) {e : Expr} {rest es all : List Expr} → rest ≡ e ∷ es
+    → ArgsUpTo n w0 f0 a w1 f1 b first rest all → PrintsTokens w1 f1 b w2 f2 c (comma_before first) → PrintsTokens w2 f2 c w3 f3 d (spelled (named_expr n (tree_of e)))
+    → ArgsUpTo n w0 f0 a w3 f3 d false es all
+args_next n first {e} {rest} {es} h u p q = let this : List TokenKind = spelled (named_expr n (tree_of e)) in record {
+  front = u.front ++ comma_before first ++ this;
+  whole = u.whole ∙ ap (λ z. u.front ++ z) (ap (λ z. rest_spelled first (named_args n (trees_of z))) h ∙ rest_then n first e es)
+      ∙ sym (append_assoc u.front (comma_before first) (this ++ rest_spelled false (named_args n (trees_of es))))
+      ∙ sym (append_assoc (u.front ++ comma_before first) this (rest_spelled false (named_args n (trees_of es))));
   printed = u.printed ⋙ p ⋙ q;
 }
 
 -- statements that are printed up to a place
-pub record ActsUpTo (w0 : Option (List ℕ)) (f0 : ℕ) (a : Printer) (w1 : Option (List ℕ)) (f1 : ℕ) (b : Printer) (rest all : List Stmt) : Type 0 where
+pub record ActsUpTo (n : Word → Word) (w0 : Option (List ℕ)) (f0 : ℕ) (a : Printer) (w1 : Option (List ℕ)) (f1 : ℕ) (b : Printer) (rest all : List Stmt) : Type 0 where
   pub front : List TokenKind
-  pub whole : acts_spelled (acts_of all) ≡ front ++ acts_spelled (acts_of rest)
+  pub whole : acts_spelled (named_acts n (acts_of all)) ≡ front ++ acts_spelled (named_acts n (acts_of rest))
   pub printed : PrintsTokens w0 f0 a w1 f1 b front
 
-pub acts_start : (w : Option (List ℕ)) (f : ℕ) (a : Printer) (all : List Stmt) → ActsUpTo w f a w f a all all
-acts_start w f a all = record { front = []; whole = refl; printed = no_token }
+pub acts_start : (n : Word → Word) (w : Option (List ℕ)) (f : ℕ) (a : Printer) (all : List Stmt) → ActsUpTo n w f a w f a all all
+acts_start n w f a all = record { front = []; whole = refl; printed = no_token }
 
-pub acts_end : {w0 w1 : Option (List ℕ)} {f0 f1 : ℕ} {a b : Printer} {rest all : List Stmt} → rest ≡ [] → ActsUpTo w0 f0 a w1 f1 b rest all → PrintsTokens w0 f0 a w1 f1 b (acts_spelled (acts_of all))
-acts_end e u = tokens_by (u.whole ∙ ap (λ z. u.front ++ acts_spelled (acts_of z)) e ∙ append-nil u.front) u.printed
+pub acts_end : (n : Word → Word) {w0 w1 : Option (List ℕ)} {f0 f1 : ℕ} {a b : Printer} {rest all : List Stmt} → rest ≡ [] → ActsUpTo n w0 f0 a w1 f1 b rest all
+    → PrintsTokens w0 f0 a w1 f1 b (acts_spelled (named_acts n (acts_of all)))
+acts_end n e u = tokens_by (u.whole ∙ ap (λ z. u.front ++ acts_spelled (named_acts n (acts_of z))) e ∙ append-nil u.front) u.printed
 
-pub acts_next : {w0 w1 w2 : Option (List ℕ)} {f0 f1 f2 : ℕ} {a b c : Printer} {s : Stmt} {rest more all : List Stmt} → rest ≡ s ∷ more
-    → ActsUpTo w0 f0 a w1 f1 b rest all → PrintsTokens w1 f1 b w2 f2 c (act_spelled (act_of s)) → ActsUpTo w0 f0 a w2 f2 c more all
-acts_next {s} {more} h u p = record {
-  front = u.front ++ act_spelled (act_of s);
-  whole = u.whole ∙ ap (λ z. u.front ++ acts_spelled (acts_of z)) h ∙ sym (append_assoc u.front (act_spelled (act_of s)) (acts_spelled (acts_of more)));
+pub acts_next : (n : Word → Word) {w0 w1 w2 : Option (List ℕ)} {f0 f1 f2 : ℕ} {a b c : Printer} {s : Stmt} {rest more all : List Stmt} → rest ≡ s ∷ more
+    → ActsUpTo n w0 f0 a w1 f1 b rest all → PrintsTokens w1 f1 b w2 f2 c (act_spelled (named_act n (act_of s))) → ActsUpTo n w0 f0 a w2 f2 c more all
+acts_next n {s} {more} h u p = let this : List TokenKind = act_spelled (named_act n (act_of s)) in record {
+  front = u.front ++ this;
+  whole = u.whole ∙ ap (λ z. u.front ++ acts_spelled (named_acts n (acts_of z))) h ∙ sym (append_assoc u.front this (acts_spelled (named_acts n (acts_of more))));
   printed = u.printed ⋙ p;
 }
 
@@ -167,11 +173,29 @@ pub decls_finish : {w0 w1 w2 : Option (List ℕ)} {f0 f1 f2 : ℕ} {a b c : Prin
 decls_finish opened e u p = tokens_by (u.whole ∙ ap (λ z. u.front ++ names_spelled opened z) e ∙ ap (λ z. u.front ++ z) (names_end opened)) (u.printed ⋙ p)
 
 -- a `for`, with its head
-pub for_spelled : (h : ForHead) (a : List Stmt) (v : Word) → act_spelled (act_of (does.For h a v)) ≡ head_spelled h ++ (acts_spelled (acts_of a) ++ kind.Next ∷ name v ∷ [])
-for_spelled h a v =
-    let rest : List TokenKind = acts_spelled (acts_of a) ++ kind.Next ∷ name v ∷ [] in
-    let to : List TokenKind = spelled (tree_of h.to) in
-    let from : List TokenKind = spelled (tree_of h.from) in
-    ap act_spelled (act_for_next h a v)
-    ∙ sym (ap (λ z. kind.For ∷ name h.var ∷ kind.Eq ∷ z)
+pub for_spelled : (n : Word → Word) (h : ForHead) (a : List Stmt) (v : Word)
+    → act_spelled (named_act n (act_of (does.For h a v))) ≡ head_spelled n h ++ (acts_spelled (named_acts n (acts_of a)) ++ kind.Next ∷ name (n v) ∷ [])
+for_spelled n h a v =
+    let rest : List TokenKind = acts_spelled (named_acts n (acts_of a)) ++ kind.Next ∷ name (n v) ∷ [] in
+    let to : List TokenKind = spelled (named_expr n (tree_of h.to)) in
+    let from : List TokenKind = spelled (named_expr n (tree_of h.from)) in
+    ap (λ s. act_spelled (named_act n s)) (act_for_next h a v)
+    ∙ sym (ap (λ z. kind.For ∷ name (n h.var) ∷ kind.Eq ∷ z)
     (append_assoc from (kind.To ∷ (to ++ step_spelled h.step)) rest ∙ ap (λ z. from ++ (kind.To ∷ z)) (append_assoc to (step_spelled h.step) rest)))
+
+-- an `if` without `else`, and with one: its head is printed as one
+pub if_then_spelled : (n : Word → Word) (e : Expr) (a : List Stmt)
+    → act_spelled (named_act n (act_of (does.If e a None)))
+    ≡ (kind.If ∷ spelled (named_expr n (tree_of e)) ++ (kind.Then ∷ [])) ++ (acts_spelled (named_acts n (acts_of a)) ++ (kind.End ∷ kind.If ∷ []))
+if_then_spelled n e a =
+    ap (λ s. act_spelled (named_act n s)) (act_if_then e a)
+    ∙ sym (ap (λ z. kind.If ∷ z) (append_assoc (spelled (named_expr n (tree_of e))) (kind.Then ∷ []) (acts_spelled (named_acts n (acts_of a)) ++ (kind.End ∷ kind.If ∷ []))))
+
+pub if_else_spelled : (n : Word → Word) (e : Expr) (a b : List Stmt)
+    → act_spelled (named_act n (act_of (does.If e a (Some b))))
+    ≡ (kind.If ∷ spelled (named_expr n (tree_of e)) ++ (kind.Then ∷ [])) ++ (acts_spelled (named_acts n (acts_of a))
+    ++ (kind.Else ∷ acts_spelled (named_acts n (acts_of b)) ++ (kind.End ∷ kind.If ∷ [])))
+if_else_spelled n e a b =
+    ap (λ s. act_spelled (named_act n s)) (act_if_else e a b)
+    ∙ sym (ap (λ z. kind.If ∷ z) (append_assoc (spelled (named_expr n (tree_of e))) (kind.Then ∷ [])
+    (acts_spelled (named_acts n (acts_of a)) ++ (kind.Else ∷ acts_spelled (named_acts n (acts_of b)) ++ (kind.End ∷ kind.If ∷ [])))))

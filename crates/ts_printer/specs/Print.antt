@@ -2,6 +2,8 @@
 use Rattle.std.specs.Prelude.{◌≡◌, ℕ, Bool, true, false, List, [], ◌∷◌, ◌++◌, Option}
 use Rattle.mate_files.specs.Pen.{Prints}
 use Rattle.ts_printer.specs.declared.printer.Printer.{Printer}
+use Rattle.ts_printer.specs.Naming.{named_expr}
+use Rattle.ts_syntax.specs.declared.word.Word.{Word}
 use Rattle.ts_syntax.specs.declared.token.TokenKind.{TokenKind}
 use Rattle.ts_syntax.specs.declared.token.TokenKind.TheVariants as kind
 use Rattle.ts_syntax.specs.declared.stmt.ForHead.{ForHead}
@@ -20,9 +22,11 @@ abbrev pub comma_before : Bool → List TokenKind
 comma_before true = []
 comma_before false = kind.Comma ∷ []
 
--- the head of a `for`
-abbrev pub head_spelled : ForHead → List TokenKind
-head_spelled h = kind.For ∷ name h.var ∷ kind.Eq ∷ spelled (tree_of h.from) ++ (kind.To ∷ spelled (tree_of h.to) ++ step_spelled h.step)
+-- the head of a `for`, with the names that are printed
+abbrev pub head_spelled : (Word → Word) → ForHead → List TokenKind
+head_spelled f h =
+    kind.For ∷ name (f h.var) ∷ kind.Eq ∷ spelled (named_expr f (tree_of h.from))
+    ++ (kind.To ∷ spelled (named_expr f (tree_of h.to)) ++ step_spelled h.step)
 
 -- the sign that ends a declaration, if one ends
 abbrev pub closing : Bool → List TokenKind

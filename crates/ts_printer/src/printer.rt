@@ -1,25 +1,28 @@
 //! A script's text: its tokens, with one space between two.
 
-ghost use Rattle.std.specs.Prelude.{◌≡◌, ◌∷◌, ◌++◌, ℕ, List, [], ◌&&◌};
+ghost use Rattle.std.specs.Prelude.{◌≡◌, ◌∷◌, ◌++◌, ℕ, List, [], ◌&&◌, false, Ok};
 ghost use Rattle.mate_files.specs.Sink.{Puts};
 ghost use Rattle.ts_syntax.specs.declared.token.TokenKind.{TokenKind};
 ghost use Rattle.ts_syntax.specs.declared.token.TokenKind.TheVariants as kind;
+ghost use Rattle.ts_printer.specs.Naming.{named_expr, named_args, named_act, named_acts};
 ghost use Rattle.ts_printer.specs.Print.{PrintsTokens, comma_before, head_spelled, closing};
+ghost use Rattle.ts_syntax.specs.Tree.{set};
 ghost use Rattle.ts_syntax.specs.Seen.{tree_of, trees_of, act_of, acts_of, source_seen};
 ghost use Rattle.ts_syntax.specs.Spelling.{sign, name, decl_keyword, decl_start, spelled, args_spelled, minus_spelled, step_spelled};
 ghost use Rattle.ts_syntax.specs.Spelling.{act_spelled, acts_spelled, decls_spelled, source_spelled};
 ghost use Rattle.ts_syntax.specs.Text.{space, token_text, text_of};
 
+use crate::naming::{AsWritten, Naming};
 use mate_files::{Pen, Sink, SinkFault};
 use ts_checked::BinOp;
 use ts_syntax::{Args, Block, Decl, DeclKind, Expr, ForHead, Script, Step, Stmt, Word};
 
 /// Prints tokens with one space between two.
 #[derive(Drop)]
-struct Printer {
-    pen: Pen,
+pub struct Printer {
+    pub pen: Pen,
     /// Whether a token was printed.
-    begun: bool,
+    pub begun: bool,
 }
 
 /// What comes before a token: a space if another token is before it.
@@ -89,6 +92,25 @@ fn start_text(first: bool, kind: DeclKind) -> &'static str
 }
 
 impl Printer {
+    /// A printer that printed nothing yet.
+    pub fn new() -> Printer
+        ensures fresh { result.pen.result ≡ Ok tt }
+        ensures begun { result.begun ≡ false }
+    {
+        Printer {
+            pen: Pen::new(),
+            begun: false,
+        }
+    }
+
+    /// The pen, after all tokens.
+    pub fn into_pen(self) -> Pen
+        ensures { result ≡ self.pen }
+    {
+        let Printer { pen, .. } = self;
+        pen
+    }
+
     /// Prints a token by its text, which is given with a space before it, so that both are one piece.
     fn token<S: Sink>(&mut self, out: &mut S, spaced: &str)
         ensures { (k : TokenKind) → spaced.now ≡ 32 ∷ token_text k → PrintsTokens (S.written out.old) (S.faults out.old) self.old
@@ -117,42 +139,51 @@ impl Printer {
         self.begun = true;
     }
 
-    /// Prints a name in parentheses.
-    fn parens<S: Sink>(&mut self, out: &mut S, word: &Word)
+    /// Prints the name that a variable or a buffer has.
+    fn named<S: Sink, N: Naming>(&mut self, out: &mut S, naming: &N, word: &Word)
         ensures { PrintsTokens (S.written out.old) (S.faults out.old) self.old
-            (S.written out.new) (S.faults out.new) self.new (kind.Open ∷ name word.now ∷ kind.Close ∷ []) }
+            (S.written out.new) (S.faults out.new) self.new (name (N.named naming.now word.now) ∷ []) }
+    {
+        let word = naming.word(word);
+        self.name(out, &word);
+    }
+
+    /// Prints such a name in parentheses.
+    fn parens<S: Sink, N: Naming>(&mut self, out: &mut S, naming: &N, word: &Word)
+        ensures { PrintsTokens (S.written out.old) (S.faults out.old) self.old
+            (S.written out.new) (S.faults out.new) self.new (kind.Open ∷ name (N.named naming.now word.now) ∷ kind.Close ∷ []) }
     {
         self.token(out, " (");
-        self.name(out, word);
+        self.named(out, naming, word);
         self.token(out, " )");
     }
 
     #[cycle(print_expr)]
-    fn expr<S: Sink>(&mut self, out: &mut S, expr: &Expr)
+    fn expr<S: Sink, N: Naming>(&mut self, out: &mut S, naming: &N, expr: &Expr)
         ensures { PrintsTokens (S.written out.old) (S.faults out.old) self.old
-            (S.written out.new) (S.faults out.new) self.new (spelled (tree_of expr.now)) }
+            (S.written out.new) (S.faults out.new) self.new (spelled (named_expr (N.named naming.now) (tree_of expr.now))) }
     {
         match expr {
             Expr::Num(value) => {
                 self.number(out, *value);
             }
             Expr::Var(word) => {
-                self.name(out, word);
+                self.named(out, naming, word);
             }
             Expr::Item(word, index) => {
-                self.name(out, word);
+                self.named(out, naming, word);
                 self.token(out, " [");
-                self.expr(out, index);
+                self.expr(out, naming, index);
                 self.token(out, " ]");
             }
             Expr::Size(word) => {
                 self.token(out, " size");
-                self.parens(out, word);
+                self.parens(out, naming, word);
             }
             Expr::MsgItem(index) => {
                 self.token(out, " msg");
                 self.token(out, " [");
-                self.expr(out, index);
+                self.expr(out, naming, index);
                 self.token(out, " ]");
             }
             Expr::MsgSize => {
@@ -164,25 +195,25 @@ impl Printer {
             Expr::Call(word, args) => {
                 self.name(out, word);
                 self.token(out, " (");
-                self.args(out, args);
+                self.args(out, naming, args);
                 self.token(out, " )");
             }
             Expr::Neg(of) => {
                 self.token(out, " -");
-                self.expr(out, of);
+                self.expr(out, naming, of);
             }
             Expr::Not(of) => {
                 self.token(out, " not");
-                self.expr(out, of);
+                self.expr(out, naming, of);
             }
             Expr::Two(op, left, right) => {
-                self.expr(out, left);
+                self.expr(out, naming, left);
                 self.token(out, sign_text(*op));
-                self.expr(out, right);
+                self.expr(out, naming, right);
             }
             Expr::Paren(of) => {
                 self.token(out, " (");
-                self.expr(out, of);
+                self.expr(out, naming, of);
                 self.token(out, " )");
             }
         }
@@ -199,14 +230,14 @@ impl Printer {
     }
 
     #[cycle(print_expr)]
-    fn args<S: Sink>(&mut self, out: &mut S, args: &Args)
+    fn args<S: Sink, N: Naming>(&mut self, out: &mut S, naming: &N, args: &Args)
         ensures { PrintsTokens (S.written out.old) (S.faults out.old) self.old
-            (S.written out.new) (S.faults out.new) self.new (args_spelled (trees_of args.now)) }
+            (S.written out.new) (S.faults out.new) self.new (args_spelled (named_args (N.named naming.now) (trees_of args.now))) }
     {
         let mut first = true;
         for arg in args.as_slice() {
             self.comma(out, first);
-            self.expr(out, arg);
+            self.expr(out, naming, arg);
             first = false;
         }
     }
@@ -234,27 +265,97 @@ impl Printer {
         }
     }
 
-    fn head<S: Sink>(&mut self, out: &mut S, head: &ForHead)
+    /// Prints what is before the block of an `if`.
+    pub fn if_head<S: Sink, N: Naming>(&mut self, out: &mut S, naming: &N, test: &Expr)
         ensures { PrintsTokens (S.written out.old) (S.faults out.old) self.old
-            (S.written out.new) (S.faults out.new) self.new (head_spelled head.now) }
+            (S.written out.new) (S.faults out.new) self.new (kind.If ∷ spelled (named_expr (N.named naming.now) (tree_of test.now)) ++ (kind.Then ∷ [])) }
+    {
+        self.token(out, " if");
+        self.expr(out, naming, test);
+        self.token(out, " then");
+    }
+
+    /// Prints what is between the blocks of an `if`.
+    pub fn otherwise<S: Sink>(&mut self, out: &mut S)
+        ensures { PrintsTokens (S.written out.old) (S.faults out.old) self.old
+            (S.written out.new) (S.faults out.new) self.new (kind.Else ∷ []) }
+    {
+        self.token(out, " else");
+    }
+
+    /// Prints the end of an `if`.
+    pub fn end_if<S: Sink>(&mut self, out: &mut S)
+        ensures { PrintsTokens (S.written out.old) (S.faults out.old) self.old
+            (S.written out.new) (S.faults out.new) self.new (kind.End ∷ kind.If ∷ []) }
+    {
+        self.token(out, " end");
+        self.token(out, " if");
+    }
+
+    /// Prints what is before the block of a `for`.
+    pub fn for_head<S: Sink, N: Naming>(&mut self, out: &mut S, naming: &N, head: &ForHead)
+        ensures { PrintsTokens (S.written out.old) (S.faults out.old) self.old
+            (S.written out.new) (S.faults out.new) self.new (head_spelled (N.named naming.now) head.now) }
     {
         self.token(out, " for");
-        self.name(out, &head.var);
+        self.named(out, naming, &head.var);
         self.token(out, " =");
-        self.expr(out, &head.from);
+        self.expr(out, naming, &head.from);
         self.token(out, " to");
-        self.expr(out, &head.to);
+        self.expr(out, naming, &head.to);
         self.step(out, head.step);
     }
 
-    /// Prints what is set, and the end of the statement.
-    fn assigned<S: Sink>(&mut self, out: &mut S, value: &Expr)
+    /// Prints the end of a `for`.
+    pub fn next<S: Sink, N: Naming>(&mut self, out: &mut S, naming: &N, word: &Word)
         ensures { PrintsTokens (S.written out.old) (S.faults out.old) self.old
-            (S.written out.new) (S.faults out.new) self.new (kind.Eq ∷ spelled (tree_of value.now) ++ (kind.Semi ∷ [])) }
+            (S.written out.new) (S.faults out.new) self.new (kind.Next ∷ name (N.named naming.now word.now) ∷ []) }
+    {
+        self.token(out, " next");
+        self.named(out, naming, word);
+    }
+
+    /// Prints what is before the block of a `while`.
+    pub fn while_head<S: Sink, N: Naming>(&mut self, out: &mut S, naming: &N, test: &Expr)
+        ensures { PrintsTokens (S.written out.old) (S.faults out.old) self.old
+            (S.written out.new) (S.faults out.new) self.new (kind.While ∷ spelled (named_expr (N.named naming.now) (tree_of test.now))) }
+    {
+        self.token(out, " while");
+        self.expr(out, naming, test);
+    }
+
+    /// Prints the end of a `while`.
+    pub fn end_while<S: Sink>(&mut self, out: &mut S)
+        ensures { PrintsTokens (S.written out.old) (S.faults out.old) self.old
+            (S.written out.new) (S.faults out.new) self.new (kind.End ∷ kind.While ∷ []) }
+    {
+        self.token(out, " end");
+        self.token(out, " while");
+    }
+
+    /// Prints what is set, and the end of the statement.
+    fn assigned<S: Sink, N: Naming>(&mut self, out: &mut S, naming: &N, value: &Expr)
+        ensures { PrintsTokens (S.written out.old) (S.faults out.old) self.old
+            (S.written out.new) (S.faults out.new) self.new (kind.Eq ∷ spelled (named_expr (N.named naming.now) (tree_of value.now)) ++ (kind.Semi ∷ [])) }
     {
         self.token(out, " =");
-        self.expr(out, value);
+        self.expr(out, naming, value);
         self.token(out, " ;");
+    }
+
+    /// Prints an assignment to the variable of a name that is printed as it is.
+    pub fn assignment<S: Sink, N: Naming>(
+        &mut self,
+        out: &mut S,
+        naming: &N,
+        word: &Word,
+        value: &Expr,
+    )
+        ensures { PrintsTokens (S.written out.old) (S.faults out.old) self.old
+            (S.written out.new) (S.faults out.new) self.new (act_spelled (set word.now (named_expr (N.named naming.now) (tree_of value.now)))) }
+    {
+        self.name(out, word);
+        self.assigned(out, naming, value);
     }
 
     /// Prints what comes after a buffer that is appended to or taken from.
@@ -267,106 +368,95 @@ impl Printer {
     }
 
     /// Prints a call that is a statement, and its end.
-    fn call_alone<S: Sink>(&mut self, out: &mut S, word: &Word, args: &Args)
+    fn call_alone<S: Sink, N: Naming>(&mut self, out: &mut S, naming: &N, word: &Word, args: &Args)
         ensures { PrintsTokens (S.written out.old) (S.faults out.old) self.old
-            (S.written out.new) (S.faults out.new) self.new (name word.now ∷ kind.Open ∷ args_spelled (trees_of args.now)
-            ++ (kind.Close ∷ kind.Semi ∷ [])) }
+            (S.written out.new) (S.faults out.new) self.new (name word.now ∷ kind.Open
+            ∷ args_spelled (named_args (N.named naming.now) (trees_of args.now)) ++ (kind.Close ∷ kind.Semi ∷ [])) }
     {
         self.name(out, word);
         self.token(out, " (");
-        self.args(out, args);
+        self.args(out, naming, args);
         self.token(out, " )");
         self.token(out, " ;");
     }
 
-    /// Prints the end of a block that `keyword` opened, which is given with a space before it.
-    fn end<S: Sink>(&mut self, out: &mut S, keyword: &str)
-        ensures { (k : TokenKind) → keyword.now ≡ 32 ∷ token_text k → PrintsTokens (S.written out.old) (S.faults out.old) self.old
-            (S.written out.new) (S.faults out.new) self.new (kind.End ∷ k ∷ []) }
-    {
-        self.token(out, " end");
-        self.token(out, keyword);
-    }
-
+    /// Prints a statement, with the blocks inside it.
     #[cycle(print_stmt)]
-    fn stmt<S: Sink>(&mut self, out: &mut S, stmt: &Stmt)
+    pub fn stmt<S: Sink, N: Naming>(&mut self, out: &mut S, naming: &N, stmt: &Stmt)
         ensures { PrintsTokens (S.written out.old) (S.faults out.old) self.old
-            (S.written out.new) (S.faults out.new) self.new (act_spelled (act_of stmt.now)) }
+            (S.written out.new) (S.faults out.new) self.new (act_spelled (named_act (N.named naming.now) (act_of stmt.now))) }
     {
         match stmt {
             Stmt::Set(word, value) => {
-                self.name(out, word);
-                self.assigned(out, value);
+                self.named(out, naming, word);
+                self.assigned(out, naming, value);
             }
             Stmt::SetItem(word, index, value) => {
-                self.name(out, word);
+                self.named(out, naming, word);
                 self.token(out, " [");
-                self.expr(out, index);
+                self.expr(out, naming, index);
                 self.token(out, " ]");
-                self.assigned(out, value);
+                self.assigned(out, naming, value);
             }
             Stmt::Append(word, value) => {
-                self.name(out, word);
+                self.named(out, naming, word);
                 self.boxes(out);
-                self.assigned(out, value);
+                self.assigned(out, naming, value);
             }
             Stmt::Take(word, buffer) => {
-                self.name(out, word);
+                self.named(out, naming, word);
                 self.token(out, " =");
-                self.name(out, buffer);
+                self.named(out, naming, buffer);
                 self.boxes(out);
                 self.token(out, " ;");
             }
             Stmt::Clear(word) => {
                 self.token(out, " clear");
-                self.parens(out, word);
+                self.parens(out, naming, word);
                 self.token(out, " ;");
             }
             Stmt::Do(word, args) => {
-                self.call_alone(out, word, args);
+                self.call_alone(out, naming, word, args);
             }
-            Stmt::If(condition, block, otherwise) => {
-                self.token(out, " if");
-                self.expr(out, condition);
-                self.token(out, " then");
-                self.block(out, block);
-                match otherwise {
+            Stmt::If(test, block, other) => {
+                self.if_head(out, naming, test);
+                self.block(out, naming, block);
+                match other {
                     None => {
-                        self.end(out, " if");
+                        self.end_if(out);
                     }
-                    Some(otherwise) => {
-                        self.token(out, " else");
-                        self.block(out, otherwise);
-                        self.end(out, " if");
+                    Some(other) => {
+                        self.otherwise(out);
+                        self.block(out, naming, other);
+                        self.end_if(out);
                     }
                 }
             }
             Stmt::For(head, body, word) => {
-                self.head(out, head);
-                self.block(out, body);
-                self.token(out, " next");
-                self.name(out, word);
+                self.for_head(out, naming, head);
+                self.block(out, naming, body);
+                self.next(out, naming, word);
             }
-            Stmt::While(condition, body) => {
-                self.token(out, " while");
-                self.expr(out, condition);
-                self.block(out, body);
-                self.end(out, " while");
+            Stmt::While(test, body) => {
+                self.while_head(out, naming, test);
+                self.block(out, naming, body);
+                self.end_while(out);
             }
             Stmt::Run(word, args) => {
                 self.token(out, " do");
-                self.call_alone(out, word, args);
+                self.call_alone(out, naming, word, args);
             }
         }
     }
 
+    /// Prints the statements of a block.
     #[cycle(print_stmt)]
-    fn block<S: Sink>(&mut self, out: &mut S, block: &Block)
+    pub fn block<S: Sink, N: Naming>(&mut self, out: &mut S, naming: &N, block: &Block)
         ensures { PrintsTokens (S.written out.old) (S.faults out.old) self.old
-            (S.written out.new) (S.faults out.new) self.new (acts_spelled (acts_of block.now)) }
+            (S.written out.new) (S.faults out.new) self.new (acts_spelled (named_acts (N.named naming.now) (acts_of block.now))) }
     {
         for stmt in block.as_slice() {
-            self.stmt(out, stmt);
+            self.stmt(out, naming, stmt);
         }
     }
 
@@ -391,7 +481,8 @@ impl Printer {
         self.name(out, &decl.word);
     }
 
-    fn decls<S: Sink>(&mut self, out: &mut S, decls: &[Decl])
+    /// Prints declarations.
+    pub fn decls<S: Sink>(&mut self, out: &mut S, decls: &[Decl])
         ensures { PrintsTokens (S.written out.old) (S.faults out.old) self.old
             (S.written out.new) (S.faults out.new) self.new (decls_spelled decls.now) }
     {
@@ -410,12 +501,8 @@ pub fn print<S: Sink>(script: &Script, out: &mut S) -> Result<(), SinkFault>
     ensures { Puts (S.written out.old) (S.faults out.old) (S.written out.new) (S.faults out.new) result
         (text_of (source_spelled (source_seen script.now))) }
 {
-    let mut printer = Printer {
-        pen: Pen::new(),
-        begun: false,
-    };
+    let mut printer = Printer::new();
     printer.decls(out, script.decls.as_slice());
-    printer.block(out, &script.body);
-    let Printer { pen, .. } = printer;
-    pen.finish()
+    printer.block(out, &AsWritten, &script.body);
+    printer.into_pen().finish()
 }

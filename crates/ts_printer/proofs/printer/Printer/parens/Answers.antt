@@ -4,4 +4,4 @@ use Rattle.ts_printer.proofs.PrintLemmas.{◌⋙◌}
 use Rattle.ts_printer.proofs.printer.Printer.parens.Goals as goal
 
 pub returns : goal.returns
-returns g c = c.token.ensures kind.Open refl ⋙ c.name.ensures ⋙ c.token-2.ensures kind.Close refl
+returns g c = c.token.ensures kind.Open refl ⋙ c.named.ensures ⋙ c.token-2.ensures kind.Close refl
