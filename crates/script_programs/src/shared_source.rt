@@ -16,13 +16,14 @@ use mate_refusals::Refusal;
 use mate_steps::CompiledScript;
 use std::alloc::Global;
 use std::marker::Model;
+use std::rc::Rc;
 use vm_desc::Description;
 
-/// A compiled script, whose tree is kept once for all programs that it gives. Contracts see the compiled script.
+/// A compiled script, whose tree and code are kept once for all programs that it gives. Contracts see the compiled script.
 #[derive(Drop)]
 pub struct SharedSource {
     script: SharedScript,
-    code: Code,
+    code: Rc<Code>,
 }
 
 impl Model for SharedSource {
@@ -34,7 +35,7 @@ impl Model for SharedSource {
 
     ghost coded = { Prim.hlevel (codes, stmt.the_row.coded) };
 
-    ghost view = { λ s. record { script = s.script; code = s.code } };
+    ghost view = { λ s. record { script = s.script; code = s.code.value } };
 }
 
 /// A copy of code. It takes no memory.
@@ -52,26 +53,27 @@ impl SharedSource {
     pub fn new(alloc: Global, compiled: CompiledScript) -> Result<SharedSource, Refusal>
         ensures { obtained (λ shared. shared ≡ compiled) result }
     {
-        match SharedScript::new(alloc, compiled.script) {
-            Ok(script) => Ok(SharedSource {
-                script,
-                code: compiled.code,
-            }),
-            Err(_) => Err(Refusal::NoMemory),
-        }
+        let CompiledScript { script, code } = compiled;
+        let Ok(script) = SharedScript::new(alloc, script) else {
+            return Err(Refusal::NoMemory);
+        };
+        let Ok(code) = Rc::new(alloc, code) else {
+            return Err(Refusal::NoMemory);
+        };
+        Ok(SharedSource { script, code })
     }
 
     /// The same source, with one more owner.
     pub fn share(&self) -> Result<SharedSource, Refusal>
         ensures { obtained (λ shared. shared ≡ self.now) result }
     {
-        match self.script.share() {
-            Ok(script) => Ok(SharedSource {
-                script,
-                code: copy_of_code(&self.code),
-            }),
-            Err(_) => Err(Refusal::NoMemory),
-        }
+        let Ok(script) = self.script.share() else {
+            return Err(Refusal::NoMemory);
+        };
+        let Ok(code) = self.code.clone() else {
+            return Err(Refusal::NoMemory);
+        };
+        Ok(SharedSource { script, code })
     }
 
     /// The program that it gives for a handler of the machine, with a version.
@@ -95,7 +97,7 @@ impl SharedSource {
             vm_id: desc.vm_id,
             handler,
             version,
-            code,
+            code: copy_of_code(code.as_ref()),
         };
         let image = stored_image(alloc, &capsule)?;
         Ok(Program {

@@ -1,5 +1,6 @@
-use Rattle.std.proofs.Common.{◌≡◌, Some, refl, sym, subst}
-use Rattle.capsule_codec.specs.Image.{CapsuleParts}
+use Rattle.std.proofs.Common.{◌≡◌, ℕ, Some, refl, subst}
+use Rattle.capsule_codec.specs.Image.{CapsuleParts, IsCapsule, capsule_image}
+use Rattle.arrayvec.specs.ArrayVec.{ArrayVec}
 use Rattle.mate_journal.specs.declared.program.Program.{Program}
 use Rattle.mate_steps.specs.SourceCode.{IsCompiledOf}
 use Rattle.mate_steps.specs.declared.code.CompiledScript.{CompiledScript}
@@ -11,10 +12,14 @@ pub returns-clause-right : goal.returns-clause-right
 returns-clause-right c =
     λ fold tree is.
     let d = c.args.desc.now in
-    let x : CompiledScript = record { script = c.self.inside.script; code = c.self.inside.code } in
+    let x : CompiledScript = record { script = c.self.inside.script; code = c.self.inside.code.value } in
     let view = c.self.view_is in
     let same : c.args.self ≡ x = cc in
     let parts : CapsuleParts = record { vm_id = d.vm_id; handler = c.args.handler.0; version = c.args.version; code = x.code.items } in
     let p : Program = record { handler = c.args.handler; version = c.args.version; source = Some x.script; image = c.in_ok-image.image } in
-    IsRightProgram-compiled d fold tree x parts p (subst (λ (s : CompiledScript). IsCompiledOf (shape_of d) fold tree s) same is) c.in_ok-image.ensures.fits (record { vm_id = refl; handler = c.requires.handler }) refl refl refl refl
-    c.in_ok-image.ensures.image
+    let copied : c.copy_of_code.result ≡ x.code = (let e = c.copy_of_code.ensures in let f = c.as_ref.ensures in cc) in
+    let with_code : ArrayVec ℕ → CapsuleParts = λ code. record { vm_id = d.vm_id; handler = c.args.handler.0; version = c.args.version; code = code.items } in
+    let fits : IsCapsule parts = subst (λ (code : ArrayVec ℕ). IsCapsule (with_code code)) copied c.in_ok-image.ensures.fits in
+    let image : c.in_ok-image.image.items ≡ capsule_image parts = subst (λ (code : ArrayVec ℕ). c.in_ok-image.image.items ≡ capsule_image (with_code code)) copied c.in_ok-image.ensures.image in
+    IsRightProgram-compiled d fold tree x parts p (subst (λ (s : CompiledScript). IsCompiledOf (shape_of d) fold tree s) same is) fits (record { vm_id = refl; handler = c.requires.handler }) refl refl refl refl
+    image
