@@ -2,8 +2,9 @@
 use Rattle.std.proofs.Common.{◌≡◌, ◌⊎◌, ◌∙◌, ℕ, List, length, Result, Ok, Err, refl, sym, subst, ap, inl, inr}
 use Rattle.std.specs.Prelude.{MatchResult, IfErr, codes}
 use Rattle.vm_desc.specs.declared.description.Description.{Description}
-use Rattle.ts_syntax.specs.Cut.{cut, cut_from, CutFault, bad_byte, big_literal}
+use Rattle.ts_syntax.specs.Cut.{cut, cut_from, bad_byte, big_literal}
 use Rattle.ts_syntax.specs.Faults.{Spells, IsUnexpected, IsTooDeep}
+use Rattle.ts_syntax.specs.Script.{IsScript}
 use Rattle.ts_syntax.specs.Tree.{Source}
 use Rattle.ts_checked.specs.declared.checked.Checked.{Checked}
 use Rattle.ts_syntax.specs.declared.token.Token.{Token}
@@ -61,12 +62,12 @@ module _ (one : OneVerdict) (bytes : List ℕ) (tokens : List Token) (source : S
   well_spelt d (fault.Unexpected place) is =
       let same = same_ok (cut bytes) is.tokens tokens is.cuts cuts in
       let e : spelled source ≡ unexpected place =
-      one tokens (length bytes) (spelled source) (unexpected place) spells (subst (λ (ts : List Token). IsUnexpected ts (length bytes) place) same is.stops) in
+      one tokens (length bytes) (spelled source) (unexpected place) spells (subst (λ (ts : List Token). IsUnexpected IsScript ts (length bytes) place) same is.stops) in
       absurd cc
   well_spelt d (fault.TooDeep place) is =
       let same = same_ok (cut bytes) is.tokens tokens is.cuts cuts in
       let e : spelled source ≡ too_deep place =
-      one tokens (length bytes) (spelled source) (too_deep place) spells (subst (λ (ts : List Token). IsTooDeep ts place) same is.deep) in
+      one tokens (length bytes) (spelled source) (too_deep place) spells (subst (λ (ts : List Token). IsTooDeep IsScript ts place) same is.deep) in
       absurd cc
   well_spelt d fault.NoMemory is = refl
 

@@ -1,12 +1,12 @@
 -- The plain grammar derives the expansion of what the grammar with procedures derives.
-use Rattle.std.proofs.Common.{◌≡◌, ℕ, zero, suc, ◌+◌, nat_le, Bool, true, false, cond, inl, inr, List, [], ◌∷◌, ◌++◌, Option, Some, None, refl, sym, subst}
+use Rattle.std.proofs.Common.{◌≡◌, ℕ, zero, suc, ◌+◌, ◌≤◌, Bool, true, false, cond, inl, inr, List, [], ◌∷◌, ◌++◌, Option, Some, None, refl, sym, subst}
 use Rattle.std.specs.Prelude.{bytes_eq}
 use Rattle.ts_syntax.specs.declared.dialect.Dialect.TheVariants.{Plain, Procedures}
 use Rattle.ts_syntax.specs.declared.script.Decl.{Decl}
 use Rattle.ts_syntax.specs.declared.script.DeclKind.{DeclKind}
 use Rattle.ts_syntax.specs.declared.script.DeclKind.TheVariants.{Private}
 use Rattle.ts_syntax.specs.declared.word.Word.{Word}
-use Rattle.ts_syntax.specs.Derived.{Level, level, rank, Holds, left_of, right_of, at_sign, at_not, IsPart, Derived, ArgsDerived, ActDerived, ActsDerived, NamesFollow, DeclsDerived, ProceduresDerived, IsDerived, IsDerivedWithProcedures}
+use Rattle.ts_syntax.specs.Derived.{level, Derived, ArgsDerived, ActDerived, ActsDerived, NamesFollow, DeclsDerived, ProceduresDerived, IsDerived, IsDerivedWithProcedures}
 use Rattle.ts_syntax.specs.Seen.{acts}
 use Rattle.ts_syntax.specs.Tree.{Tree, number, variable, item, size, message_item, message_size, call, negative, inverse, two, paren, Trees, no_trees, tree_then, Act, set, set_item, append, take_last, clear, call_alone, if_then, if_else, for_next, while_do, run_procedure, Acts, no_acts, act_then, Procedure, ProcedureSource}
 use Rattle.proc_names.specs.Heads.{parameter_count}
@@ -21,8 +21,8 @@ level-renamed : (h : Hiding) (e : Tree) → level (renamed_expr h e) ≡ level e
 level-renamed h (number n) = refl
 level-renamed h _ = refl
 
-part : (h : Hiding) (n : Level) (e : Tree) → IsPart n e → IsPart n (renamed_expr h e)
-part h n e p = subst (λ (l : Level). Holds (nat_le (rank n) (rank l))) (sym (level-renamed h e)) p
+part : (h : Hiding) (n : ℕ) (e : Tree) → n ≤ level e → n ≤ level (renamed_expr h e)
+part h n e p = subst (λ (l : ℕ). n ≤ l) (sym (level-renamed h e)) p
 
 mutual
   tree_derived : (h : Hiding) (e : Tree) → Derived e → Derived (renamed_expr h e)
@@ -33,9 +33,9 @@ mutual
   tree_derived h (message_item e) d = tree_derived h e d
   tree_derived h message_size d = tt
   tree_derived h (call w es) d = args_derived h es d
-  tree_derived h (negative e) d = (part h at_sign e d.0, tree_derived h e d.1)
-  tree_derived h (inverse e) d = (part h at_not e d.0, tree_derived h e d.1)
-  tree_derived h (two o l r) d = (part h (left_of o) l d.0, tree_derived h l d.1, part h (right_of o) r d.2, tree_derived h r d.3)
+  tree_derived h (negative e) d = (part h 6 e d.0, tree_derived h e d.1)
+  tree_derived h (inverse e) d = (part h 2 e d.0, tree_derived h e d.1)
+  tree_derived h (two o l r) d = (part h _ l d.0, tree_derived h l d.1, part h _ r d.2, tree_derived h r d.3)
   tree_derived h (paren e) d = tree_derived h e d
 
   args_derived : (h : Hiding) (es : Trees) → ArgsDerived es → ArgsDerived (renamed_args h es)

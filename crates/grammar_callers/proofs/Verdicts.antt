@@ -3,7 +3,7 @@ use Rattle.std.proofs.Common.{◌≡◌, ◌⊎◌, ℕ, List, [], ◌∷◌, �
 use Rattle.std.specs.Prelude.{MatchResult}
 use Rattle.ts_syntax.specs.Cut.{token}
 use Rattle.ts_syntax.specs.Faults.{Spells, StopsIn, IsUnexpected}
-use Rattle.ts_syntax.specs.Script.{BeginsScriptIn}
+use Rattle.ts_syntax.specs.Script.{IsScript, BeginsScriptIn}
 use Rattle.ts_syntax.specs.Seen.{source_seen}
 use Rattle.ts_syntax.specs.Tree.{Source}
 use Rattle.ts_syntax.specs.declared.dialect.Dialect.TheVariants.{Plain}
@@ -51,7 +51,7 @@ only_script one tokens len s (Err (fault.TooDeep place)) spells so = absurd (spe
 only_script one tokens len s (Err fault.NoMemory) spells so = refl
 
 -- the token that doesn't fit, but for want of memory
-pub only_unexpected : OneVerdict → (tokens : List Token) (len place : ℕ) (result : Result Script SourceFault) → IsUnexpected tokens len place → Answers tokens len result → MatchResult result (λ _. ⊥) (λ why. (why ≡ fault.Unexpected place) ⊎ (why ≡ fault.NoMemory))
+pub only_unexpected : OneVerdict → (tokens : List Token) (len place : ℕ) (result : Result Script SourceFault) → IsUnexpected IsScript tokens len place → Answers tokens len result → MatchResult result (λ _. ⊥) (λ why. (why ≡ fault.Unexpected place) ⊎ (why ≡ fault.NoMemory))
 only_unexpected one tokens len place (Ok script) stops so = spelled_stops (source_seen script) place (one tokens len (spelled (source_seen script)) (stops_at place) so stops)
 only_unexpected one tokens len place (Err (fault.BadByte p)) stops so = absurd so
 only_unexpected one tokens len place (Err (fault.BigLiteral p)) stops so = absurd so
@@ -66,7 +66,7 @@ nothing_before k (j ∷ []) e = cc
 nothing_before k (j ∷ i ∷ front) e = cc
 
 -- a `;` alone is refused at its place
-pub lone_sign : (from to len : ℕ) → Refused Plain (kind.Semi ∷ []) (kind.Semi ∷ []) → IsUnexpected (token kind.Semi from to ∷ []) len from
+pub lone_sign : (from to len : ℕ) → Refused Plain (kind.Semi ∷ []) (kind.Semi ∷ []) → IsUnexpected IsScript (token kind.Semi from to ∷ []) len from
 lone_sign from to len r =
     let none : r.front ≡ [] = nothing_before kind.Semi r.front r.are in
     record {

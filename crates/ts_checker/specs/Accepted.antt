@@ -4,6 +4,7 @@ use Rattle.vm_desc.specs.declared.description.Description.{Description}
 use Rattle.ts_syntax.specs.declared.token.Token.{Token}
 use Rattle.ts_syntax.specs.Cut.{cut, CutFault}
 use Rattle.ts_syntax.specs.Tree.{Source}
+use Rattle.ts_syntax.specs.Script.{IsScript}
 use Rattle.ts_syntax.specs.Faults.{Spells, IsUnexpected, IsTooDeep}
 use Rattle.ts_checked.specs.Statement.{Block}
 use Rattle.ts_checker.specs.declared.fault.CheckFault.{CheckFault}
@@ -28,12 +29,12 @@ pub data TextRefusal : Type 0 where
 pub record IsMisspelled (bytes : List ℕ) (place : ℕ) : Type 0 where
   pub tokens : List Token
   pub cuts : cut bytes ≡ Ok tokens
-  pub stops : IsUnexpected tokens (length bytes) place
+  pub stops : IsUnexpected IsScript tokens (length bytes) place
 
 pub record IsSpelledTooDeep (bytes : List ℕ) (place : ℕ) : Type 0 where
   pub tokens : List Token
   pub cuts : cut bytes ≡ Ok tokens
-  pub deep : IsTooDeep tokens place
+  pub deep : IsTooDeep IsScript tokens place
 
 -- the tokens spell a script, whose checks refuse it
 pub record IsUnchecked (machine : Description) (bytes : List ℕ) (fault : CheckFault) : Type 0 where

@@ -4,11 +4,10 @@ use Rattle.ts_checked.specs.declared.bin_op.BinOp.{BinOp}
 use Rattle.ts_syntax.specs.declared.token.Token.{Token}
 use Rattle.ts_syntax.specs.declared.token.TokenKind.{TokenKind}
 use Rattle.ts_syntax.specs.declared.token.TokenKind.TheVariants as kind
-use Rattle.ts_syntax.specs.Derived.{Holds}
+use Rattle.ts_syntax.specs.Parsing.{Holds, reads, Starts, StartsOperator, Lacks, LacksOperator, product_sign, sum_sign, comparison_sign}
 use Rattle.ts_syntax.specs.Tree.{Tree, two}
 use Rattle.ts_syntax.specs.Code.{kind_code}
 use Rattle.ts_syntax.specs.Machine.{Product, first_sum, in_product, in_sum, Sum, first_compare, Inverse, in_compare, Conjunction, first_or, in_or, first_and, first_product, Whole, State, want, want_inverse, sum_due, have_product, have_sum, have_inverse, have_and, have, step, finish}
-use Rattle.ts_syntax.specs.Parsing.{reads, Starts, StartsOperator, Lacks, LacksOperator, product_sign, sum_sign, comparison_sign}
 use Rattle.ts_syntax.proofs.Turns.{summed, summed_size, joined, joined_size}
 use Rattle.ts_syntax.proofs.Reading.{is_plain, sign_read, alike_at, alike_end}
 

@@ -1,5 +1,5 @@
 -- A script with other places.
-use Rattle.std.proofs.Common.{◌≡◌, ℕ, suc, ◌+◌, ◌-◌, ◌≤◌, nat_le, List, [], ◌∷◌, ◌++◌, length, take, drop, map, Option, Some, None, refl, sym, ◌∙◌, ap, subst, length-append, length-drop, arith}
+use Rattle.std.proofs.Common.{◌≡◌, ℕ, suc, ◌+◌, ◌-◌, ◌≤◌, List, [], ◌∷◌, ◌++◌, length, take, drop, map, Option, Some, None, refl, sym, ◌∙◌, ap, subst, length-append, length-drop, arith}
 use Rattle.std.proofs.lemmas.List.{take-append-drop, length-take-le}
 use Rattle.ts_syntax.specs.declared.word.Word.{Word}
 use Rattle.ts_syntax.specs.declared.stmt.Step.{Step}
@@ -9,7 +9,7 @@ use Rattle.ts_syntax.specs.declared.script.DeclKind.{DeclKind}
 use Rattle.ts_syntax.specs.declared.token.TokenKind.TheVariants as kind
 use Rattle.ts_syntax.specs.Tree.{Tree, number, variable, item, size, message_item, message_size, call, negative, inverse, two, paren, Trees, no_trees, tree_then, Act, set, set_item, append, take_last, clear, call_alone, if_then, if_else, for_next, while_do, run_procedure, Acts, no_acts, act_then, Source}
 use Rattle.ts_syntax.specs.Spelling.{name, sign, spelled, args_spelled, more_spelled, step_spelled, act_spelled, acts_spelled, decl_start, decls_gap, decls_spelled, source_spelled, places, args_places, step_places, act_places, acts_places, decls_places, source_places}
-use Rattle.ts_syntax.specs.Derived.{Level, level, rank, Holds, left_of, right_of, at_sign, at_not, IsPart, Derived, ArgsDerived, ActDerived, ActsDerived, NamesFollow, DeclsDerived, IsDerived}
+use Rattle.ts_syntax.specs.Derived.{level, Derived, ArgsDerived, ActDerived, ActsDerived, NamesFollow, DeclsDerived, IsDerived}
 use Rattle.ts_lexer.specs.Bare.{bare_word, bare_tree, bare_trees, bare_step, bare_act, bare_acts, bare_decl, bare}
 
 -- the first place of a list, and those behind it
@@ -229,8 +229,8 @@ level_at (inverse e) ps = refl
 level_at (two o l r) ps = refl
 level_at (paren e) ps = refl
 
-part_at : (n : Level) (e : Tree) (ps : List ℕ) → IsPart n e → IsPart n (tree_at e ps)
-part_at n e ps h = let P : Level → Type 0 = λ l. Holds (nat_le (rank n) (rank l)) in subst P (sym (level_at e ps)) h
+part_at : (n : ℕ) (e : Tree) (ps : List ℕ) → n ≤ level e → n ≤ level (tree_at e ps)
+part_at n e ps h = subst (λ l. n ≤ l) (sym (level_at e ps)) h
 
 mutual
   tree_at-Derived : (e : Tree) (ps : List ℕ) → Derived e → Derived (tree_at e ps)
@@ -241,12 +241,12 @@ mutual
   tree_at-Derived (message_item e) ps d = tree_at-Derived e ps d
   tree_at-Derived message_size ps d = tt
   tree_at-Derived (call w es) ps d = trees_at-Derived es (rest_of ps) d
-  tree_at-Derived (negative e) ps d = (part_at at_sign e ps d.0, tree_at-Derived e ps d.1)
-  tree_at-Derived (inverse e) ps d = (part_at at_not e ps d.0, tree_at-Derived e ps d.1)
+  tree_at-Derived (negative e) ps d = (part_at 6 e ps d.0, tree_at-Derived e ps d.1)
+  tree_at-Derived (inverse e) ps d = (part_at 2 e ps d.0, tree_at-Derived e ps d.1)
   tree_at-Derived (two o l r) ps d =
       let ls = take (length (places l)) ps in
       let rs = drop (length (places l)) ps in
-      (part_at (left_of o) l ls d.0, tree_at-Derived l ls d.1, part_at (right_of o) r rs d.2, tree_at-Derived r rs d.3)
+      (part_at _ l ls d.0, tree_at-Derived l ls d.1, part_at _ r rs d.2, tree_at-Derived r rs d.3)
   tree_at-Derived (paren e) ps d = tree_at-Derived e ps d
 
   trees_at-Derived : (es : Trees) (ps : List ℕ) → ArgsDerived es → ArgsDerived (trees_at es ps)

@@ -12,10 +12,9 @@ use Rattle.ts_syntax.specs.declared.token.TokenKind.TheVariants as kind
 use Rattle.ts_syntax.specs.Seen.{acts_of, procedure_source_of}
 use Rattle.ts_syntax.specs.Spelling.{kinds}
 use Rattle.ts_syntax.specs.Tree.{Acts, no_acts, Procedure}
-use Rattle.ts_syntax.specs.Derived.{Holds}
+use Rattle.ts_syntax.specs.Parsing.{Holds, noted_then, Gives, reads, Starts, Lacks, Takes, StartsName, LacksName, TakesName, Reads}
 use Rattle.ts_syntax.specs.Code.{kind_code}
 use Rattle.ts_syntax.specs.Machine.{top, State, decls, decl_name, decl_more, declared, block, word, step, step_frame, takes, places_after, first_place, finish, going, run, start, main, proc_part, dialect_of, procedures, proc_word, proc_named, proc_opened, param_read, param_due, read_script, ending, procedure, proc_ended, step_proc}
-use Rattle.ts_syntax.specs.Parsing.{noted_then, Gives, reads, Starts, Lacks, Takes, StartsName, LacksName, TakesName, Reads}
 use Rattle.ts_statements.specs.Blocks.{LacksStmt, FrameIn}
 use Rattle.ts_parser.specs.Scripts.{decl_kind, StartsDecl, LacksDecl, Header, params_due, script_frame, FewIn, Routine, ReadsScript}
 use Rattle.ts_syntax.proofs.Missing.{IsOther, lacks_first, lacks_name, only_name, only_open}

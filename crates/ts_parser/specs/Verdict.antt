@@ -5,6 +5,7 @@ use Rattle.ts_syntax.specs.declared.script.Script.{Script}
 use Rattle.ts_syntax.specs.declared.procedure.ProcScript.{ProcScript}
 use Rattle.ts_syntax.specs.declared.token.Token.{Token}
 use Rattle.ts_syntax.specs.Faults.{Spells, IsUnexpected, IsTooDeep, SpellsIn, IsUnexpectedIn, IsTooDeepIn}
+use Rattle.ts_syntax.specs.Script.{IsScript}
 use Rattle.ts_syntax.specs.Seen.{source_seen, procedure_source_of}
 use Rattle.ts_syntax.specs.Tree.{Source, ProcedureSource}
 use Rattle.ts_parser.specs.declared.fault.SourceFault.{SourceFault}
@@ -15,8 +16,8 @@ abbrev pub Answers : List Token → ℕ → Result Script SourceFault → Type 0
 Answers tokens len (Ok s) = Spells tokens (source_seen s)
 Answers tokens len (Err (fault.BadByte place)) = ⊥
 Answers tokens len (Err (fault.BigLiteral place)) = ⊥
-Answers tokens len (Err (fault.Unexpected place)) = IsUnexpected tokens len place
-Answers tokens len (Err (fault.TooDeep place)) = IsTooDeep tokens place
+Answers tokens len (Err (fault.Unexpected place)) = IsUnexpected IsScript tokens len place
+Answers tokens len (Err (fault.TooDeep place)) = IsTooDeep IsScript tokens place
 Answers tokens len (Err fault.NoMemory) = Unit {0}
 
 -- the same in a dialect; a plain script is one without procedures
@@ -40,8 +41,8 @@ Verdict = VerdictOf Source
 -- that it is so
 abbrev pub IsSo : List Token → ℕ → Verdict → Type 0
 IsSo tokens len (spelled s) = Spells tokens s
-IsSo tokens len (unexpected place) = IsUnexpected tokens len place
-IsSo tokens len (too_deep place) = IsTooDeep tokens place
+IsSo tokens len (unexpected place) = IsUnexpected IsScript tokens len place
+IsSo tokens len (too_deep place) = IsTooDeep IsScript tokens place
 
 -- the same in a dialect
 abbrev pub IsSoIn : Dialect → List Token → ℕ → VerdictOf ProcedureSource → Type 0

@@ -2,7 +2,7 @@
 use Rattle.std.proofs.Common.{◌≡◌, ℕ, nat_lt, List, [], ◌∷◌, get_or, refl, sym, ◌∙◌, ap, subst}
 use Rattle.ts_syntax.specs.declared.token.TokenKind.{TokenKind}
 use Rattle.ts_syntax.specs.declared.token.TokenKind.TheVariants as kind
-use Rattle.ts_syntax.specs.Derived.{Holds}
+use Rattle.ts_syntax.specs.Parsing.{Holds}
 use Rattle.ts_syntax.specs.Code.{kind_code, is_sign}
 
 signs : List TokenKind

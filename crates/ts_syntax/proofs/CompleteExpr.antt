@@ -1,5 +1,5 @@
 -- The machine reads each derived expression to its end.
-use Rattle.std.proofs.Common.{◌≡◌, ℕ, Bool, nat_le, List, [], ◌∷◌, ◌++◌, refl, sym, ◌∙◌, ap, append_assoc}
+use Rattle.std.proofs.Common.{◌≡◌, ℕ, zero, suc, ◌+◌, ◌-◌, ◌≤◌, Bool, List, [], ◌∷◌, ◌++◌, refl, sym, ◌∙◌, ap, subst, append_assoc, arith}
 use Rattle.ts_checked.specs.declared.bin_op.BinOp.{BinOp}
 use Rattle.ts_checked.specs.declared.bin_op.BinOp.TheVariants as op
 use Rattle.ts_syntax.specs.declared.word.Word.{Word}
@@ -7,7 +7,9 @@ use Rattle.ts_syntax.specs.declared.token.TokenKind.{TokenKind}
 use Rattle.ts_syntax.specs.declared.token.TokenKind.TheVariants as kind
 use Rattle.ts_syntax.specs.Tree.{Tree, number, variable, item, size, message_item, message_size, call, negative, inverse, two, paren, Trees, no_trees, tree_then}
 use Rattle.ts_syntax.specs.Spelling.{sign, spelled, args_spelled, more_spelled}
-use Rattle.ts_syntax.specs.Derived.{Level, at_or, at_and, at_not, at_compare, at_sum, at_product, at_sign, at_atom, rank, level, level_of, left_of, right_of, Holds, IsPart, Derived, ArgsDerived}
+use Rattle.ts_syntax.specs.Derived.{level, Derived, ArgsDerived}
+use Rattle.ts_syntax.specs.Parsing.{Holds}
+use Rattle.ts_syntax.proofs.Levels.{at_or, at_not, at_compare, at_sign, level_of, left_of, right_of, IsPart}
 use Rattle.ts_syntax.specs.Machine.{Operand, in_negative, first_product, in_product, Product, first_sum, in_sum, Sum, first_compare, in_compare, Inverse, in_inverse, first_and, in_and, Conjunction, first_or, in_or, Whole, in_paren, in_item, in_message, in_args, State, want, want_inverse, opened, have_product, have_sum, have_inverse, have_and, have, with_tree, sum_due, inverse_due, expr_due, give, other_places, run}
 use Rattle.ts_syntax.proofs.Placed.{word_at, left, args_left, placed, args_placed}
 use Rattle.ts_syntax.proofs.Turns.{after_operand, after_product, after_inverse, after_and, inverse_follows_and, sum_follows_inverse, product_follows_sum, operand_follows_product, named_is_given, product_is_sum, sum_is_compared, inverse_is_read, inverse_is_first, inverse_is_next, and_is_joined, begins_operand, begins_expr, inverse_is_operand, opened_is_due}
@@ -34,15 +36,14 @@ AtAnd e = (k : Conjunction) (m : TokenKind) → Holds (after_inverse m) → (ms 
 abbrev pub AtExpr : Tree → Type 0
 AtExpr e = (k : Whole) (m : TokenKind) → Holds (after_and m) → (ms : List TokenKind) (ps : List ℕ) → run (spelled e ++ m ∷ ms) ps (expr_due k) ≡ run (m ∷ ms) (left e ps) (have (placed e ps) k)
 
-abbrev At : Level → Tree → Type 0
-At at_or e = AtExpr e
-At at_and e = AtAnd e
-At at_not e = AtInverse e
-At at_compare e = AtCompare e
-At at_sum e = AtSum e
-At at_product e = AtProduct e
-At at_sign e = AtOperand e
-At at_atom e = AtOperand e
+abbrev At : ℕ → Tree → Type 0
+At zero e = AtExpr e
+At (suc zero) e = AtAnd e
+At (suc (suc zero)) e = AtInverse e
+At (suc (suc (suc zero))) e = AtCompare e
+At (suc (suc (suc (suc zero)))) e = AtSum e
+At (suc (suc (suc (suc (suc zero))))) e = AtProduct e
+At (suc (suc (suc (suc (suc (suc n)))))) e = AtOperand e
 
 -- the first token, with what is known of it
 pub record Starts (P : TokenKind → Bool) (ks : List TokenKind) : Type 0 where
@@ -70,29 +71,21 @@ starts_expr (inverse e) = starts _ _ tt
 starts_expr (two o l r) = starts_more _ (starts_expr l)
 starts_expr (paren e) = starts _ _ tt
 
-sum_fits_compare : (m : Level) → Holds (nat_le 4 (rank m)) → Holds (nat_le 3 (rank m))
-sum_fits_compare at_compare h = tt
-sum_fits_compare _ h = h
-
-product_fits_sum : (m : Level) → Holds (nat_le 5 (rank m)) → Holds (nat_le 4 (rank m))
-product_fits_sum at_sum h = tt
-product_fits_sum _ h = h
-
 -- the left operand of a comparison, sum or product is no looser than a comparison
-left_compares : (o : BinOp) (m : Level) → Holds (nat_le 3 (rank (level_of o))) → Holds (nat_le (rank (left_of o)) (rank m)) → Holds (nat_le 3 (rank m))
-left_compares op.Or m h g = absurd h
-left_compares op.And m h g = absurd h
-left_compares op.Eq m h g = sum_fits_compare m g
-left_compares op.Ne m h g = sum_fits_compare m g
-left_compares op.Lt m h g = sum_fits_compare m g
-left_compares op.Gt m h g = sum_fits_compare m g
-left_compares op.Le m h g = sum_fits_compare m g
-left_compares op.Ge m h g = sum_fits_compare m g
-left_compares op.Add m h g = sum_fits_compare m g
-left_compares op.Sub m h g = sum_fits_compare m g
-left_compares op.Mul m h g = sum_fits_compare m (product_fits_sum m g)
-left_compares op.Div m h g = sum_fits_compare m (product_fits_sum m g)
-left_compares op.Rem m h g = sum_fits_compare m (product_fits_sum m g)
+left_compares : (o : BinOp) (m : ℕ) → 3 ≤ level_of o → left_of o ≤ m → 3 ≤ m
+left_compares op.Or m h g = omega arith
+left_compares op.And m h g = omega arith
+left_compares op.Eq m h g = omega arith
+left_compares op.Ne m h g = omega arith
+left_compares op.Lt m h g = omega arith
+left_compares op.Gt m h g = omega arith
+left_compares op.Le m h g = omega arith
+left_compares op.Ge m h g = omega arith
+left_compares op.Add m h g = omega arith
+left_compares op.Sub m h g = omega arith
+left_compares op.Mul m h g = omega arith
+left_compares op.Div m h g = omega arith
+left_compares op.Rem m h g = omega arith
 
 starts_operand : (e : Tree) → Derived e → IsPart at_compare e → Starts begins_operand (spelled e)
 starts_operand (number n) d h = starts _ _ tt
@@ -103,7 +96,7 @@ starts_operand (message_item e) d h = starts _ _ tt
 starts_operand message_size d h = starts _ _ tt
 starts_operand (call w es) d h = starts _ _ tt
 starts_operand (negative e) d h = starts _ _ tt
-starts_operand (inverse e) d h = absurd h
+starts_operand (inverse e) d h = absurd (omega arith)
 starts_operand (two o l r) d h = starts_more _ (starts_operand l d.1 (left_compares o (level l) h d.0))
 starts_operand (paren e) d h = starts _ _ tt
 
@@ -131,57 +124,21 @@ to_and e f k m h ms ps = f (first_and k) m h ms ps ∙ inverse_is_first (placed 
 to_expr : (e : Tree) → AtAnd e → AtExpr e
 to_expr e f k m h ms ps = f (first_or k) m (inverse_follows_and m h) ms ps ∙ and_is_joined (placed e ps) (first_or k) m h ms (left e ps)
 
-below_or : (e : Tree) (n : Level) → Holds (nat_le (rank n) 0) → At at_or e → At n e
-below_or e at_or h w = w
-below_or e _ h w = absurd h
+looser : (e : Tree) (n : ℕ) → (3 ≤ suc n → Starts begins_operand (spelled e)) → At (suc n) e → At n e
+looser e zero s w = to_expr e w
+looser e (suc zero) s w = to_and e w
+looser e (suc (suc zero)) s w = to_inverse e (s (omega arith)) w
+looser e (suc (suc (suc zero))) s w = to_compare e w
+looser e (suc (suc (suc (suc zero)))) s w = to_sum e w
+looser e (suc (suc (suc (suc (suc zero))))) s w = to_product e w
+looser e (suc (suc (suc (suc (suc (suc n)))))) s w = w
 
-below_and : (e : Tree) (n : Level) → Holds (nat_le (rank n) 1) → At at_and e → At n e
-below_and e at_and h w = w
-below_and e n h w = below_or e n h (to_expr e w)
+lower : (e : Tree) (k n m : ℕ) → m ≡ n + k → (3 ≤ m → Starts begins_operand (spelled e)) → At m e → At n e
+lower e zero n m p s w = subst (λ l. At l e) (omega arith) w
+lower e (suc k) n m p s w = looser e n (λ h. s (omega arith)) (lower e k (suc n) m (omega arith) s w)
 
-below_not : (e : Tree) (n : Level) → Holds (nat_le (rank n) 2) → At at_not e → At n e
-below_not e at_not h w = w
-below_not e n h w = below_and e n h (to_and e w)
-
-below_compare : (e : Tree) (n : Level) → Holds (nat_le (rank n) 3) → Starts begins_operand (spelled e) → At at_compare e → At n e
-below_compare e at_compare h s w = w
-below_compare e n h s w = below_not e n h (to_inverse e s w)
-
-below_sum : (e : Tree) (n : Level) → Holds (nat_le (rank n) 4) → Starts begins_operand (spelled e) → At at_sum e → At n e
-below_sum e at_sum h s w = w
-below_sum e n h s w = below_compare e n h s (to_compare e w)
-
-below_product : (e : Tree) (n : Level) → Holds (nat_le (rank n) 5) → Starts begins_operand (spelled e) → At at_product e → At n e
-below_product e at_product h s w = w
-below_product e n h s w = below_sum e n h s (to_sum e w)
-
-below_sign : (e : Tree) (n : Level) → Holds (nat_le (rank n) 6) → Starts begins_operand (spelled e) → At at_sign e → At n e
-below_sign e at_sign h s w = w
-below_sign e n h s w = below_product e n h s (to_product e w)
-
-below_atom : (e : Tree) (n : Level) → Holds (nat_le (rank n) 7) → Starts begins_operand (spelled e) → At at_atom e → At n e
-below_atom e at_atom h s w = w
-below_atom e n h s w = below_sign e n h s w
-
-below : (e : Tree) (m n : Level) → Holds (nat_le (rank n) (rank m)) → (Holds (nat_le 3 (rank m)) → Starts begins_operand (spelled e)) → At m e → At n e
-below e at_or n h s w = below_or e n h w
-below e at_and n h s w = below_and e n h w
-below e at_not n h s w = below_not e n h w
-below e at_compare n h s w = below_compare e n h (s tt) w
-below e at_sum n h s w = below_sum e n h (s tt) w
-below e at_product n h s w = below_product e n h (s tt) w
-below e at_sign n h s w = below_sign e n h (s tt) w
-below e at_atom n h s w = below_atom e n h (s tt) w
-
-loosest : (m : Level) → Holds (nat_le (rank at_or) (rank m))
-loosest at_or = tt
-loosest at_and = tt
-loosest at_not = tt
-loosest at_compare = tt
-loosest at_sum = tt
-loosest at_product = tt
-loosest at_sign = tt
-loosest at_atom = tt
+below : (e : Tree) (m n : ℕ) → n ≤ m → (3 ≤ m → Starts begins_operand (spelled e)) → At m e → At n e
+below e m n h s w = lower e (m - n) n m (omega arith) s w
 
 -- an operator between its operands, by its level
 regroup : (o : BinOp) (l r : Tree) (m : TokenKind) (ms : List TokenKind) → spelled (two o l r) ++ m ∷ ms ≡ spelled l ++ (sign o ∷ (spelled r ++ m ∷ ms))
@@ -323,20 +280,20 @@ mutual
   own : (e : Tree) → Derived e → At (level e) e
   own (number n) d = λ k m h ms ps. refl
   own (variable w) d = λ k m h ms ps. named_is_given (word_at w ps) k m h ms (other_places ps)
-  own (item w e) d = λ k m h ms ps. closing e (below e (level e) at_or (loosest (level e)) (starts_operand e d) (own e d)) (in_item (word_at w ps) k) kind.CloseBox m tt ms (other_places ps)
+  own (item w e) d = λ k m h ms ps. closing e (below e (level e) at_or (omega arith) (starts_operand e d) (own e d)) (in_item (word_at w ps) k) kind.CloseBox m tt ms (other_places ps)
   own (size w) d = λ k m h ms ps. refl
-  own (message_item e) d = λ k m h ms ps. closing e (below e (level e) at_or (loosest (level e)) (starts_operand e d) (own e d)) (in_message k) kind.CloseBox m tt ms ps
+  own (message_item e) d = λ k m h ms ps. closing e (below e (level e) at_or (omega arith) (starts_operand e d) (own e d)) (in_message k) kind.CloseBox m tt ms ps
   own message_size d = λ k m h ms ps. refl
   own (call w es) d = λ k m h ms ps. call_read (word_at w ps) es (own_all es d) k m ms (other_places ps)
   own (negative e) d = λ k m h ms ps. below e (level e) at_sign d.0 (starts_operand e d.1) (own e d.1) (in_negative k) m h ms ps
   own (inverse e) d = λ k m h ms ps. below e (level e) at_not d.0 (starts_operand e d.1) (own e d.1) (in_inverse k) m h ms ps ∙ inverse_is_read (placed e ps) k (m ∷ ms) (left e ps)
   own (two o l r) d = two_read o l r (below l (level l) (left_of o) d.0 (starts_operand l d.1) (own l d.1)) (below r (level r) (right_of o) d.2 (starts_operand r d.3) (own r d.3))
-  own (paren e) d = λ k m h ms ps. closing e (below e (level e) at_or (loosest (level e)) (starts_operand e d) (own e d)) (in_paren k) kind.Close m tt ms ps
+  own (paren e) d = λ k m h ms ps. closing e (below e (level e) at_or (omega arith) (starts_operand e d) (own e d)) (in_paren k) kind.Close m tt ms ps
 
   pub own_all : (es : Trees) → ArgsDerived es → AllAt es
   own_all no_trees d = tt
-  own_all (tree_then e es) d = (below e (level e) at_or (loosest (level e)) (starts_operand e d.0) (own e d.0), own_all es d.1)
+  own_all (tree_then e es) d = (below e (level e) at_or (omega arith) (starts_operand e d.0) (own e d.0), own_all es d.1)
 
 -- a derived expression is read
 pub expr_read : (e : Tree) → Derived e → AtExpr e
-expr_read e d = below e (level e) at_or (loosest (level e)) (starts_operand e d) (own e d)
+expr_read e d = below e (level e) at_or (omega arith) (starts_operand e d) (own e d)

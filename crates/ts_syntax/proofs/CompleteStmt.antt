@@ -14,8 +14,9 @@ use Rattle.ts_syntax.specs.declared.token.TokenKind.{TokenKind}
 use Rattle.ts_syntax.specs.declared.token.TokenKind.TheVariants as kind
 use Rattle.ts_syntax.specs.Tree.{Tree, number, variable, item, size, message_item, message_size, call, negative, inverse, two, paren, Trees, no_trees, tree_then, Act, set, set_item, append, take_last, clear, call_alone, if_then, if_else, for_next, while_do, run_procedure, Acts, no_acts, act_then, Procedure, ProcedureSource}
 use Rattle.ts_syntax.specs.Spelling.{sign, name, spelled, args_spelled, more_spelled, minus_spelled, step_spelled, act_spelled, acts_spelled, decl_keyword, decl_start, decl_end, decls_gap, decls_spelled, params_spelled, other_params_spelled, procedure_spelled, procedures_spelled, procedure_source_spelled}
-use Rattle.ts_syntax.specs.Derived.{Holds, Derived, ActDerived, ActsDerived, RunDerived, NamesFollow, DeclsDerived, ProceduresDerived, ProceduresIn, IsDerivedIn}
-use Rattle.ts_syntax.specs.Machine.{Frame, top, main, proc_part, then_part, else_part, for_part, while_part, Whole, in_item, in_set, in_index, in_set_item, in_append, in_call, in_if, in_from, in_to, in_while, in_do, State, decls, decl_name, decl_more, procedures, proc_word, proc_opened, param_read, named, have, block, set_to, set_named, set_boxed, boxed, call_opened, do_word, do_opened, closed, stepped, with_act, due, expr_due, inverse_due, dialect_of, step, step_do, step_declared, going, first_place, other_places, run, start}
+use Rattle.ts_syntax.specs.Derived.{Derived, ActDerived, ActsDerived, RunDerived, NamesFollow, DeclsDerived, ProceduresDerived, IsDerivedIn}
+use Rattle.ts_syntax.specs.Parsing.{Holds}
+use Rattle.ts_syntax.specs.Machine.{Frame, top, main, proc_part, then_part, else_part, for_part, while_part, Whole, in_item, in_set, in_index, in_set_item, in_append, in_call, in_if, in_from, in_to, in_while, in_do, decls, decl_name, decl_more, procedures, proc_opened, param_read, named, have, block, set_to, set_named, set_boxed, boxed, call_opened, do_opened, closed, stepped, with_act, due, expr_due, inverse_due, dialect_of, step, step_do, going, first_place, other_places, run, start}
 use Rattle.ts_syntax.proofs.Placed.{word_at, left, args_left, step_left, act_left, acts_left, decls_left, params_left, procedure_left, procedures_left, source_left, placed, args_placed, step_placed, act_placed, acts_placed, decls_placed, params_placed, procedure_placed, procedures_placed, source_placed}
 use Rattle.ts_syntax.proofs.Turns.{after_operand, after_and, turn_alike, begins_expr, call_is_due, do_is_due, boxed_is_due}
 use Rattle.ts_syntax.proofs.CompleteExpr.{Starts, starts_more, starts_expr, AllAt, own_all, expr_read, first_read, with_trees_one}

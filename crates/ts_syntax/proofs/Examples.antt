@@ -1,5 +1,5 @@
 -- The examples of docs/TINYSCRIPT.md, each by a derivation or by computation.
-use Rattle.std.proofs.Common.{◌≡◌, ℕ, [], ◌∷◌, ◌++◌, Ok, Err, Some, None, refl, codes, replicate}
+use Rattle.std.proofs.Common.{◌≡◌, ℕ, [], ◌∷◌, ◌++◌, Ok, Err, Some, None, refl, codes, replicate, arith}
 use Rattle.std.specs.Prelude.{flat_map}
 use Rattle.std.specs.Fmt.{digits}
 use Rattle.ts_checked.specs.declared.bin_op.BinOp.TheVariants as op
@@ -43,17 +43,17 @@ clear_whole = w_rule (w_right (w_right (w_right (w_right (w_left (w_then w_key (
 
 -- `1 - 2 - 3` groups to the left
 left_chain : Derived (two op.Sub (two op.Sub (number 1) (number 2)) (number 3))
-left_chain = (tt, (tt, tt, tt, tt), tt, tt)
+left_chain = (omega arith, (omega arith, tt, omega arith, tt), omega arith, tt)
 
 right_chain : Derived (two op.Sub (number 1) (two op.Sub (number 2) (number 3))) → ⊥
-right_chain d = d.2
+right_chain d = let h = d.2 in omega (arith, h)
 
 chains_spell_alike : spelled (two op.Sub (number 1) (two op.Sub (number 2) (number 3))) ≡ spelled (two op.Sub (two op.Sub (number 1) (number 2)) (number 3))
 chains_spell_alike = refl
 
 -- comparisons make no chain: `1 < 2 < 3` is no expression
 no_chain : Derived (two op.Lt (two op.Lt (number 1) (number 2)) (number 3)) → ⊥
-no_chain d = d.0
+no_chain d = let h = d.0 in omega (arith, h)
 
 -- the 33rd `while` lies too deep, and the 32nd doesn't
 deep_block : first_deep (flat_map {X = ℕ} (λ _. kind.While ∷ a ∷ []) (replicate 33 0)) ≡ Some 64

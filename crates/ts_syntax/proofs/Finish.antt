@@ -1,11 +1,10 @@
 -- Each state can be finished: some tokens lead from it to a whole script.
 use Rattle.std.proofs.Common.{◌≡◌, ℕ, true, false, List, [], ◌∷◌, ◌++◌, Some, None, Ok, refl, ◌∙◌}
 use Rattle.ts_syntax.specs.declared.word.Word.{Word}
-use Rattle.ts_syntax.specs.declared.script.Decl.{Decl}
 use Rattle.ts_syntax.specs.declared.token.TokenKind.{TokenKind}
 use Rattle.ts_syntax.specs.declared.token.TokenKind.TheVariants as kind
-use Rattle.ts_syntax.specs.Tree.{Tree, number, variable, item, message_item, message_size, call, negative, inverse, two, paren, no_trees, set, set_item, append, take_last, clear, call_alone, if_then, if_else, for_next, while_do, run_procedure, Acts, no_acts, Procedure, ProcedureSource}
-use Rattle.ts_syntax.specs.Derived.{Holds}
+use Rattle.ts_syntax.specs.Tree.{Tree, number, variable, item, message_item, message_size, call, negative, inverse, two, paren, no_trees, set, set_item, append, take_last, clear, call_alone, if_then, if_else, for_next, while_do, run_procedure, Acts, no_acts, ProcedureSource}
+use Rattle.ts_syntax.specs.Parsing.{Holds}
 use Rattle.ts_checked.specs.declared.bin_op.BinOp.TheVariants as op
 use Rattle.ts_syntax.specs.Machine.{Frame, top, main, proc_part, then_part, else_part, for_part, while_part, Operand, in_negative, first_product, in_product, Product, first_sum, in_sum, Sum, first_compare, in_compare, Inverse, in_inverse, first_and, in_and, Conjunction, first_or, in_or, Whole, in_paren, in_item, in_message, in_args, in_set, in_index, in_set_item, in_append, in_call, in_if, in_from, in_to, in_while, in_do, State, decls, decl_name, decl_more, procedures, proc_word, proc_named, proc_opened, param_read, param_due, proc_ended, want, want_inverse, named, opened, sized, size_opened, size_named, message, have_product, have_sum, have_inverse, have_and, have, block, stmt_named, set_to, set_named, set_boxed, set_taken, boxed, append_to, item_indexed, call_opened, cleared, clear_opened, clear_named, closed, for_word, for_named, stepped, step_signed, nexted, if_ended, while_ended, do_word, do_named, do_opened, with_tree, with_act, word, inverse_due, give, other_places, first_place, run}
 use Rattle.ts_syntax.proofs.Turns.{after_and, inverse_follows_and, sum_follows_inverse, product_follows_sum, operand_follows_product, named_is_given, summed, product_is_sum, compared, sum_is_compared, inverse_is_read, inverse_is_first, inverse_is_next, joined, and_is_joined}

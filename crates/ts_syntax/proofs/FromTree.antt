@@ -1,5 +1,5 @@
 -- What a derived tree spells is a whole part of the grammar.
-use Rattle.std.proofs.Common.{◌≡◌, Bool, true, false, nat_le, List, [], ◌∷◌, ◌++◌, Option, Some, None, refl, sym, ◌∙◌, ap, append_assoc, append-nil}
+use Rattle.std.proofs.Common.{◌≡◌, ℕ, zero, suc, ◌+◌, ◌-◌, ◌≤◌, Bool, true, false, List, [], ◌∷◌, ◌++◌, get_or, Option, Some, None, refl, sym, ◌∙◌, ap, subst, append_assoc, append-nil, arith}
 use Rattle.ts_checked.specs.declared.bin_op.BinOp.{BinOp}
 use Rattle.ts_checked.specs.declared.bin_op.BinOp.TheVariants as op
 use Rattle.ts_syntax.specs.declared.word.Word.{Word}
@@ -13,76 +13,38 @@ use Rattle.ts_syntax.specs.declared.token.TokenKind.{TokenKind}
 use Rattle.ts_syntax.specs.declared.token.TokenKind.TheVariants as kind
 use Rattle.ts_syntax.specs.Tree.{Tree, number, variable, item, size, message_item, message_size, call, negative, inverse, two, paren, Trees, no_trees, tree_then, Act, set, set_item, append, take_last, clear, call_alone, if_then, if_else, for_next, while_do, run_procedure, Acts, no_acts, act_then, Source, Procedure, ProcedureSource}
 use Rattle.ts_syntax.specs.Spelling.{sign, spelled, args_spelled, more_spelled, minus_spelled, step_spelled, act_spelled, acts_spelled, name, decl_keyword, decl_start, decl_end, decls_gap, decls_spelled, source_spelled, params_spelled, other_params_spelled, procedure_spelled, procedures_spelled, procedure_source_spelled}
-use Rattle.ts_syntax.specs.Derived.{Level, at_or, at_and, at_not, at_compare, at_sum, at_product, at_sign, at_atom, rank, level, level_of, left_of, right_of, Holds, Derived, ArgsDerived, ActDerived, ActsDerived, RunDerived, DeclsDerived, ProceduresDerived, IsDerived, IsDerivedWithProcedures}
+use Rattle.ts_syntax.specs.Derived.{level, Derived, ArgsDerived, ActDerived, ActsDerived, RunDerived, DeclsDerived, ProceduresDerived, IsDerived, IsDerivedWithProcedures}
+use Rattle.ts_syntax.proofs.Levels.{at_or, at_not, at_sign, level_of, left_of, right_of}
 use Rattle.ts_syntax.specs.Grammar.{Rule, script, decl, stmt, pscript, proc, pstmt, expr, andx, notx, cmp, sum, prod, neg, atom, Part, NAME, NUM, key, rule, ◌▸◌, ◌∣◌, many, maybe, arguments, step, parameters, forms, rules, Whole, w_nothing, w_name, w_number, w_key, w_rule, w_then, w_left, w_right, w_end, w_more}
 
 -- the rule of a level
-abbrev pub rule_of : Level → Rule
-rule_of at_or = expr
-rule_of at_and = andx
-rule_of at_not = notx
-rule_of at_compare = cmp
-rule_of at_sum = sum
-rule_of at_product = prod
-rule_of at_sign = neg
-rule_of at_atom = atom
+abbrev rule_of : ℕ → Rule
+rule_of n = get_or (expr ∷ andx ∷ notx ∷ cmp ∷ sum ∷ prod ∷ neg ∷ []) n atom
 
 -- tokens that an expression's rule derives
-abbrev IsWhole : Level → List TokenKind → Type 0
+abbrev IsWhole : ℕ → List TokenKind → Type 0
 IsWhole n ms = Whole (rule (rule_of n)) ms
 
--- the tighter level's tokens are those of the looser, for levels from a level on
-below_or : {ms : List TokenKind} (n : Level) → Holds (nat_le (rank n) 0) → IsWhole at_or ms → IsWhole n ms
-below_or at_or h w = w
-below_or _ h w = absurd h
+-- the tokens of a level are those of the next looser one, and so of each looser one
+looser : {ms : List TokenKind} (n : ℕ) → IsWhole (suc n) ms → IsWhole n ms
+looser zero w = w_rule (w_then w w_end (sym (append-nil _)))
+looser (suc zero) w = w_rule (w_then w w_end (sym (append-nil _)))
+looser (suc (suc zero)) w = w_rule (w_right w)
+looser (suc (suc (suc zero))) w = w_rule (w_then w (w_right w_nothing) (sym (append-nil _)))
+looser (suc (suc (suc (suc zero)))) w = w_rule (w_then w w_end (sym (append-nil _)))
+looser (suc (suc (suc (suc (suc zero))))) w = w_rule (w_then w w_end (sym (append-nil _)))
+looser (suc (suc (suc (suc (suc (suc zero)))))) w = w_rule (w_right w)
+looser (suc (suc (suc (suc (suc (suc (suc n))))))) w = w
 
-below_and : {ms : List TokenKind} (n : Level) → Holds (nat_le (rank n) 1) → IsWhole at_and ms → IsWhole n ms
-below_and at_and h w = w
-below_and n h w = below_or n h (w_rule (w_then w w_end (sym (append-nil _))))
+lower : {ms : List TokenKind} (k n m : ℕ) → m ≡ n + k → IsWhole m ms → IsWhole n ms
+lower {ms} zero n m e w = subst (λ l. IsWhole l ms) (omega arith) w
+lower (suc k) n m e w = looser n (lower k (suc n) m (omega arith) w)
 
-below_not : {ms : List TokenKind} (n : Level) → Holds (nat_le (rank n) 2) → IsWhole at_not ms → IsWhole n ms
-below_not at_not h w = w
-below_not n h w = below_and n h (w_rule (w_then w w_end (sym (append-nil _))))
+below : {ms : List TokenKind} (m n : ℕ) → n ≤ m → IsWhole m ms → IsWhole n ms
+below m n h w = lower (m - n) n m (omega arith) w
 
-below_compare : {ms : List TokenKind} (n : Level) → Holds (nat_le (rank n) 3) → IsWhole at_compare ms → IsWhole n ms
-below_compare at_compare h w = w
-below_compare n h w = below_not n h (w_rule (w_right w))
-
-below_sum : {ms : List TokenKind} (n : Level) → Holds (nat_le (rank n) 4) → IsWhole at_sum ms → IsWhole n ms
-below_sum at_sum h w = w
-below_sum n h w = below_compare n h (w_rule (w_then w (w_right w_nothing) (sym (append-nil _))))
-
-below_product : {ms : List TokenKind} (n : Level) → Holds (nat_le (rank n) 5) → IsWhole at_product ms → IsWhole n ms
-below_product at_product h w = w
-below_product n h w = below_sum n h (w_rule (w_then w w_end (sym (append-nil _))))
-
-below_sign : {ms : List TokenKind} (n : Level) → Holds (nat_le (rank n) 6) → IsWhole at_sign ms → IsWhole n ms
-below_sign at_sign h w = w
-below_sign n h w = below_product n h (w_rule (w_then w w_end (sym (append-nil _))))
-
-below_atom : {ms : List TokenKind} (n : Level) → Holds (nat_le (rank n) 7) → IsWhole at_atom ms → IsWhole n ms
-below_atom at_atom h w = w
-below_atom n h w = below_sign n h (w_rule (w_right w))
-
-below : {ms : List TokenKind} (m n : Level) → Holds (nat_le (rank n) (rank m)) → IsWhole m ms → IsWhole n ms
-below at_or n h w = below_or n h w
-below at_and n h w = below_and n h w
-below at_not n h w = below_not n h w
-below at_compare n h w = below_compare n h w
-below at_sum n h w = below_sum n h w
-below at_product n h w = below_product n h w
-below at_sign n h w = below_sign n h w
-below at_atom n h w = below_atom n h w
-
-at_loosest : {ms : List TokenKind} (m : Level) → IsWhole m ms → IsWhole at_or ms
-at_loosest at_or w = w
-at_loosest at_and w = below_and at_or tt w
-at_loosest at_not w = below_not at_or tt w
-at_loosest at_compare w = below_compare at_or tt w
-at_loosest at_sum w = below_sum at_or tt w
-at_loosest at_product w = below_product at_or tt w
-at_loosest at_sign w = below_sign at_or tt w
-at_loosest at_atom w = below_atom at_or tt w
+at_loosest : {ms : List TokenKind} (m : ℕ) → IsWhole m ms → IsWhole at_or ms
+at_loosest m w = below m at_or (omega arith) w
 
 unrule : {r : Rule} {ms : List TokenKind} → Whole (rule r) ms → Whole (rules r) ms
 unrule (w_rule w) = w

@@ -1,9 +1,8 @@
 -- The grammar and the trees agree: on whole scripts, and on what begins one.
 use Rattle.std.proofs.Common.{◌↔◌, List, refl, subst}
 use Rattle.ts_syntax.specs.declared.token.TokenKind.{TokenKind}
-use Rattle.ts_syntax.specs.declared.dialect.Dialect.TheVariants as dialect
 use Rattle.ts_syntax.specs.Grammar.{rule, script, pscript, Whole, BeginsPart}
-use Rattle.ts_syntax.specs.Script.{IsScript, BeginsScript, IsProcedureScript, BeginsScriptIn}
+use Rattle.ts_syntax.specs.Script.{IsScript, BeginsScript, IsProcedureScript}
 use Rattle.ts_syntax.proofs.Begins.{Completed, completed, begun}
 use Rattle.ts_syntax.proofs.FromTree.{source_whole, procedure_source_whole}
 use Rattle.ts_syntax.proofs.ToTree.{script_spelled, procedure_script_spelled}
@@ -15,13 +14,13 @@ script_whole s = subst (λ z. Whole (rule script) z) s.spells (source_whole s.so
 pub whole_is_script : (ms : List TokenKind) → Whole (rule script) ms ↔ IsScript ms
 whole_is_script ms = (script_spelled, script_whole)
 
-to_begins : {ms : List TokenKind} → BeginsPart (rule script) ms → BeginsScript ms
+to_begins : {ms : List TokenKind} → BeginsPart (rule script) ms → BeginsScript IsScript ms
 to_begins b =
     let c : Completed (rule script) _ = completed b in
     record { rest = c.rest; script = script_spelled c.whole }
 
 -- tokens begin a script exactly where some tokens after them make it whole
-pub begins_is_begins_script : (ms : List TokenKind) → BeginsPart (rule script) ms ↔ BeginsScript ms
+pub begins_is_begins_script : (ms : List TokenKind) → BeginsPart (rule script) ms ↔ BeginsScript IsScript ms
 begins_is_begins_script ms = (to_begins, λ b. begun (script_whole b.script) ms b.rest refl)
 
 -- the same, for scripts with procedures
@@ -31,10 +30,10 @@ procedure_script_whole s = subst (λ z. Whole (rule pscript) z) s.spells (proced
 pub whole_is_procedure_script : (ms : List TokenKind) → Whole (rule pscript) ms ↔ IsProcedureScript ms
 whole_is_procedure_script ms = (procedure_script_spelled, procedure_script_whole)
 
-procedures_begin : {ms : List TokenKind} → BeginsPart (rule pscript) ms → BeginsScriptIn dialect.Procedures ms
+procedures_begin : {ms : List TokenKind} → BeginsPart (rule pscript) ms → BeginsScript IsProcedureScript ms
 procedures_begin b =
     let c : Completed (rule pscript) _ = completed b in
     record { rest = c.rest; script = procedure_script_spelled c.whole }
 
-pub begins_is_begins_procedures : (ms : List TokenKind) → BeginsPart (rule pscript) ms ↔ BeginsScriptIn dialect.Procedures ms
+pub begins_is_begins_procedures : (ms : List TokenKind) → BeginsPart (rule pscript) ms ↔ BeginsScript IsProcedureScript ms
 begins_is_begins_procedures ms = (procedures_begin, λ b. begun (procedure_script_whole b.script) ms b.rest refl)

@@ -2,6 +2,7 @@ pub mod Begins
 pub mod Examples
 pub mod FromTree
 pub mod GrammarLemmas
+pub mod Levels
 pub mod SeenLemmas
 pub mod ToTree
 pub mod CodeLemmas

@@ -11,7 +11,9 @@ use Rattle.ts_syntax.specs.declared.token.TokenKind.{TokenKind}
 use Rattle.ts_syntax.specs.declared.token.TokenKind.TheVariants as kind
 use Rattle.ts_syntax.specs.Tree.{Trees, no_trees, tree_then, Acts, Procedure}
 use Rattle.ts_syntax.specs.Spelling.{sign, name, spelled, step_spelled, act_spelled, acts_spelled, decl_keyword, decl_start, decl_end, decls_spelled, params_spelled, procedures_spelled}
-use Rattle.ts_syntax.specs.Derived.{at_and, at_not, at_sum, at_product, at_sign, Holds, IsPart, Derived, ArgsDerived, ActDerived, ActsDerived, DeclsDerived, ProceduresDerived}
+use Rattle.ts_syntax.specs.Derived.{Derived, ArgsDerived, ActDerived, ActsDerived, DeclsDerived, ProceduresDerived}
+use Rattle.ts_syntax.specs.Parsing.{Holds}
+use Rattle.ts_syntax.proofs.Levels.{at_and, at_not, at_sum, at_product, at_sign, IsPart}
 use Rattle.ts_syntax.specs.Machine.{Frame, top, main, proc_part, then_part, else_part, for_part, while_part, Operand, in_negative, first_product, in_product, Product, first_sum, in_sum, Sum, first_compare, in_compare, Inverse, in_inverse, first_and, in_and, Conjunction, first_or, in_or, Whole, in_paren, in_item, in_message, in_args, in_set, in_index, in_set_item, in_append, in_call, in_if, in_from, in_to, in_while, in_do, State, decls, decl_name, decl_more, procedures, proc_word, proc_named, proc_opened, param_read, param_due, proc_ended, want, want_inverse, named, opened, sized, size_opened, size_named, message, have_product, have_sum, have_inverse, have_and, have, block, stmt_named, set_to, set_named, set_boxed, set_taken, boxed, append_to, item_indexed, call_opened, cleared, clear_opened, clear_named, closed, for_word, for_named, stepped, step_signed, nexted, if_ended, while_ended, do_word, do_named, do_opened}
 
 -- ---- the tokens

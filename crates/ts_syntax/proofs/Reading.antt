@@ -4,10 +4,9 @@ use Rattle.ts_syntax.specs.declared.token.Token.{Token}
 use Rattle.ts_syntax.specs.declared.token.TokenKind.{TokenKind}
 use Rattle.ts_syntax.specs.declared.token.TokenKind.TheVariants as kind
 use Rattle.ts_syntax.specs.Spelling.{kinds, note}
-use Rattle.ts_syntax.specs.Derived.{Holds}
+use Rattle.ts_syntax.specs.Parsing.{Holds, noted_then, reads, Starts}
 use Rattle.ts_syntax.specs.Code.{is_sign}
 use Rattle.ts_syntax.specs.Machine.{State, step, wants_size, takes, places_after, first_place, finish, Outcome, ending, going, run}
-use Rattle.ts_syntax.specs.Parsing.{noted_then, reads, Starts}
 use Rattle.ts_syntax.proofs.CodeLemmas.{same_code}
 use Rattle.ts_syntax.proofs.Turns.{turn_alike}
 

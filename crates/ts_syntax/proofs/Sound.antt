@@ -1,5 +1,5 @@
 -- What the machine reads is derived, and spells the tokens that it read.
-use Rattle.std.proofs.Common.{◌≡◌, ◌⊎◌, inl, inr, ℕ, Bool, true, false, nat_le, List, [], ◌∷◌, ◌++◌, Option, Some, None, refl, sym, ◌∙◌, ap, subst, append_assoc, append-nil}
+use Rattle.std.proofs.Common.{◌≡◌, ◌⊎◌, inl, inr, ℕ, Bool, true, false, List, [], ◌∷◌, ◌++◌, Option, Some, None, refl, sym, ◌∙◌, ap, subst, append_assoc, append-nil, arith}
 use Rattle.ts_checked.specs.declared.bin_op.BinOp.{BinOp}
 use Rattle.ts_checked.specs.declared.bin_op.BinOp.TheVariants as op
 use Rattle.ts_syntax.specs.declared.word.Word.{Word}
@@ -11,8 +11,10 @@ use Rattle.ts_syntax.specs.declared.token.TokenKind.{TokenKind}
 use Rattle.ts_syntax.specs.declared.token.TokenKind.TheVariants as kind
 use Rattle.ts_syntax.specs.Tree.{Tree, number, variable, item, message_item, call, negative, inverse, two, paren, Trees, no_trees, tree_then, Act, set, set_item, append, take_last, call_alone, if_then, if_else, for_next, while_do, run_procedure, Acts, no_acts, act_then, Procedure}
 use Rattle.ts_syntax.specs.Spelling.{sign, name, spelled, args_spelled, more_spelled, minus_spelled, step_spelled, act_spelled, acts_spelled, decl_keyword, decl_start, decl_end, decls_gap, decls_spelled, params_spelled, other_params_spelled, procedure_spelled, procedures_spelled}
-use Rattle.ts_syntax.specs.Derived.{Level, at_or, at_and, at_not, at_compare, at_sum, at_product, at_sign, at_atom, rank, level, Holds, IsPart, Derived, ArgsDerived, ActDerived, ActsDerived, RunDerived, NamesFollow, DeclsDerived, ProceduresDerived}
-use Rattle.ts_syntax.specs.Machine.{Frame, top, main, proc_part, then_part, else_part, for_part, while_part, Operand, in_negative, first_product, in_product, Product, first_sum, in_sum, Sum, first_compare, in_compare, Inverse, in_inverse, first_and, in_and, Conjunction, first_or, in_or, Whole, in_paren, in_item, in_message, in_args, in_set, in_index, in_set_item, in_append, in_call, in_if, in_from, in_to, in_while, in_do, State, decls, decl_name, decl_more, procedures, proc_word, proc_named, proc_opened, param_read, param_due, proc_ended, want, want_inverse, named, opened, sized, size_opened, size_named, message, have_product, have_sum, have_inverse, have_and, have, block, stmt_named, set_to, set_named, set_boxed, set_taken, boxed, append_to, item_indexed, call_opened, cleared, clear_opened, clear_named, closed, for_word, for_named, stepped, step_signed, nexted, if_ended, while_ended, do_word, do_named, do_opened, with_tree, with_act, word, due, inverse_due, declared, give, dialect_of, procedure, step, step_frame, step_do, step_block, step_whole, step_have, give_and, step_and, give_inverse, step_compare, give_sum, step_sum, give_product, step_product, step_given, step_want, step_want_inverse, step_named, step_opened, step_size, step_eq, step_open, step_close, step_open_box, step_semi, step_if, step_while, step_proc, step_name, step_stmt, step_set, step_set_named, step_set_boxed, step_boxed, step_call, step_run, step_signed_by, step_stepped, step_procedures, step_declared, step_proc_opened, step_param_read, step_decls, step_decl_more}
+use Rattle.ts_syntax.specs.Derived.{Derived, ArgsDerived, ActDerived, ActsDerived, RunDerived, NamesFollow, DeclsDerived, ProceduresDerived}
+use Rattle.ts_syntax.specs.Parsing.{Holds}
+use Rattle.ts_syntax.proofs.Levels.{at_and, at_not, at_sum, at_product, at_sign, IsPart}
+use Rattle.ts_syntax.specs.Machine.{Frame, top, main, proc_part, then_part, else_part, for_part, while_part, Operand, in_negative, first_product, in_product, Product, first_sum, in_sum, Sum, first_compare, in_compare, Inverse, in_inverse, first_and, in_and, Conjunction, first_or, in_or, Whole, in_paren, in_item, in_message, in_args, in_set, in_index, in_set_item, in_append, in_call, in_if, in_from, in_to, in_while, in_do, State, decls, decl_name, decl_more, procedures, proc_word, proc_named, proc_opened, param_read, param_due, proc_ended, want, want_inverse, named, opened, sized, size_opened, size_named, message, have_product, have_sum, have_inverse, have_and, have, block, stmt_named, set_to, set_named, set_boxed, set_taken, boxed, append_to, item_indexed, call_opened, cleared, clear_opened, clear_named, closed, for_word, for_named, stepped, step_signed, nexted, if_ended, while_ended, do_word, do_named, do_opened, with_tree, with_act, word, due, inverse_due, declared, give, dialect_of, step, step_frame, step_do, step_block, step_whole, step_have, give_and, step_and, give_inverse, step_compare, give_sum, step_sum, give_product, step_product, step_given, step_want, step_want_inverse, step_named, step_opened, step_size, step_eq, step_open, step_close, step_open_box, step_semi, step_if, step_while, step_proc, step_name, step_stmt, step_set, step_set_named, step_set_boxed, step_boxed, step_call, step_run, step_signed_by, step_stepped, step_procedures, step_declared, step_proc_opened, step_param_read, step_decls, step_decl_more}
 use Rattle.ts_syntax.proofs.Past.{past_procedures, past_frame, params_open, past_block, args_open, past_operand, past_product, past_sum, past_inverse, past_and, past_whole, names_open, decls_open, past_name, without_last, drops, past, multiplies, adds, compares, fine_procedures, fine_frame, fine_block, fine_operand, fine_product, fine_sum, fine_inverse, fine_and, fine_whole, Last, fine_name, Lacks, Fine}
 
 -- the state is one that the machine comes to, by these tokens
@@ -64,59 +66,29 @@ module _ (lang : Dialect) where
   -- ---- operators
 
   multiplied : (o : BinOp) (l e : Tree) → Holds (multiplies o) → IsPart at_product l → Derived l → IsPart at_sign e → Derived e → IsPart at_product (two o l e) × Derived (two o l e)
-  multiplied op.Mul l e h a b c d = (tt, (a, b, c, d))
-  multiplied op.Div l e h a b c d = (tt, (a, b, c, d))
-  multiplied op.Rem l e h a b c d = (tt, (a, b, c, d))
+  multiplied op.Mul l e h a b c d = (omega arith, (a, b, c, d))
+  multiplied op.Div l e h a b c d = (omega arith, (a, b, c, d))
+  multiplied op.Rem l e h a b c d = (omega arith, (a, b, c, d))
   multiplied o l e h a b c d = absurd h
 
   added : (o : BinOp) (l e : Tree) → Holds (adds o) → IsPart at_sum l → Derived l → IsPart at_product e → Derived e → IsPart at_sum (two o l e) × Derived (two o l e)
-  added op.Add l e h a b c d = (tt, (a, b, c, d))
-  added op.Sub l e h a b c d = (tt, (a, b, c, d))
+  added op.Add l e h a b c d = (omega arith, (a, b, c, d))
+  added op.Sub l e h a b c d = (omega arith, (a, b, c, d))
   added o l e h a b c d = absurd h
 
   compared : (o : BinOp) (l e : Tree) → Holds (compares o) → IsPart at_sum l → Derived l → IsPart at_sum e → Derived e → IsPart at_not (two o l e) × Derived (two o l e)
-  compared op.Eq l e h a b c d = (tt, (a, b, c, d))
-  compared op.Ne l e h a b c d = (tt, (a, b, c, d))
-  compared op.Lt l e h a b c d = (tt, (a, b, c, d))
-  compared op.Gt l e h a b c d = (tt, (a, b, c, d))
-  compared op.Le l e h a b c d = (tt, (a, b, c, d))
-  compared op.Ge l e h a b c d = (tt, (a, b, c, d))
+  compared op.Eq l e h a b c d = (omega arith, (a, b, c, d))
+  compared op.Ne l e h a b c d = (omega arith, (a, b, c, d))
+  compared op.Lt l e h a b c d = (omega arith, (a, b, c, d))
+  compared op.Gt l e h a b c d = (omega arith, (a, b, c, d))
+  compared op.Le l e h a b c d = (omega arith, (a, b, c, d))
+  compared op.Ge l e h a b c d = (omega arith, (a, b, c, d))
   compared o l e h a b c d = absurd h
-
-  and_fits_or : (m : Level) → Holds (nat_le 0 (rank m))
-  and_fits_or at_or = tt
-  and_fits_or at_and = tt
-  and_fits_or at_not = tt
-  and_fits_or at_compare = tt
-  and_fits_or at_sum = tt
-  and_fits_or at_product = tt
-  and_fits_or at_sign = tt
-  and_fits_or at_atom = tt
-
-  not_fits_and : (m : Level) → Holds (nat_le 2 (rank m)) → Holds (nat_le 1 (rank m))
-  not_fits_and at_and h = tt
-  not_fits_and _ h = h
-
-  compare_fits_not : (m : Level) → Holds (nat_le 3 (rank m)) → Holds (nat_le 2 (rank m))
-  compare_fits_not at_not h = tt
-  compare_fits_not _ h = h
-
-  sum_fits_compare : (m : Level) → Holds (nat_le 4 (rank m)) → Holds (nat_le 3 (rank m))
-  sum_fits_compare at_compare h = tt
-  sum_fits_compare _ h = h
-
-  product_fits_sum : (m : Level) → Holds (nat_le 5 (rank m)) → Holds (nat_le 4 (rank m))
-  product_fits_sum at_sum h = tt
-  product_fits_sum _ h = h
-
-  sign_fits_product : (m : Level) → Holds (nat_le 6 (rank m)) → Holds (nat_le 5 (rank m))
-  sign_fits_product at_product h = tt
-  sign_fits_product _ h = h
 
   -- an operand that was read
   given : (k : Operand) (e : Tree) (ms : List TokenKind) → fine_operand lang k → IsPart at_sign e → Derived e → past_operand k ++ spelled e ≡ ms → Kept lang ms (give k e)
-  given (in_negative k) e ms f h d p = given k (negative e) ms f tt (h, d) (sym (append_assoc (past_operand k) (kind.Minus ∷ []) (spelled e)) ∙ p)
-  given (first_product k) e ms f h d p = record { fine = (sign_fits_product (level e) h, d, f); past = p }
+  given (in_negative k) e ms f h d p = given k (negative e) ms f (omega arith) (h, d) (sym (append_assoc (past_operand k) (kind.Minus ∷ []) (spelled e)) ∙ p)
+  given (first_product k) e ms f h d p = record { fine = (omega arith, d, f); past = p }
   given (in_product o l k) e ms f h d p =
       let m = multiplied o l e f.0 f.1 f.2 h d in
       record { fine = (m.0, m.1, f.3); past = simp append_assoc at p }
@@ -194,11 +166,11 @@ module _ (lang : Dialect) where
   while_past p e = append-nil _ ∙ sym (append_assoc p (kind.While ∷ []) e)
 
   moves_whole : (e : Tree) (k : Whole) (m : TokenKind) (p : ℕ) → Derived e → fine_whole lang k → Keeps lang ((past_whole k ++ spelled e) ++ m ∷ []) (step_whole e k m p)
-  moves_whole e (in_paren k) kind.Close p d h = given k (paren e) _ h tt d (simp append_assoc)
-  moves_whole e (in_item w k) kind.CloseBox p d h = given k (item w e) _ h tt d (simp append_assoc)
-  moves_whole e (in_message k) kind.CloseBox p d h = given k (message_item e) _ h tt d (simp append_assoc)
+  moves_whole e (in_paren k) kind.Close p d h = given k (paren e) _ h (omega arith) d (simp append_assoc)
+  moves_whole e (in_item w k) kind.CloseBox p d h = given k (item w e) _ h (omega arith) d (simp append_assoc)
+  moves_whole e (in_message k) kind.CloseBox p d h = given k (message_item e) _ h (omega arith) d (simp append_assoc)
   moves_whole e (in_args w es k) kind.Comma p d h = record { fine = (args_derived_snoc es e h.0 d, h.1); past = simp (open_snoc, append_assoc) }
-  moves_whole e (in_args w es k) kind.Close p d h = given k (call w (with_tree es e)) _ h.1 tt (args_derived_snoc es e h.0 d) (simp (args_snoc, append_assoc))
+  moves_whole e (in_args w es k) kind.Close p d h = given k (call w (with_tree es e)) _ h.1 (omega arith) (args_derived_snoc es e h.0 d) (simp (args_snoc, append_assoc))
   moves_whole e (in_set w a f) kind.Semi p d h = stated a f (set w e) _ h d (simp append_assoc)
   moves_whole e (in_index w a f) kind.CloseBox p d h = record { fine = (d, h); past = simp append_assoc }
   moves_whole e (in_set_item w i a f) kind.Semi p d h = stated a f (set_item w i e) _ h.1 (h.0, d) (simp append_assoc)
@@ -240,7 +212,7 @@ module _ (lang : Dialect) where
   moves_give_and : (e : Tree) (k : Conjunction) (m : TokenKind) (p : ℕ) → IsPart at_and e → Derived e → fine_and lang k → Keeps lang ((past_and k ++ spelled e) ++ m ∷ []) (give_and e k m p)
   moves_give_and e (first_or k) m p i d h = moves_have e k m p d h
   moves_give_and e (in_or l k) m p i d h =
-      again (step_have (two op.Or l e) k m p) (moves_have (two op.Or l e) k m p (and_fits_or (level l), h.0, i, d) h.1) (chained_to (past_whole k) (spelled l) (spelled e) kind.Or m)
+      again (step_have (two op.Or l e) k m p) (moves_have (two op.Or l e) k m p (omega arith, h.0, i, d) h.1) (chained_to (past_whole k) (spelled l) (spelled e) kind.Or m)
 
   moves_and : (e : Tree) (k : Conjunction) (m : TokenKind) (p : ℕ) → IsPart at_and e → Derived e → fine_and lang k → Keeps lang ((past_and k ++ spelled e) ++ m ∷ []) (step_and e k m p)
   moves_and e k kind.And p i d h = record { fine = (i, d, h); past = sym (append_assoc (past_and k) (spelled e) (kind.And ∷ [])) }
@@ -248,10 +220,10 @@ module _ (lang : Dialect) where
 
   moves_inverse : (e : Tree) (k : Inverse) (m : TokenKind) (p : ℕ) → IsPart at_not e → Derived e → fine_inverse lang k → Keeps lang ((past_inverse k ++ spelled e) ++ m ∷ []) (give_inverse e k m p)
   moves_inverse e (in_inverse k) m p i d h =
-      again (give_inverse (inverse e) k m p) (moves_inverse (inverse e) k m p tt (i, d) h) (ap (λ z. z ++ m ∷ []) (sym (append_assoc (past_inverse k) (kind.Not ∷ []) (spelled e))))
-  moves_inverse e (first_and k) m p i d h = moves_and e k m p (not_fits_and (level e) i) d h
+      again (give_inverse (inverse e) k m p) (moves_inverse (inverse e) k m p (omega arith) (i, d) h) (ap (λ z. z ++ m ∷ []) (sym (append_assoc (past_inverse k) (kind.Not ∷ []) (spelled e))))
+  moves_inverse e (first_and k) m p i d h = moves_and e k m p (omega arith) d h
   moves_inverse e (in_and l k) m p i d h =
-      again (step_and (two op.And l e) k m p) (moves_and (two op.And l e) k m p tt (h.0, h.1, i, d) h.2) (chained_to (past_and k) (spelled l) (spelled e) kind.And m)
+      again (step_and (two op.And l e) k m p) (moves_and (two op.And l e) k m p (omega arith) (h.0, h.1, i, d) h.2) (chained_to (past_and k) (spelled l) (spelled e) kind.And m)
 
   -- the first comparison of a sum
   compare_kept : (o : BinOp) (e : Tree) (k : Inverse) → Holds (compares o) → IsPart at_sum e → Derived e → fine_inverse lang k → Kept lang ((past_inverse k ++ spelled e) ++ sign o ∷ []) (want (first_product (first_sum (in_compare o e k))))
@@ -264,7 +236,7 @@ module _ (lang : Dialect) where
   moves_compare e k kind.Gt p i d h = compare_kept op.Gt e k tt i d h
   moves_compare e k kind.Le p i d h = compare_kept op.Le e k tt i d h
   moves_compare e k kind.Ge p i d h = compare_kept op.Ge e k tt i d h
-  moves_compare e k m p i d h = moves_inverse e k m p (compare_fits_not (level e) (sum_fits_compare (level e) i)) d h
+  moves_compare e k m p i d h = moves_inverse e k m p (omega arith) d h
 
   moves_give_sum : (e : Tree) (k : Sum) (m : TokenKind) (p : ℕ) → IsPart at_sum e → Derived e → fine_sum lang k → Keeps lang ((past_sum k ++ spelled e) ++ m ∷ []) (give_sum e k m p)
   moves_give_sum e (first_compare k) m p i d h = moves_compare e k m p i d h
@@ -278,7 +250,7 @@ module _ (lang : Dialect) where
   moves_sum e k m p i d h = moves_give_sum e k m p i d h
 
   moves_give_product : (e : Tree) (k : Product) (m : TokenKind) (p : ℕ) → IsPart at_product e → Derived e → fine_product lang k → Keeps lang ((past_product k ++ spelled e) ++ m ∷ []) (give_product e k m p)
-  moves_give_product e (first_sum k) m p i d h = moves_sum e k m p (product_fits_sum (level e) i) d h
+  moves_give_product e (first_sum k) m p i d h = moves_sum e k m p (omega arith) d h
   moves_give_product e (in_sum o l k) m p i d h =
       let c = added o l e h.0 h.1 h.2 i d in
       again (step_sum (two o l e) k m p) (moves_sum (two o l e) k m p c.0 c.1 h.3) (chained_to (past_sum k) (spelled l) (spelled e) (sign o) m)
@@ -291,15 +263,15 @@ module _ (lang : Dialect) where
 
   moves_given : (k : Operand) (e : Tree) (m : TokenKind) (p : ℕ) → IsPart at_sign e → Derived e → fine_operand lang k → Keeps lang ((past_operand k ++ spelled e) ++ m ∷ []) (step_given k e m p)
   moves_given (in_negative k) e m p i d h =
-      again (step_given k (negative e) m p) (moves_given k (negative e) m p tt (i, d) h) (ap (λ z. z ++ m ∷ []) (sym (append_assoc (past_operand k) (kind.Minus ∷ []) (spelled e))))
-  moves_given (first_product k) e m p i d h = moves_product e k m p (sign_fits_product (level e) i) d h
+      again (step_given k (negative e) m p) (moves_given k (negative e) m p (omega arith) (i, d) h) (ap (λ z. z ++ m ∷ []) (sym (append_assoc (past_operand k) (kind.Minus ∷ []) (spelled e))))
+  moves_given (first_product k) e m p i d h = moves_product e k m p (omega arith) d h
   moves_given (in_product o l k) e m p i d h =
       let c = multiplied o l e h.0 h.1 h.2 i d in
       again (step_product (two o l e) k m p) (moves_product (two o l e) k m p c.0 c.1 h.3) (chained_to (past_product k) (spelled l) (spelled e) (sign o) m)
 
   moves_want : (k : Operand) (m : TokenKind) (p : ℕ) → fine_operand lang k → Keeps lang (past_operand k ++ m ∷ []) (step_want k m p)
   moves_want k kind.Minus p h = record { fine = h; past = refl }
-  moves_want k (kind.Num n) p h = given k (number n) _ h tt tt refl
+  moves_want k (kind.Num n) p h = given k (number n) _ h (omega arith) tt refl
   moves_want k (kind.Name n) p h = record { fine = h; past = refl }
   moves_want k kind.Size p h = record { fine = h; past = refl }
   moves_want k kind.Msg p h = record { fine = h; past = refl }
@@ -313,19 +285,19 @@ module _ (lang : Dialect) where
   moves_named : (w : Word) (k : Operand) (m : TokenKind) (p : ℕ) → fine_operand lang k → Keeps lang ((past_operand k ++ name w ∷ []) ++ m ∷ []) (step_named w k m p)
   moves_named w k kind.Open p h = record { fine = h; past = sym (append_assoc (past_operand k) (name w ∷ []) (kind.Open ∷ [])) }
   moves_named w k kind.OpenBox p h = record { fine = h; past = sym (append_assoc (past_operand k) (name w ∷ []) (kind.OpenBox ∷ [])) }
-  moves_named w k m p h = moves_given k (variable w) m p tt tt h
+  moves_named w k m p h = moves_given k (variable w) m p (omega arith) tt h
 
   -- behind an opening, where something else than the closing sign follows
   reopened : (p xs : List TokenKind) (m : TokenKind) → (p ++ xs) ++ m ∷ [] ≡ p ++ (xs ++ m ∷ [])
   reopened p xs m = append_assoc p xs (m ∷ [])
 
   moves_opened : (w : Word) (k : Operand) (m : TokenKind) (p : ℕ) → fine_operand lang k → Keeps lang ((past_operand k ++ (name w ∷ kind.Open ∷ [])) ++ m ∷ []) (step_opened w k m p)
-  moves_opened w k kind.Close p h = given k (call w no_trees) _ h tt tt (sym (append_assoc (past_operand k) (name w ∷ kind.Open ∷ []) (kind.Close ∷ [])))
+  moves_opened w k kind.Close p h = given k (call w no_trees) _ h (omega arith) tt (sym (append_assoc (past_operand k) (name w ∷ kind.Open ∷ []) (kind.Close ∷ [])))
   moves_opened w k m p h = moves_want_inverse (due (in_args w no_trees k)) m p (tt, h)
 
   moves_size : (k : Operand) (m : TokenKind) (p : ℕ) → fine_operand lang k → Keeps lang ((past_operand k ++ (kind.Size ∷ kind.Open ∷ [])) ++ m ∷ []) (step_size k m p)
-  moves_size k (kind.Name n) p h = record { fine = (tt, tt, refl, h); past = sym (append_assoc (past_operand k) (kind.Size ∷ kind.Open ∷ []) (kind.Name n ∷ [])) }
-  moves_size k kind.Msg p h = record { fine = (tt, tt, refl, h); past = sym (append_assoc (past_operand k) (kind.Size ∷ kind.Open ∷ []) (kind.Msg ∷ [])) }
+  moves_size k (kind.Name n) p h = record { fine = (omega arith, tt, refl, h); past = sym (append_assoc (past_operand k) (kind.Size ∷ kind.Open ∷ []) (kind.Name n ∷ [])) }
+  moves_size k kind.Msg p h = record { fine = (omega arith, tt, refl, h); past = sym (append_assoc (past_operand k) (kind.Size ∷ kind.Open ∷ []) (kind.Msg ∷ [])) }
   moves_size k m p h = tt
 
   -- ---- one token of a kind

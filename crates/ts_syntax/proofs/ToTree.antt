@@ -1,5 +1,5 @@
 -- A whole part of the grammar is what a derived tree spells.
-use Rattle.std.proofs.Common.{◌≡◌, ◌⊎◌, inl, inr, ℕ, Bool, true, false, nat_le, List, [], ◌∷◌, ◌++◌, Option, Some, None, refl, sym, ◌∙◌, ap, subst, append_assoc, append-nil}
+use Rattle.std.proofs.Common.{◌≡◌, ◌⊎◌, inl, inr, ℕ, Bool, true, false, ◌≤◌, List, [], ◌∷◌, ◌++◌, Option, Some, None, refl, sym, ◌∙◌, ap, subst, append_assoc, append-nil, arith}
 use Rattle.ts_checked.specs.declared.bin_op.BinOp.{BinOp}
 use Rattle.ts_checked.specs.declared.bin_op.BinOp.TheVariants as op
 use Rattle.ts_syntax.specs.declared.word.Word.{Word}
@@ -13,12 +13,13 @@ use Rattle.ts_syntax.specs.declared.token.TokenKind.{TokenKind}
 use Rattle.ts_syntax.specs.declared.token.TokenKind.TheVariants as kind
 use Rattle.ts_syntax.specs.Tree.{Tree, number, variable, item, size, message_item, message_size, call, negative, inverse, two, paren, Trees, no_trees, tree_then, Act, set, set_item, append, take_last, clear, call_alone, if_then, if_else, for_next, while_do, run_procedure, Acts, no_acts, act_then, Procedure}
 use Rattle.ts_syntax.specs.Spelling.{sign, spelled, args_spelled, more_spelled, step_spelled, act_spelled, acts_spelled, name, decl_keyword, decls_gap, decls_spelled, params_spelled, other_params_spelled, procedure_spelled, procedures_spelled}
-use Rattle.ts_syntax.specs.Derived.{Level, at_or, at_and, at_not, at_compare, at_sum, at_product, at_sign, at_atom, rank, level, level_of, left_of, right_of, Holds, IsPart, Derived, ArgsDerived, ActDerived, ActsDerived, NamesFollow, DeclsDerived, ProceduresDerived}
+use Rattle.ts_syntax.specs.Derived.{Derived, ArgsDerived, ActDerived, ActsDerived, NamesFollow, DeclsDerived, ProceduresDerived}
+use Rattle.ts_syntax.proofs.Levels.{at_or, at_and, at_not, at_compare, at_sum, at_product, at_sign, at_atom, level_of, left_of, right_of, IsPart}
 use Rattle.ts_syntax.specs.Grammar.{Rule, script, decl, stmt, pscript, proc, pstmt, expr, andx, notx, cmp, sum, prod, neg, atom, Part, nothing, NAME, NUM, key, rule, ◌▸◌, ◌∣◌, many, maybe, arguments, step, parameters, forms, do_form, rules, Whole, w_nothing, w_name, w_number, w_key, w_rule, w_then, w_left, w_right, w_end, w_more}
 use Rattle.ts_syntax.specs.Script.{IsScript, IsProcedureScript}
 
 -- an expression that spells the tokens, at a level or at a tighter one
-record ExprOf (n : Level) (ms : List TokenKind) : Type 0 where
+record ExprOf (n : ℕ) (ms : List TokenKind) : Type 0 where
   tree : Tree
   part : IsPart n tree
   derived : Derived tree
@@ -142,47 +143,19 @@ abbrev word : List ℕ → Word
 word n = record { name = n; place = 0 }
 
 -- a tighter level's trees are a looser level's
-and_fits_or : (m : Level) → Holds (nat_le 1 (rank m)) → Holds (nat_le 0 (rank m))
-and_fits_or at_or h = tt
-and_fits_or _ h = h
-
-not_fits_and : (m : Level) → Holds (nat_le 2 (rank m)) → Holds (nat_le 1 (rank m))
-not_fits_and at_and h = tt
-not_fits_and _ h = h
-
-compare_fits_not : (m : Level) → Holds (nat_le 3 (rank m)) → Holds (nat_le 2 (rank m))
-compare_fits_not at_not h = tt
-compare_fits_not _ h = h
-
-sum_fits_compare : (m : Level) → Holds (nat_le 4 (rank m)) → Holds (nat_le 3 (rank m))
-sum_fits_compare at_compare h = tt
-sum_fits_compare _ h = h
-
-product_fits_sum : (m : Level) → Holds (nat_le 5 (rank m)) → Holds (nat_le 4 (rank m))
-product_fits_sum at_sum h = tt
-product_fits_sum _ h = h
-
-sign_fits_product : (m : Level) → Holds (nat_le 6 (rank m)) → Holds (nat_le 5 (rank m))
-sign_fits_product at_product h = tt
-sign_fits_product _ h = h
-
-atom_fits_sign : (m : Level) → Holds (nat_le 7 (rank m)) → Holds (nat_le 6 (rank m))
-atom_fits_sign at_sign h = tt
-atom_fits_sign _ h = h
-
-loosen : {n m : Level} {ms : List TokenKind} → ((k : Level) → Holds (nat_le (rank m) (rank k)) → Holds (nat_le (rank n) (rank k))) → ExprOf m ms → ExprOf n ms
-loosen f e = record { tree = e.tree; part = f (level e.tree) e.part; derived = e.derived; spells = e.spells }
+loosen : {n m : ℕ} {ms : List TokenKind} → n ≤ m → ExprOf m ms → ExprOf n ms
+loosen h e = record { tree = e.tree; part = omega arith; derived = e.derived; spells = e.spells }
 
 -- an operator and its right operand, behind an expression of a level
-record Link (n : Level) (ms : List TokenKind) : Type 0 where
+record Link (n : ℕ) (ms : List TokenKind) : Type 0 where
   operator : BinOp
   back : List TokenKind
   right : ExprOf (right_of operator) back
   are : ms ≡ sign operator ∷ back
-  fits : Holds (nat_le (rank n) (rank (level_of operator)))
+  fits : n ≤ level_of operator
 
 -- the expression with one more link
-grow : {n m : Level} {xs zs : List TokenKind} (e : ExprOf m xs) (l : Link n zs) → IsPart (left_of l.operator) e.tree → ExprOf n (xs ++ zs)
+grow : {n m : ℕ} {xs zs : List TokenKind} (e : ExprOf m xs) (l : Link n zs) → IsPart (left_of l.operator) e.tree → ExprOf n (xs ++ zs)
 grow e l h = record {
   tree = two l.operator e.tree l.right.tree;
   part = l.fits;
@@ -191,37 +164,37 @@ grow e l h = record {
 }
 
 -- a link of a chain: its left operand is of the chain's own level
-record ChainLink (n : Level) (ms : List TokenKind) : Type 0 where
+record ChainLink (n : ℕ) (ms : List TokenKind) : Type 0 where
   link : Link n ms
   same : n ≡ left_of link.operator
 
 -- a chain groups to the left
-chain : {P : List TokenKind → Type 0} {n : Level} {xs ys ms : List TokenKind} → ((zs : List TokenKind) → P zs → ChainLink n zs) → ExprOf n xs → Chain P ys → ms ≡ xs ++ ys → ExprOf n ms
+chain : {P : List TokenKind → Type 0} {n : ℕ} {xs ys ms : List TokenKind} → ((zs : List TokenKind) → P zs → ChainLink n zs) → ExprOf n xs → Chain P ys → ms ≡ xs ++ ys → ExprOf n ms
 chain {xs} f e c_end d = record { tree = e.tree; part = e.part; derived = e.derived; spells = e.spells ∙ sym (d ∙ append-nil xs) }
 chain {xs} f e (c_more {xs = zs} {ys = rest} h c g) d =
     let l : ChainLink _ zs = f zs h in
     chain f (grow e l.link (subst (λ k. IsPart k e.tree) l.same e.part)) c (d ∙ ap (λ z. xs ++ z) g ∙ sym (append_assoc xs zs rest))
 
 or_link : (zs : List TokenKind) → Keyed kind.Or (ExprOf at_and) zs → ChainLink at_or zs
-or_link zs h = record { link = record { operator = op.Or; back = h.back; right = h.second; are = h.are; fits = tt }; same = refl }
+or_link zs h = record { link = record { operator = op.Or; back = h.back; right = h.second; are = h.are; fits = omega arith }; same = refl }
 
 and_link : (zs : List TokenKind) → Keyed kind.And (ExprOf at_not) zs → ChainLink at_and zs
-and_link zs h = record { link = record { operator = op.And; back = h.back; right = h.second; are = h.are; fits = tt }; same = refl }
+and_link zs h = record { link = record { operator = op.And; back = h.back; right = h.second; are = h.are; fits = omega arith }; same = refl }
 
 sum_link : (zs : List TokenKind) → Joined (Sense (key kind.Plus ∣ key kind.Minus)) (ExprOf at_product) zs → ChainLink at_sum zs
 sum_link zs h = of h.first
   where
     of : Sense (key kind.Plus ∣ key kind.Minus) h.front → ChainLink at_sum zs
-    of (inl k) = record { link = record { operator = op.Add; back = h.back; right = h.second; are = one_before k h.are; fits = tt }; same = refl }
-    of (inr k) = record { link = record { operator = op.Sub; back = h.back; right = h.second; are = one_before k h.are; fits = tt }; same = refl }
+    of (inl k) = record { link = record { operator = op.Add; back = h.back; right = h.second; are = one_before k h.are; fits = omega arith }; same = refl }
+    of (inr k) = record { link = record { operator = op.Sub; back = h.back; right = h.second; are = one_before k h.are; fits = omega arith }; same = refl }
 
 product_link : (zs : List TokenKind) → Joined (Sense (key kind.Star ∣ key kind.Slash ∣ key kind.Percent)) (ExprOf at_sign) zs → ChainLink at_product zs
 product_link zs h = of h.first
   where
     of : Sense (key kind.Star ∣ key kind.Slash ∣ key kind.Percent) h.front → ChainLink at_product zs
-    of (inl k) = record { link = record { operator = op.Mul; back = h.back; right = h.second; are = one_before k h.are; fits = tt }; same = refl }
-    of (inr (inl k)) = record { link = record { operator = op.Div; back = h.back; right = h.second; are = one_before k h.are; fits = tt }; same = refl }
-    of (inr (inr k)) = record { link = record { operator = op.Rem; back = h.back; right = h.second; are = one_before k h.are; fits = tt }; same = refl }
+    of (inl k) = record { link = record { operator = op.Mul; back = h.back; right = h.second; are = one_before k h.are; fits = omega arith }; same = refl }
+    of (inr (inl k)) = record { link = record { operator = op.Div; back = h.back; right = h.second; are = one_before k h.are; fits = omega arith }; same = refl }
+    of (inr (inr k)) = record { link = record { operator = op.Rem; back = h.back; right = h.second; are = one_before k h.are; fits = omega arith }; same = refl }
 
 abbrev comparisons : Part
 comparisons = key kind.Eq ∣ key kind.Ne ∣ key kind.Lt ∣ key kind.Gt ∣ key kind.Le ∣ key kind.Ge
@@ -235,17 +208,17 @@ compare_link : (zs : List TokenKind) → Joined (Sense comparisons) (ExprOf at_s
 compare_link zs h = of h.first
   where
     of : Sense comparisons h.front → CompareLink zs
-    of (inl k) = record { link = record { operator = op.Eq; back = h.back; right = h.second; are = one_before k h.are; fits = tt }; left = refl }
-    of (inr (inl k)) = record { link = record { operator = op.Ne; back = h.back; right = h.second; are = one_before k h.are; fits = tt }; left = refl }
-    of (inr (inr (inl k))) = record { link = record { operator = op.Lt; back = h.back; right = h.second; are = one_before k h.are; fits = tt }; left = refl }
-    of (inr (inr (inr (inl k)))) = record { link = record { operator = op.Gt; back = h.back; right = h.second; are = one_before k h.are; fits = tt }; left = refl }
-    of (inr (inr (inr (inr (inl k))))) = record { link = record { operator = op.Le; back = h.back; right = h.second; are = one_before k h.are; fits = tt }; left = refl }
-    of (inr (inr (inr (inr (inr k))))) = record { link = record { operator = op.Ge; back = h.back; right = h.second; are = one_before k h.are; fits = tt }; left = refl }
+    of (inl k) = record { link = record { operator = op.Eq; back = h.back; right = h.second; are = one_before k h.are; fits = omega arith }; left = refl }
+    of (inr (inl k)) = record { link = record { operator = op.Ne; back = h.back; right = h.second; are = one_before k h.are; fits = omega arith }; left = refl }
+    of (inr (inr (inl k))) = record { link = record { operator = op.Lt; back = h.back; right = h.second; are = one_before k h.are; fits = omega arith }; left = refl }
+    of (inr (inr (inr (inl k)))) = record { link = record { operator = op.Gt; back = h.back; right = h.second; are = one_before k h.are; fits = omega arith }; left = refl }
+    of (inr (inr (inr (inr (inl k))))) = record { link = record { operator = op.Le; back = h.back; right = h.second; are = one_before k h.are; fits = omega arith }; left = refl }
+    of (inr (inr (inr (inr (inr k))))) = record { link = record { operator = op.Ge; back = h.back; right = h.second; are = one_before k h.are; fits = omega arith }; left = refl }
 
-at_end : {n : Level} {xs ys ms : List TokenKind} → ExprOf n xs → ys ≡ [] → ms ≡ xs ++ ys → ExprOf n ms
+at_end : {n : ℕ} {xs ys ms : List TokenKind} → ExprOf n xs → ys ≡ [] → ms ≡ xs ++ ys → ExprOf n ms
 at_end {xs} e h d = record { tree = e.tree; part = e.part; derived = e.derived; spells = e.spells ∙ sym (d ∙ ap (λ z. xs ++ z) h ∙ append-nil xs) }
 
-respelled : {n : Level} {xs ms : List TokenKind} → ExprOf n xs → ms ≡ xs → ExprOf n ms
+respelled : {n : ℕ} {xs ms : List TokenKind} → ExprOf n xs → ms ≡ xs → ExprOf n ms
 respelled e d = record { tree = e.tree; part = e.part; derived = e.derived; spells = e.spells ∙ sym d }
 
 compared : {xs ys ms : List TokenKind} → ExprOf at_sum xs → Joined (Sense comparisons) (ExprOf at_sum) ys → ms ≡ xs ++ ys → ExprOf at_compare ms
@@ -270,42 +243,42 @@ closed : {k : TokenKind} {xs front back ms : List TokenKind} → xs ≡ front �
 closed p q d = append_eq p (sym q) ∙ sym d
 
 atom_of : {ms : List TokenKind} → Sense (rules atom) ms → ExprOf at_atom ms
-atom_of (inl h) = record { tree = number h.0; part = tt; derived = tt; spells = sym h.1 }
-atom_of (inr (inl h)) = record { tree = variable (word h.0); part = tt; derived = tt; spells = sym h.1 }
+atom_of (inl h) = record { tree = number h.0; part = omega arith; derived = tt; spells = sym h.1 }
+atom_of (inr (inl h)) = record { tree = variable (word h.0); part = omega arith; derived = tt; spells = sym h.1 }
 atom_of (inr (inr (inl h))) =
     let j : Joined (Sense arguments) (Sense (key kind.Close)) h.second.back = h.second.second in
     let a : ArgsOf j.front = args_of j.first in
     let e : args_spelled a.trees ++ kind.Close ∷ [] ≡ h.second.back = closed a.spells j.second j.are in
-    record { tree = call (word h.id) a.trees; part = tt; derived = a.derived; spells = cc }
+    record { tree = call (word h.id) a.trees; part = omega arith; derived = a.derived; spells = cc }
 atom_of (inr (inr (inr (inl h)))) =
     let j : Joined (ExprOf at_or) (Sense (key kind.CloseBox)) h.second.back = h.second.second in
     let e : spelled j.first.tree ++ kind.CloseBox ∷ [] ≡ h.second.back = closed j.first.spells j.second j.are in
-    record { tree = item (word h.id) j.first.tree; part = tt; derived = j.first.derived; spells = cc }
-atom_of (inr (inr (inr (inr (inl h))))) = record { tree = size (word h.second.second.id); part = tt; derived = tt; spells = cc }
-atom_of (inr (inr (inr (inr (inr (inl h)))))) = record { tree = message_size; part = tt; derived = tt; spells = cc }
+    record { tree = item (word h.id) j.first.tree; part = omega arith; derived = j.first.derived; spells = cc }
+atom_of (inr (inr (inr (inr (inl h))))) = record { tree = size (word h.second.second.id); part = omega arith; derived = tt; spells = cc }
+atom_of (inr (inr (inr (inr (inr (inl h)))))) = record { tree = message_size; part = omega arith; derived = tt; spells = cc }
 atom_of (inr (inr (inr (inr (inr (inr (inl h))))))) =
     let j : Joined (ExprOf at_or) (Sense (key kind.CloseBox)) h.second.back = h.second.second in
     let e : spelled j.first.tree ++ kind.CloseBox ∷ [] ≡ h.second.back = closed j.first.spells j.second j.are in
-    record { tree = message_item j.first.tree; part = tt; derived = j.first.derived; spells = cc }
+    record { tree = message_item j.first.tree; part = omega arith; derived = j.first.derived; spells = cc }
 atom_of (inr (inr (inr (inr (inr (inr (inr h))))))) =
     let j : Joined (ExprOf at_or) (Sense (key kind.Close)) h.back = h.second in
     let e : spelled j.first.tree ++ kind.Close ∷ [] ≡ h.back = closed j.first.spells j.second j.are in
-    record { tree = paren j.first.tree; part = tt; derived = j.first.derived; spells = cc }
+    record { tree = paren j.first.tree; part = omega arith; derived = j.first.derived; spells = cc }
 
 neg_of : {ms : List TokenKind} → Sense (rules neg) ms → ExprOf at_sign ms
-neg_of (inl h) = record { tree = negative h.second.tree; part = tt; derived = (h.second.part, h.second.derived); spells = cc }
-neg_of (inr e) = loosen atom_fits_sign e
+neg_of (inl h) = record { tree = negative h.second.tree; part = omega arith; derived = (h.second.part, h.second.derived); spells = cc }
+neg_of (inr e) = loosen (omega arith) e
 
 notx_of : {ms : List TokenKind} → Sense (rules notx) ms → ExprOf at_not ms
-notx_of (inl h) = record { tree = inverse h.second.tree; part = tt; derived = (h.second.part, h.second.derived); spells = cc }
-notx_of (inr e) = loosen compare_fits_not e
+notx_of (inl h) = record { tree = inverse h.second.tree; part = omega arith; derived = (h.second.part, h.second.derived); spells = cc }
+notx_of (inr e) = loosen (omega arith) e
 
 cmp_of : {ms : List TokenKind} → Sense (rules cmp) ms → ExprOf at_compare ms
 cmp_of {ms} h = of h.second
   where
     of : Joined (Sense comparisons) (ExprOf at_sum) h.back ⊎ (h.back ≡ []) → ExprOf at_compare ms
     of (inl j) = compared h.first j h.are
-    of (inr e) = at_end (loosen sum_fits_compare h.first) e h.are
+    of (inr e) = at_end (loosen (omega arith) h.first) e h.are
 
 step_of : {ms : List TokenKind} → Sense step ms → StepOf ms
 step_of {ms} (inl h) = of h.second.first
@@ -325,7 +298,7 @@ step_of {ms} (inl h) = of h.second.first
 step_of (inr e) = record { step = None; spells = sym e }
 
 -- the statement that ends with an expression and a semicolon
-ended : {n : Level} {ms : List TokenKind} (j : Joined (ExprOf n) (Sense (key kind.Semi)) ms) → spelled j.first.tree ++ kind.Semi ∷ [] ≡ ms
+ended : {n : ℕ} {ms : List TokenKind} (j : Joined (ExprOf n) (Sense (key kind.Semi)) ms) → spelled j.first.tree ++ kind.Semi ∷ [] ≡ ms
 ended j = closed j.first.spells j.second j.are
 
 set_of : {d : Dialect} {ms : List TokenKind} → Sense (NAME ▸ key kind.Eq ▸ rule expr ▸ key kind.Semi) ms → ActOf d ms
@@ -598,12 +571,12 @@ rule_sense stmt ms h = stmt_of h
 rule_sense pscript ms h = pscript_of h
 rule_sense proc ms h = procedure_read h
 rule_sense pstmt ms h = pstmt_of h
-rule_sense expr ms h = chain or_link (loosen and_fits_or h.first) h.second h.are
-rule_sense andx ms h = chain and_link (loosen not_fits_and h.first) h.second h.are
+rule_sense expr ms h = chain or_link (loosen (omega arith) h.first) h.second h.are
+rule_sense andx ms h = chain and_link (loosen (omega arith) h.first) h.second h.are
 rule_sense notx ms h = notx_of h
 rule_sense cmp ms h = cmp_of h
-rule_sense sum ms h = chain sum_link (loosen product_fits_sum h.first) h.second h.are
-rule_sense prod ms h = chain product_link (loosen sign_fits_product h.first) h.second h.are
+rule_sense sum ms h = chain sum_link (loosen (omega arith) h.first) h.second h.are
+rule_sense prod ms h = chain product_link (loosen (omega arith) h.first) h.second h.are
 rule_sense neg ms h = neg_of h
 rule_sense atom ms h = atom_of h
 

@@ -5,7 +5,7 @@ use Rattle.ts_syntax.specs.declared.word.Word.{Word}
 use Rattle.ts_syntax.specs.declared.token.TokenKind.{TokenKind}
 use Rattle.ts_syntax.specs.declared.token.TokenKind.TheVariants as kind
 use Rattle.ts_syntax.specs.Tree.{Tree, variable, inverse, negative, two, no_trees, Acts}
-use Rattle.ts_syntax.specs.Derived.{Holds}
+use Rattle.ts_syntax.specs.Parsing.{Holds}
 use Rattle.ts_syntax.specs.Machine.{Frame, Operand, in_negative, first_product, in_product, Product, first_sum, in_sum, Sum, first_compare, in_compare, Inverse, in_inverse, first_and, in_and, Conjunction, first_or, in_or, in_args, in_index, in_call, in_do, State, want, want_inverse, named, opened, have_product, have_sum, have_inverse, have_and, have, boxed, call_opened, do_opened, expr_due, inverse_due, give, step_given, step, wants_size, takes, places_after, first_place, finish, Outcome, ending, going, run}
 use Rattle.std.proofs.Common.{None}
 

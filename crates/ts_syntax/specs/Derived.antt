@@ -1,6 +1,6 @@
 -- Which trees the grammar derives: each operand is at a level that its place allows, and a `do` is in the dialect with
 -- procedures alone.
-use Rattle.std.specs.Prelude.{◌≡◌, ◌⊎◌, ℕ, Bool, true, false, nat_le, List, [], ◌∷◌}
+use Rattle.std.specs.Prelude.{◌≡◌, ◌⊎◌, ℕ, ◌≤◌, true, List, [], ◌∷◌}
 use Rattle.ts_checked.specs.declared.bin_op.BinOp.{BinOp}
 use Rattle.ts_checked.specs.declared.bin_op.BinOp.TheVariants as op
 use Rattle.ts_syntax.specs.declared.dialect.Dialect.{Dialect}
@@ -9,66 +9,35 @@ use Rattle.ts_syntax.specs.declared.script.Decl.{Decl}
 use Rattle.ts_syntax.specs.declared.script.DeclKind.{DeclKind}
 use Rattle.ts_syntax.specs.Tree.{Tree, item, message_item, call, negative, inverse, two, paren, Trees, no_trees, tree_then, Act, set, set_item, append, call_alone, if_then, if_else, for_next, while_do, run_procedure, Acts, no_acts, act_then, Source, Procedure, ProcedureSource}
 
--- the levels of expressions, from the loosest
-pub data Level : Type 0 where
-  at_or at_and at_not at_compare at_sum at_product at_sign at_atom : Level
-
-abbrev pub rank : Level → ℕ
-rank at_or = 0
-rank at_and = 1
-rank at_not = 2
-rank at_compare = 3
-rank at_sum = 4
-rank at_product = 5
-rank at_sign = 6
-rank at_atom = 7
-
--- the level of an operator's tree, and the levels that its left and its right operand need: chains group to the left, and
--- comparisons, which are all the operators that no other row names, make no chain
-abbrev pub levels_of : BinOp → Level × Level × Level
-levels_of op.Or = (at_or, at_or, at_and)
-levels_of op.And = (at_and, at_and, at_not)
-levels_of op.Add = (at_sum, at_sum, at_product)
-levels_of op.Sub = (at_sum, at_sum, at_product)
-levels_of op.Mul = (at_product, at_product, at_sign)
-levels_of op.Div = (at_product, at_product, at_sign)
-levels_of op.Rem = (at_product, at_product, at_sign)
-levels_of _ = (at_compare, at_sum, at_sum)
-
-abbrev pub level_of : BinOp → Level
-level_of o = (levels_of o).0
-
-abbrev pub left_of : BinOp → Level
-left_of o = (levels_of o).1
-
-abbrev pub right_of : BinOp → Level
-right_of o = (levels_of o).2
+-- the level of an operator's tree, and the levels that its left and its right operand need, where 0 is the loosest level: `or`
+-- is at 0, `and` at 1, `not` at 2, comparisons are at 3, sums at 4, products at 5, a `-` before an operand at 6, and all else is
+-- at 7; chains group to the left, and comparisons, which are all the operators that no other row names, make no chain
+abbrev pub levels_of : BinOp → ℕ × ℕ × ℕ
+levels_of op.Or = (0, 0, 1)
+levels_of op.And = (1, 1, 2)
+levels_of op.Add = (4, 4, 5)
+levels_of op.Sub = (4, 4, 5)
+levels_of op.Mul = (5, 5, 6)
+levels_of op.Div = (5, 5, 6)
+levels_of op.Rem = (5, 5, 6)
+levels_of _ = (3, 4, 4)
 
 -- the level of a tree
-abbrev pub level : Tree → Level
-level (negative e) = at_sign
-level (inverse e) = at_not
-level (two o l r) = level_of o
-level _ = at_atom
+abbrev pub level : Tree → ℕ
+level (negative e) = 6
+level (inverse e) = 2
+level (two o l r) = (levels_of o).0
+level _ = 7
 
--- a test that holds
-abbrev pub Holds : Bool → Type 0
-Holds true = Unit {0}
-Holds false = ⊥
-
--- the tree is at this level or at a tighter one
-abbrev pub IsPart : Level → Tree → Type 0
-IsPart n e = Holds (nat_le (rank n) (rank (level e)))
-
--- each operand in an expression is at the level that its place needs
+-- each operand in an expression is at the level that its place needs, or at a tighter one
 abbrev mutual
   pub Derived : Tree → Type 0
   Derived (item w e) = Derived e
   Derived (message_item e) = Derived e
   Derived (call w es) = ArgsDerived es
-  Derived (negative e) = IsPart at_sign e × Derived e
-  Derived (inverse e) = IsPart at_not e × Derived e
-  Derived (two o l r) = IsPart (left_of o) l × Derived l × IsPart (right_of o) r × Derived r
+  Derived (negative e) = (6 ≤ level e) × Derived e
+  Derived (inverse e) = (2 ≤ level e) × Derived e
+  Derived (two o l r) = ((levels_of o).1 ≤ level l) × Derived l × ((levels_of o).2 ≤ level r) × Derived r
   Derived (paren e) = Derived e
   Derived _ = Unit {0}
 

@@ -3,11 +3,10 @@ use Rattle.std.specs.Prelude.{◌≡◌, ℕ, List, [], ◌∷◌, ◌++◌, len
 use Rattle.ts_syntax.specs.declared.token.Token.{Token}
 use Rattle.ts_syntax.specs.declared.token.TokenKind.{TokenKind}
 use Rattle.ts_syntax.specs.declared.dialect.Dialect.{Dialect}
-use Rattle.ts_syntax.specs.declared.dialect.Dialect.TheVariants as dialect
 use Rattle.ts_syntax.specs.Tree.{Source, ProcedureSource}
 use Rattle.ts_syntax.specs.Spelling.{source_spelled, source_places, procedure_source_spelled, procedure_source_places, kinds, noted}
 use Rattle.ts_syntax.specs.Derived.{IsDerived, IsDerivedIn}
-use Rattle.ts_syntax.specs.Script.{IsScriptIn, BeginsScriptIn}
+use Rattle.ts_syntax.specs.Script.{IsScriptIn, BeginsScript}
 use Rattle.ts_syntax.specs.Depth.{first_deep}
 
 -- the tokens spell the script: the grammar derives it, they are its tokens at its places, and none lies too deep
@@ -24,11 +23,11 @@ pub record SpellsIn (d : Dialect) (tokens : List Token) (source : ProcedureSourc
   pub places : procedure_source_places source ≡ noted tokens
   pub within : first_deep (kinds tokens) ≡ None
 
--- front begins a script of the dialect, and with what follows it doesn't: it is no whole script itself, or the next
--- token doesn't fit
-abbrev pub StopsIn : Dialect → List TokenKind → List TokenKind → Type 0
-StopsIn d front [] = IsScriptIn d front → ⊥
-StopsIn d front (k ∷ ks) = BeginsScriptIn d (front ++ k ∷ []) → ⊥
+-- front begins a script, and with what follows it doesn't: it is no whole script itself, or the next token doesn't fit;
+-- here and below Is says which tokens are scripts
+abbrev pub Stops : (List TokenKind → Type 0) → List TokenKind → List TokenKind → Type 0
+Stops Is front [] = Is front → ⊥
+Stops Is front (k ∷ ks) = BeginsScript Is (front ++ k ∷ []) → ⊥
 
 -- the place of the token that doesn't fit; the text's length if the text ends too early
 abbrev pub place_of : ℕ → List Token → ℕ
@@ -36,31 +35,31 @@ place_of len [] = len
 place_of len (t ∷ ts) = t.from
 
 -- the place of the first token that doesn't fit
-pub record IsUnexpectedIn (d : Dialect) (tokens : List Token) (len place : ℕ) : Type 0 where
+pub record IsUnexpected (Is : List TokenKind → Type 0) (tokens : List Token) (len place : ℕ) : Type 0 where
   pub front : List Token
   pub rest : List Token
   pub are : tokens ≡ front ++ rest
-  pub begins : BeginsScriptIn d (kinds front)
-  pub stops : StopsIn d (kinds front) (kinds rest)
+  pub begins : BeginsScript Is (kinds front)
+  pub stops : Stops Is (kinds front) (kinds rest)
   pub within : first_deep (kinds front) ≡ None
   pub stands : place ≡ place_of len rest
 
 -- the place of the first token that lies too deep, if all up to it fit
-pub record IsTooDeepIn (d : Dialect) (tokens : List Token) (place : ℕ) : Type 0 where
+pub record IsTooDeep (Is : List TokenKind → Type 0) (tokens : List Token) (place : ℕ) : Type 0 where
   pub front : List Token
   pub token : Token
   pub rest : List Token
   pub are : tokens ≡ front ++ token ∷ rest
   pub deep : first_deep (kinds tokens) ≡ Some (length front)
-  pub begins : BeginsScriptIn d (kinds front ++ token.kind ∷ [])
+  pub begins : BeginsScript Is (kinds front ++ token.kind ∷ [])
   pub stands : place ≡ token.from
 
--- the same in plain TinyScript
-abbrev pub Stops : List TokenKind → List TokenKind → Type 0
-Stops front rest = StopsIn dialect.Plain front rest
+-- the same for scripts of a dialect
+abbrev pub StopsIn : Dialect → List TokenKind → List TokenKind → Type 0
+StopsIn d front rest = Stops (IsScriptIn d) front rest
 
-abbrev pub IsUnexpected : List Token → ℕ → ℕ → Type 0
-IsUnexpected tokens len place = IsUnexpectedIn dialect.Plain tokens len place
+abbrev pub IsUnexpectedIn : Dialect → List Token → ℕ → ℕ → Type 0
+IsUnexpectedIn d tokens len place = IsUnexpected (IsScriptIn d) tokens len place
 
-abbrev pub IsTooDeep : List Token → ℕ → Type 0
-IsTooDeep tokens place = IsTooDeepIn dialect.Plain tokens place
+abbrev pub IsTooDeepIn : Dialect → List Token → ℕ → Type 0
+IsTooDeepIn d tokens place = IsTooDeep (IsScriptIn d) tokens place

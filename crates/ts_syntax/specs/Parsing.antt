@@ -1,5 +1,5 @@
 -- What a part of the parser does, said by the machine: at each place where the part may be.
-use Rattle.std.specs.Prelude.{◌≡◌, ℕ, Bool, List, [], ◌∷◌, ◌++◌, Option, Some, None, Result, Ok, Err}
+use Rattle.std.specs.Prelude.{◌≡◌, ℕ, Bool, true, false, List, [], ◌∷◌, ◌++◌, Option, Some, None, Result, Ok, Err}
 use Rattle.std.proofs.Common.{Bor}
 use Rattle.std.specs.Result.{IsErrAnd}
 use Rattle.ts_checked.specs.declared.bin_op.BinOp.{BinOp}
@@ -9,7 +9,6 @@ use Rattle.ts_syntax.specs.declared.token.Token.{Token}
 use Rattle.ts_syntax.specs.declared.token.TokenKind.{TokenKind}
 use Rattle.ts_syntax.specs.declared.token.TokenKind.TheVariants as kind
 use Rattle.ts_syntax.specs.Spelling.{kinds, note}
-use Rattle.ts_syntax.specs.Derived.{Holds}
 use Rattle.ts_syntax.specs.declared.halt.Halt.{Halt}
 use Rattle.ts_syntax.specs.declared.halt.Halt.TheVariants as halt
 use Rattle.ts_syntax.specs.Code.{kind_code}
@@ -36,6 +35,11 @@ abbrev pub Reads : {X K : Type 0} → List Token → (K → State) → (X → K 
 Reads {X} {K} tokens due got result =
     Gives result (λ x. (k : K) → reads tokens (due k) ≡ reads x.1.now (got x.0 k))
     (λ rest. (k : K) → reads tokens (due k) ≡ Err (kinds rest))
+
+-- a test that holds
+abbrev pub Holds : Bool → Type 0
+Holds true = Unit {0}
+Holds false = ⊥
 
 -- the first token is of a kind that the test allows, if there is one
 abbrev pub Head : (TokenKind → Bool) → List Token → Type 0

@@ -21,14 +21,14 @@ pub record IsProcedureScript (ms : List TokenKind) : Type 0 where
 
 -- a script of a dialect
 abbrev pub IsScriptIn : Dialect → List TokenKind → Type 0
-IsScriptIn dialect.Plain ms = IsScript ms
-IsScriptIn dialect.Procedures ms = IsProcedureScript ms
+IsScriptIn dialect.Plain = IsScript
+IsScriptIn dialect.Procedures = IsProcedureScript
 
--- tokens that some tokens after them make a script of a dialect
-pub record BeginsScriptIn (d : Dialect) (ms : List TokenKind) : Type 0 where
+-- tokens that some tokens after them make a script, where Is says which tokens are scripts
+pub record BeginsScript (Is : List TokenKind → Type 0) (ms : List TokenKind) : Type 0 where
   pub rest : List TokenKind
-  pub script : IsScriptIn d (ms ++ rest)
+  pub script : Is (ms ++ rest)
 
--- tokens that some tokens after them make a script
-abbrev pub BeginsScript : List TokenKind → Type 0
-BeginsScript ms = BeginsScriptIn dialect.Plain ms
+-- the same for scripts of a dialect
+abbrev pub BeginsScriptIn : Dialect → List TokenKind → Type 0
+BeginsScriptIn d ms = BeginsScript (IsScriptIn d) ms

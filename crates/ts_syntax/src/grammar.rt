@@ -2,16 +2,15 @@
 
 ghost use Rattle.std.specs.Prelude.{List, ◌↔◌};
 ghost use Rattle.ts_syntax.specs.declared.token.TokenKind.{TokenKind};
-ghost use Rattle.ts_syntax.specs.declared.dialect.Dialect.TheVariants.{Procedures};
 ghost use Rattle.ts_syntax.specs.Grammar.{rule, script, pscript, Whole, BeginsPart};
-ghost use Rattle.ts_syntax.specs.Script.{IsScript, BeginsScript, IsProcedureScript, BeginsScriptIn};
+ghost use Rattle.ts_syntax.specs.Script.{IsScript, BeginsScript, IsProcedureScript};
 
 /// The law of the grammar: the tokens that it derives a whole script from are those that some derived tree spells,
 /// and its cases say that tokens begin a script exactly if some tokens after them complete one. The same holds for
 /// scripts with procedures.
 pub fn grammar_law()
     ensures whole { (ms : List TokenKind) → Whole (rule script) ms ↔ IsScript ms }
-    ensures begins { (ms : List TokenKind) → BeginsPart (rule script) ms ↔ BeginsScript ms }
+    ensures begins { (ms : List TokenKind) → BeginsPart (rule script) ms ↔ BeginsScript IsScript ms }
     ensures procedures_whole { (ms : List TokenKind) → Whole (rule pscript) ms ↔ IsProcedureScript ms }
-    ensures procedures_begin { (ms : List TokenKind) → BeginsPart (rule pscript) ms ↔ BeginsScriptIn Procedures ms }
+    ensures procedures_begin { (ms : List TokenKind) → BeginsPart (rule pscript) ms ↔ BeginsScript IsProcedureScript ms }
 {}

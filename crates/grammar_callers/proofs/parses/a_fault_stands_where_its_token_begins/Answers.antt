@@ -1,5 +1,6 @@
 use Rattle.std.proofs.Common.{List, [], ◌∷◌, refl, sym, subst}
 use Rattle.ts_syntax.specs.Faults.{IsUnexpected}
+use Rattle.ts_syntax.specs.Script.{IsScript}
 use Rattle.ts_syntax.specs.declared.dialect.Dialect.TheVariants.{Plain}
 use Rattle.ts_syntax.specs.declared.token.Token.{Token}
 use Rattle.ts_syntax.specs.declared.token.TokenKind.TheVariants as kind
@@ -8,7 +9,7 @@ use Rattle.grammar_callers.proofs.parses.a_fault_stands_where_its_token_begins.G
 
 pub returns : goal.returns
 returns c =
-    let stops : IsUnexpected c.args.tokens.now 4 3 =
-    subst (λ (tokens : List Token). IsUnexpected tokens 4 3) (sym c.requires)
+    let stops : IsUnexpected IsScript c.args.tokens.now 4 3 =
+    subst (λ (tokens : List Token). IsUnexpected IsScript tokens 4 3) (sym c.requires)
     (lone_sign 3 4 4 (c.machine_law.ensures.refused Plain (kind.Semi ∷ []) (0 ∷ []) (kind.Semi ∷ []) refl)) in
     only_unexpected c.verdict_law.ensures.one c.args.tokens.now 4 3 c.parse.result stops c.parse.ensures

@@ -1,9 +1,9 @@
-use Rattle.std.proofs.Common.{◌≡◌, ◌⊎◌, ◌∙◌, ℕ, List, [], ◌∷◌, ◌++◌, Result, Ok, Err, refl, sym, subst, append-nil, inr}
+use Rattle.std.proofs.Common.{◌≡◌, ◌⊎◌, ◌∙◌, List, [], ◌∷◌, Result, Ok, Err, refl, sym, subst, append-nil, inr}
 use Rattle.std.specs.Prelude.{MatchResult, codes}
 use Rattle.ts_syntax.specs.Answers.{Refused}
 use Rattle.ts_syntax.specs.Cut.{token, cut_in, cut_from, word_kind}
 use Rattle.ts_syntax.specs.Faults.{IsUnexpected, StopsIn}
-use Rattle.ts_syntax.specs.Script.{BeginsScriptIn}
+use Rattle.ts_syntax.specs.Script.{IsScript, BeginsScriptIn}
 use Rattle.ts_syntax.specs.declared.dialect.Dialect.TheVariants.{Plain}
 use Rattle.ts_syntax.specs.declared.script.Script.{Script}
 use Rattle.ts_syntax.specs.declared.token.Token.{Token}
@@ -24,7 +24,7 @@ unfolding cut_from word_kind
 cut_now = refl
 
 -- the word alone begins a script, and is none
-early : Refused Plain (kind.Shared ∷ []) [] → IsUnexpected word 6 6
+early : Refused Plain (kind.Shared ∷ []) [] → IsUnexpected IsScript word 6 6
 early r =
     let all : r.front ≡ kind.Shared ∷ [] = sym (append-nil r.front) ∙ sym r.are in
     record {
@@ -47,10 +47,10 @@ not_cut (fault.Unexpected place) is = absurd is
 not_cut (fault.TooDeep place) is = absurd is
 not_cut fault.NoMemory is = refl
 
-only_early : OneVerdict → IsUnexpected word 6 6 → (result : Result Script SourceFault) → ReadsScript (codes "shared") result
+only_early : OneVerdict → IsUnexpected IsScript word 6 6 → (result : Result Script SourceFault) → ReadsScript (codes "shared") result
     → MatchResult result (λ _. ⊥) (λ why. (why ≡ fault.Unexpected 6) ⊎ (why ≡ fault.NoMemory))
 only_early one stops result (cuts tokens is answers) =
-    only_unexpected one tokens 6 6 result (subst (λ (ts : List Token). IsUnexpected ts 6 6) (sym (same_tokens tokens is)) stops) answers
+    only_unexpected one tokens 6 6 result (subst (λ (ts : List Token). IsUnexpected IsScript ts 6 6) (sym (same_tokens tokens is)) stops) answers
 only_early one stops result (fails why is told) =
     subst (λ (r : Result Script SourceFault). MatchResult r (λ _. ⊥) (λ why. (why ≡ fault.Unexpected 6) ⊎ (why ≡ fault.NoMemory))) (sym told) (inr (not_cut why is))
 
