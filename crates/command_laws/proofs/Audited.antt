@@ -19,8 +19,7 @@ use Rattle.command_laws.proofs.OneAudit.{named_agree, verdict_same}
 use Rattle.mate_cli.specs.Audit.{report_of_file, serial, audit_of, audit_by, audit}
 use Rattle.mate_cli.specs.Node.{node}
 use Rattle.mate_cli.specs.Worlds.{sim}
-use Rattle.mate_documents.specs.Outputs.{writes}
-use Rattle.mate_documents.specs.declared.output.Output.{Output}
+use Rattle.mate_documents.specs.Owed.{Owed, writes}
 use Rattle.mate_files.specs.Files.{Names}
 use Rattle.mate_journal.specs.Ranges.{HasReportRanges}
 use Rattle.mate_journal.specs.declared.program.Program.{Program}
@@ -162,7 +161,7 @@ module _ (d : Description) where
 ok-err : {A : Type 0} (o : A) (why : Refusal) → ◌≡◌ {A = Result A Refusal} (Ok o) (Err why) → ⊥
 ok-err o why same = cc
 
-abbrev Found : Result Output Refusal → Type 0
+abbrev Found : Result Owed Refusal → Type 0
 Found answer = writes (codes "serial\n") answer
 
 module _ (names : Names) (d : Description) (ps qs : List Program) (r : Report) (report bs : List ℕ) (same : SamePrograms qs ps) (serially : IsVerdict d ps r verdict.Serial) (tidy : IsTidy d r) (ranges : HasReportRanges r)
@@ -193,7 +192,7 @@ module _ (names : Names) (d : Description) (ps qs : List Program) (r : Report) (
   not-serial s why is (inl it) = absurd (refuted s it.0.0 it.0.1 is it.1)
   not-serial s why is (inr wants) = wants
 
-  judged-serial : (s : Report) (answer : Result Output Refusal) → IsVerdict d ps s verdict.Serial → Then (serial d qs s) (λ _. writes (codes "serial\n")) answer → Found answer
+  judged-serial : (s : Report) (answer : Result Owed Refusal) → IsVerdict d ps s verdict.Serial → Then (serial d qs s) (λ _. writes (codes "serial\n")) answer → Found answer
   judged-serial s answer is (goes_on all judged wrote) = wrote
   judged-serial s answer is (stops why judged e) = subst Found (sym e) (not-serial s why is judged)
 
@@ -208,19 +207,19 @@ module _ (names : Names) (d : Description) (ps qs : List Program) (r : Report) (
     one-err : ◌≡◌ {A = Result Report Refusal} (Err why) (Err cause) → why ≡ cause
     one-err same = cc
 
-  report-found : (answer : Result Output Refusal) → audit_of (steady names) d qs report answer → Found answer
+  report-found : (answer : Result Owed Refusal) → audit_of (steady names) d qs report answer → Found answer
   report-found answer (goes_on s step rest) = judged-serial s answer (read-serial s step) rest
   report-found answer (stops why step e) = subst Found (sym e) (not-read why step)
 
 -- ---- the command
 
 module _ (names : Names) (fold : Bool) (vm name report : List ℕ) (d : Description) (ps : List Program) (named : programs_named (steady names) d fold name (Ok ps)) (machine_is : machine (steady names) vm (Ok d))
-    (found : (qs : List Program) → SamePrograms qs ps → (answer : Result Output Refusal) → audit_of (steady names) d qs report answer → Found answer) where
-  programs-found : (answer : Result Output Refusal) → audit_by (steady names) fold d name report answer → Found answer
+    (found : (qs : List Program) → SamePrograms qs ps → (answer : Result Owed Refusal) → audit_of (steady names) d qs report answer → Found answer) where
+  programs-found : (answer : Result Owed Refusal) → audit_by (steady names) fold d name report answer → Found answer
   programs-found answer (goes_on qs step rest) = found qs (named_agree names d fold name (Ok qs) (Ok ps) step named) answer rest
   programs-found answer (stops why step e) = subst Found (sym e) (named_agree names d fold name (Err why) (Ok ps) step named)
 
-  audit-found : (answer : Result Output Refusal) → audit (steady names) fold vm name report answer → Found answer
+  audit-found : (answer : Result Owed Refusal) → audit (steady names) fold vm name report answer → Found answer
   audit-found answer (goes_on x step rest) =
       programs-found answer (subst (λ (y : Description). audit_by (steady names) fold y name report answer) (machine_agrees names vm (Ok x) (Ok d) step machine_is) rest)
   audit-found answer (stops why step e) = subst Found (sym e) (machine_agrees names vm (Err why) (Ok d) step machine_is)
@@ -239,10 +238,10 @@ named-world names d fold name w ps (goes_on bytes held is) given =
     goes_on bytes held (subst (λ (of_world : Bool). programs_by of_world (steady names) d fold bytes.items (Ok ps)) (sym (world-is d bytes.items w is)) (goes_on w is given))
 named-world names d fold name w ps (stops why step e) given = absurd (ok-err w why e)
 
-pub node-found : (names : Names) (fold : Bool) (vm name report : List ℕ) (o : Output) (full : Bool) (bs : List ℕ) (answer : Result Output Refusal) → node (steady names) fold false vm name (Ok o) → IsOutputText full o bs
+pub node-found : (names : Names) (fold : Bool) (vm name report : List ℕ) (o : Owed) (full : Bool) (bs : List ℕ) (answer : Result Owed Refusal) → node (steady names) fold false vm name (Ok o) → IsOutputText full o bs
     → names report ≡ Some bs → length bs ≤ 1048576 → audit (steady names) fold vm name report answer → writes (codes "serial\n") answer
 node-found names fold vm name report o full bs answer (goes_on d machine_is (goes_on s script_is (goes_on ps given out))) is holds small audits =
-    let t : IsRunText d (IsReportOf d s ps) (run_end full) bs = subst (λ (x : Output). IsOutputText full x bs) out is in
+    let t : IsRunText d (IsReportOf d s ps) (run_end full) bs = subst (λ (x : Owed). IsOutputText full x bs) out is in
     let r : Report = t.report in
     let of : IsReportOf d s ps (run_end full) r = t.ended in
     let serially : IsVerdict d ps r verdict.Serial = node-serial d ps (steps_of s ps) (run_end full) r (script-installs d s ps of.right) of.report in
@@ -253,10 +252,10 @@ node-found names fold vm name report o full bs answer (goes_on d machine_is (goe
 node-found names fold vm name report o full bs answer (goes_on d machine_is (stops why step e)) is holds small audits = absurd (ok-err o why e)
 node-found names fold vm name report o full bs answer (stops why step e) is holds small audits = absurd (ok-err o why e)
 
-pub world-found : (names : Names) (fold : Bool) (vm name report : List ℕ) (o : Output) (full : Bool) (bs : List ℕ) (answer : Result Output Refusal) → sim (steady names) fold false vm name (Ok o) → IsOutputText full o bs
+pub world-found : (names : Names) (fold : Bool) (vm name report : List ℕ) (o : Owed) (full : Bool) (bs : List ℕ) (answer : Result Owed Refusal) → sim (steady names) fold false vm name (Ok o) → IsOutputText full o bs
     → names report ≡ Some bs → length bs ≤ 1048576 → audit (steady names) fold vm name report answer → writes (codes "serial\n") answer
 world-found names fold vm name report o full bs answer (goes_on d machine_is (goes_on w world_is (goes_on ps given out))) is holds small audits =
-    let t : IsRunText d (IsReportOfWorld d w ps) (run_end full) bs = subst (λ (x : Output). IsOutputText full x bs) out is in
+    let t : IsRunText d (IsReportOfWorld d w ps) (run_end full) bs = subst (λ (x : Owed). IsOutputText full x bs) out is in
     let r : Report = t.report in
     let of : IsReportOfWorld d w ps (run_end full) r = t.ended in
     let serially : IsVerdict d ps r verdict.Serial = world-serial d w ps (run_end full) r of.right of.run in

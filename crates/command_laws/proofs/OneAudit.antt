@@ -17,8 +17,7 @@ use Rattle.command_laws.specs.SameText.{SameText}
 use Rattle.command_laws.proofs.OneCommand.{writes_agree}
 use Rattle.command_laws.proofs.OneWorld.{world_text_agrees}
 use Rattle.mate_cli.specs.Audit.{report_in, report_of_file, serial, audit_of, audit_by, audit}
-use Rattle.mate_documents.specs.Outputs.{writes}
-use Rattle.mate_documents.specs.declared.output.Output.{Output}
+use Rattle.mate_documents.specs.Owed.{Owed, writes}
 use Rattle.mate_files.specs.Files.{Names}
 use Rattle.mate_journal.specs.Described.{machine_of}
 use Rattle.mate_journal.specs.Journal.{JournalEntry, Posted, Dropped, Started, Asked, Answered, Ended, Installed, Reset, Seen, Void, TimedEntry, NodeState, first_state, journal_of}
@@ -187,7 +186,7 @@ module _ (d : Description) (ps qs : List Program) (r s : Report) (same : SamePro
 
 audit_of_agrees : (names : Names) (d : Description) (ps qs : List Program) (report : List ℕ) → SamePrograms ps qs → AnswersAgree SameText (audit_of (steady names) d ps report) (audit_of (steady names) d qs report)
 audit_of_agrees names d ps qs report same = then_agrees TellSameJournals SameText _ _ _ _ (report_agrees names d report) with_report where
-  judges : List Program → Report → Result Output Refusal → Type 0
+  judges : List Program → Report → Result Owed Refusal → Type 0
   judges ps r = serial d ps r ▸ λ _. writes (codes "serial\n")
 
   with_report : (r s : Report) → TellSameJournals r s → AnswersAgree SameText (judges ps r) (judges qs s)
@@ -198,7 +197,7 @@ pub audit_agrees : (names : Names) (fold : Bool) (vm script report : List ℕ) �
 audit_agrees names fold vm script report =
     then_agrees ◌≡◌ SameText _ _ _ _ (machine_agrees names vm)
     (λ a b e. subst (λ (d : Description). AnswersAgree SameText (after_machine a) (after_machine d)) e (with_machine a)) where
-      after_machine : Description → Result Output Refusal → Type 0
+      after_machine : Description → Result Owed Refusal → Type 0
       after_machine d = audit_by (steady names) fold d script report
 
       with_machine : (d : Description) → AnswersAgree SameText (after_machine d) (after_machine d)

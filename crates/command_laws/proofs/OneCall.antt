@@ -11,11 +11,10 @@ use Rattle.command_laws.proofs.OneText.{WorldsHaveOneReport}
 use Rattle.command_laws.proofs.OneWorld.{sim_agrees, gen_agrees}
 use Rattle.command_laws.proofs.Steady.{owes_steady}
 use Rattle.mate_cli.specs.Ends as ends
-use Rattle.mate_cli.specs.Ends.{command, Owes, Sinks, RefusesTo, IsTextWritten, IsRunWritten, IsOutputWritten, CallEnds}
-use Rattle.mate_documents.specs.Documents.{document_text}
-use Rattle.mate_documents.specs.declared.document.Document.{Document}
-use Rattle.mate_documents.specs.declared.output.Output.{Output}
-use Rattle.mate_documents.specs.declared.output.Output.TheVariants as output
+use Rattle.mate_cli.specs.Ends.{command, Owes, Sinks, RefusesTo, IsTextWritten, IsRunWritten, IsReportWritten, IsOwedWritten, CallEnds}
+use Rattle.mate_documents.specs.Owed.{Owed, a_text, a_run}
+use Rattle.mate_documents.specs.declared.output.Run.{Run}
+use Rattle.mate_documents.specs.declared.output.Run.TheVariants as run
 use Rattle.mate_files.specs.Counts.{Rose}
 use Rattle.mate_files.specs.Files.{Names}
 use Rattle.mate_refusals.specs.Refusals.{status_of}
@@ -26,7 +25,6 @@ use Rattle.mate_refusals.specs.declared.status.Status.TheVariants as status
 use Rattle.mate_steps.specs.OneAnswer.{AnswersAgree, steady}
 use Rattle.mate_steps.specs.Parts.{Folder}
 use Rattle.mate_steps.proofs.OneAnswer.{then_agrees}
-use Rattle.report_summary.specs.Summary.{summary_text}
 use Rattle.run_steps.specs.Running.{IsReportOf}
 use Rattle.report_summary.specs.Writing.{OfRun}
 use Rattle.vm_desc.specs.declared.description.Description.{Description}
@@ -56,30 +54,27 @@ told s t r code (inl x) wants = subst (λ (y : Refusal). code ≡ status_of y) w
 told s t r code (inr x) wants = x.0
 
 module _ (names : Names) (words : List (List ℕ)) (s t : Sinks) (code : Status) (quiet : Rose s.out_faults t.out_faults → ⊥) where
-  text_completes : (o : Output) (bs : List ℕ) (all : Bool) → Owes (steady names) words (Ok o) → ((how : Bool) → all ≡ not how → IsOutputText how o bs) → IsTextWritten bs all s t code → Completes names words s t code
+  text_completes : (o : Owed) (bs : List ℕ) (all : Bool) → Owes (steady names) words (Ok o) → ((how : Bool) → all ≡ not how → IsOutputText how o bs) → IsTextWritten bs all s t code → Completes names words s t code
   text_completes o bs all owes texts (ends.done is_all sent same is) = whole o owes bs (texts false is_all) sent same is
   text_completes o bs all owes texts (ends.full is_cut sent tells) = full o owes bs (texts true is_cut) sent tells
   text_completes o bs all owes texts (ends.failed part rose tells) = absurd (quiet rose)
   text_completes o bs all owes texts (ends.wanting part tells) = wanting (told s t NoMemory code tells refl)
 
-  -- a document tells of no run that a full log ended
-  document_text_of : (x : Document) (how : Bool) → true ≡ not how → IsOutputText how (output.Document x) (document_text x)
-  document_text_of x false is = (refl, refl)
-  document_text_of x true is = absurd (let e : true ≡ false = is in cc)
-
   -- of a run, whose texts these are
-  run_completes : (d : Description) (Is : OfRun) (o : Output) → Owes (steady names) words (Ok o) → ((how : Bool) (bs : List ℕ) → IsRunText d Is (run_end how) bs → IsOutputText how o bs)
+  run_completes : (d : Description) (Is : OfRun) (o : Owed) → Owes (steady names) words (Ok o) → ((how : Bool) (bs : List ℕ) → IsRunText d Is (run_end how) bs → IsOutputText how o bs)
       → IsRunWritten d Is s t code → Completes names words s t code
   run_completes d Is o owes texts (ends.whole r report sent same is) = whole o owes _ (texts false _ (record { report = r; ended = report; text_is = refl })) sent same is
   run_completes d Is o owes texts (ends.stopped r report sent tells) = full o owes _ (texts true _ (record { report = r; ended = report; text_is = refl })) sent tells
   run_completes d Is o owes texts (ends.unwritten r part rose tells) = absurd (quiet rose)
   run_completes d Is o owes texts (ends.cut r part tells) = wanting (told s t NoMemory code tells refl)
 
-  output_completes : (o : Output) → Owes (steady names) words (Ok o) → IsOutputWritten o s t code → Completes names words s t code
-  output_completes (output.Document x) owes written = text_completes (output.Document x) (document_text x) true owes (document_text_of x) written
-  output_completes (output.Summary d sum) owes written = text_completes (output.Summary d sum) (summary_text d sum) sum.whole owes (λ how is. (is, refl)) written
-  output_completes (output.Run d script ps) owes written = run_completes d (IsReportOf d script ps) (output.Run d script ps) owes (λ how bs is. is) written
-  output_completes (output.World d w ps) owes written = run_completes d (IsReportOfWorld d w ps) (output.World d w ps) owes (λ how bs is. is) written
+  report_completes : (r : Run) → Owes (steady names) words (Ok (a_run r)) → IsReportWritten r s t code → Completes names words s t code
+  report_completes (run.Script d script ps) owes written = run_completes d (IsReportOf d script ps) (a_run (run.Script d script ps)) owes (λ how bs is. is) written
+  report_completes (run.World d w ps) owes written = run_completes d (IsReportOfWorld d w ps) (a_run (run.World d w ps)) owes (λ how bs is. is) written
+
+  output_completes : (o : Owed) → Owes (steady names) words (Ok o) → IsOwedWritten o s t code → Completes names words s t code
+  output_completes (a_text all bs) owes written = text_completes (a_text all bs) bs all owes (λ how is. (is, refl)) written
+  output_completes (a_run r) owes written = report_completes r owes written
 
 pub completes : (f : Folder) (names : Names) (words : List (List ℕ)) (before now : ℕ) (s t : Sinks) (code : Status) → IsUnhindered f names words before now s t → CallEnds f words before now s t code → Completes names words s t code
 completes f names words before now s t code free (ends.written o owes written) =

@@ -1,5 +1,5 @@
 -- The commands have one answer, and words say one task.
-use Rattle.std.proofs.Common.{◌≡◌, inl, inr, ℕ, Bool, List, Option, Some, None, Result, Ok, Err, refl, sym, ◌∙◌, ap, subst, arith}
+use Rattle.std.proofs.Common.{◌≡◌, ℕ, Bool, true, List, Option, Some, None, Result, refl, sym, ◌∙◌, ap, subst, arith}
 use Rattle.std.specs.Prelude.{⊤, []}
 use Rattle.std.specs.Global.{Vec}
 use Rattle.arrayvec.specs.ArrayVec.{ArrayVec}
@@ -22,15 +22,14 @@ use Rattle.mate_documents.specs.Expand.{expand}
 use Rattle.mate_documents.specs.Feed.{feed, answers, whole_stream, IsOpenAt}
 use Rattle.mate_cli.specs.Ends.{task}
 use Rattle.mate_steps.specs.OneAnswer.{AnswersAgree, steady}
-use Rattle.mate_documents.specs.Outputs.{writes}
+use Rattle.command_laws.proofs.OneOutput.{exactly_agrees}
 use Rattle.command_laws.specs.SameText.{SameText}
-use Rattle.mate_documents.specs.declared.output.Output.TheVariants as output
 use Rattle.mate_documents.specs.Table.{opcode_table}
 use Rattle.opcode_gen.specs.TableText.{table_text}
 use Rattle.mate_steps.specs.Parts.{handler, handler_named, file}
 use Rattle.mate_steps.specs.Sources.{source}
 use Rattle.mate_steps.specs.Steps.{◌▸◌}
-use Rattle.mate_documents.specs.declared.output.Output.{Output}
+use Rattle.mate_documents.specs.Owed.{Owed, a_text, writes}
 use Rattle.mate_refusals.specs.declared.refusal.Refusal.{Refusal}
 use Rattle.mate_steps.proofs.OneAnswer.{SameBytes, then_agrees, judged_agrees, file_agrees, machine_agrees}
 use Rattle.mate_steps.proofs.OneCapsule.{SameCapsule, capsule_agrees}
@@ -44,16 +43,7 @@ use Rattle.ts_syntax.specs.declared.script.Script.{Script}
 -- ---- table
 
 pub writes_agree : (bytes : List ℕ) → AnswersAgree SameText (writes bytes) (writes bytes)
-writes_agree bytes (Ok (output.Document a)) (Ok (output.Document b)) p q = p ∙ sym q
-writes_agree bytes (Ok (output.Document a)) (Ok (output.Run d s ps)) p q = absurd q
-writes_agree bytes (Ok (output.Document a)) (Ok (output.World d w ps)) p q = absurd q
-writes_agree bytes (Ok (output.Document a)) (Ok (output.Summary d s)) p q = absurd q
-writes_agree bytes (Ok (output.Summary d s)) (Ok b) p q = absurd p
-writes_agree bytes (Ok (output.Run d s ps)) (Ok b) p q = absurd p
-writes_agree bytes (Ok (output.World d w ps)) (Ok b) p q = absurd p
-writes_agree bytes (Ok a) (Err r) p q = q
-writes_agree bytes (Err r) (Ok b) p q = p
-writes_agree bytes (Err r) (Err t) p q = inr (inl p)
+writes_agree bytes = exactly_agrees (a_text true bytes) (a_text true bytes) refl
 
 pub table_agrees : (names : Names) (vm : List ℕ) → AnswersAgree SameText (opcode_table (steady names) vm) (opcode_table (steady names) vm)
 table_agrees names vm =
@@ -78,13 +68,13 @@ pub compile_agrees : (names : Names) (fold : Bool) (vm h : List ℕ) (version : 
 compile_agrees names fold vm h version name =
     then_agrees ◌≡◌ SameText _ _ _ _ (machine_agrees names vm)
     (λ a b e. subst (λ (d : Description). AnswersAgree SameText (after_machine a) (after_machine d)) e (with_machine a)) where
-      after_code : Description → HandlerId → ArrayVec ℕ → Result Output Refusal → Type 0
+      after_code : Description → HandlerId → ArrayVec ℕ → Result Owed Refusal → Type 0
       after_code d k code = writes (capsule_hex d k version code)
 
-      after_handler : Description → HandlerId → Result Output Refusal → Type 0
+      after_handler : Description → HandlerId → Result Owed Refusal → Type 0
       after_handler d k = source (steady names) d fold name ▸ λ c. after_code d k c.code
 
-      after_machine : Description → Result Output Refusal → Type 0
+      after_machine : Description → Result Owed Refusal → Type 0
       after_machine d = handler d h ▸ after_handler d
 
       with_handler : (d : Description) (k : HandlerId) → AnswersAgree SameText (after_handler d k) (after_handler d k)
@@ -103,10 +93,10 @@ pub check_agrees : (names : Names) (vm name : List ℕ) → AnswersAgree SameTex
 check_agrees names vm name =
     then_agrees ◌≡◌ SameText _ _ _ _ (machine_agrees names vm)
     (λ a b e. subst (λ (d : Description). AnswersAgree SameText (after_machine a) (after_machine d)) e (with_machine a)) where
-      after_capsule : Description → Capsule × VerifiedCode → Result Output Refusal → Type 0
+      after_capsule : Description → Capsule × VerifiedCode → Result Owed Refusal → Type 0
       after_capsule d c = writes (capsule_text d (capsule_parts c.0) c.1.code)
 
-      after_machine : Description → Result Output Refusal → Type 0
+      after_machine : Description → Result Owed Refusal → Type 0
       after_machine d = capsule (steady names) d name ▸ after_capsule d
 
       with_capsule : (d : Description) (a b : Capsule × VerifiedCode) → SameCapsule a b → AnswersAgree SameText (after_capsule d a) (after_capsule d b)
@@ -148,7 +138,7 @@ pub feed_agrees : (names : Names) (vm name : List ℕ) → AnswersAgree SameText
 feed_agrees names vm name =
     then_agrees ◌≡◌ SameText _ _ _ _ (machine_agrees names vm)
     (λ a b e. subst (λ (d : Description). AnswersAgree SameText (after_machine a) (after_machine d)) e (with_machine a)) where
-      after_machine : Description → Result Output Refusal → Type 0
+      after_machine : Description → Result Owed Refusal → Type 0
       after_machine d = file (steady names) name ▸ λ bytes. answers d bytes.items
 
       with_bytes : (d : Description) (a b : Vec ℕ) → SameBytes a b → AnswersAgree SameText (answers d a.items) (answers d b.items)

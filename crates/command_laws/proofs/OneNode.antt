@@ -5,8 +5,8 @@ use Rattle.command_laws.proofs.OneOutput.{output_agrees}
 use Rattle.journal_once_laws.specs.Ending.{EndsByItself}
 use Rattle.journal_once_laws.proofs.OneText.{brief-once}
 use Rattle.mate_cli.specs.Node.{node, run_output}
-use Rattle.mate_documents.specs.declared.output.Output.{Output}
-use Rattle.mate_documents.specs.declared.output.Output.TheVariants as output
+use Rattle.mate_documents.specs.Owed.{Owed}
+use Rattle.mate_documents.specs.declared.output.Run.TheVariants as run
 use Rattle.mate_files.specs.Files.{Names}
 use Rattle.mate_journal.specs.Machine.{Meaning}
 use Rattle.mate_journal.specs.NodeScript.{Step, RunEnd}
@@ -44,16 +44,16 @@ module _ (d : Description) (s : NodeScript) (ps qs : List Program) (same : SameP
   run_same = record { machine = refl; steps = steps-same s ps qs same; meaning = meaning-same d ps qs same }
 
   outputs_agree : (short : Bool) → AnswersAgree SameText (run_output short d s ps) (run_output short d s qs)
-  outputs_agree short = output_agrees d (IsReportOf d s ps) (IsReportOf d s qs) (output.Run d s ps) (output.Run d s qs) brief_once run_same short
+  outputs_agree short = output_agrees d (IsReportOf d s ps) (IsReportOf d s qs) (run.Script d s ps) (run.Script d s qs) brief_once run_same short
 
 pub node_agrees : (names : Names) (fold short : Bool) (vm name : List ℕ) → AnswersAgree SameText (node (steady names) fold short vm name) (node (steady names) fold short vm name)
 node_agrees names fold short vm name =
     then_agrees ◌≡◌ SameText _ _ _ _ (machine_agrees names vm)
     (λ a b e. subst (λ (d : Description). AnswersAgree SameText (after_machine a) (after_machine d)) e (with_machine a)) where
-      after_script : Description → NodeScript → Result Output Refusal → Type 0
+      after_script : Description → NodeScript → Result Owed Refusal → Type 0
       after_script d s = script_programs (steady names) d fold s ▸ λ ps. run_output short d s ps
 
-      after_machine : Description → Result Output Refusal → Type 0
+      after_machine : Description → Result Owed Refusal → Type 0
       after_machine d = script (steady names) d name ▸ after_script d
 
       with_script : (d : Description) (s : NodeScript) → AnswersAgree SameText (after_script d s) (after_script d s)

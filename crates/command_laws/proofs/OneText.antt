@@ -1,11 +1,12 @@
 -- Outputs that are the same have one text.
 use Rattle.std.proofs.Common.{◌≡◌, ℕ, Bool, true, false, List, sym, ◌∙◌, ap, subst}
-use Rattle.command_laws.specs.SameText.{SameText, IsSameNodeRun, IsSameWorld}
-use Rattle.command_laws.specs.Texts.{run_end, IsRunText, IsOutputText}
+use Rattle.command_laws.specs.SameText.{SameText, IsSameNodeRun, IsSameRun, IsSameWorld}
+use Rattle.command_laws.specs.Texts.{run_end, IsRunText, IsReportText, IsOutputText}
 use Rattle.journal_once_laws.specs.Ending.{EndsByItself}
 use Rattle.journal_once_laws.proofs.OneText.{text-once}
-use Rattle.mate_documents.specs.declared.output.Output.{Output}
-use Rattle.mate_documents.specs.declared.output.Output.TheVariants as output
+use Rattle.mate_documents.specs.Owed.{Owed, a_text, a_run}
+use Rattle.mate_documents.specs.declared.output.Run.{Run}
+use Rattle.mate_documents.specs.declared.output.Run.TheVariants as run
 use Rattle.mate_journal.specs.Machine.{Meaning}
 use Rattle.mate_journal.specs.NodeReport.{IsNodeReport}
 use Rattle.mate_journal.specs.NodeScript.{Step, RunEnd}
@@ -56,20 +57,14 @@ world-once law d d' w w' ps ps' same full full' bs bs' is is' =
     ∙ (law d w ps is.ended.right.world (run_end full) (run_end full') is.report is'.report (itself full) (itself full') is.ended.run other).0.text
     ∙ ap (λ (x : Description). text x is'.report) same.machine ∙ sym is'.text_is
 
-pub one-text : WorldsHaveOneReport → (o o' : Output) → SameText o o' → (full full' : Bool) (bs bs' : List ℕ) → IsOutputText full o bs → IsOutputText full' o' bs' → bs ≡ bs'
-one-text law (output.Document x) (output.Document y) same full full' bs bs' is is' = is.1 ∙ same ∙ sym is'.1
-one-text law (output.Document x) (output.Summary d s) same full full' bs bs' is is' = absurd same
-one-text law (output.Summary d s) (output.Summary d' s') same full full' bs bs' is is' = is.1 ∙ same ∙ sym is'.1
-one-text law (output.Summary d s) (output.Document y) same full full' bs bs' is is' = absurd same
-one-text law (output.Summary d s) (output.Run d' s' ps) same full full' bs bs' is is' = absurd same
-one-text law (output.Summary d s) (output.World d' w ps) same full full' bs bs' is is' = absurd same
-one-text law (output.Run d s ps) (output.Summary d' s') same full full' bs bs' is is' = absurd same
-one-text law (output.World d w ps) (output.Summary d' s') same full full' bs bs' is is' = absurd same
-one-text law (output.Document x) (output.Run d s ps) same full full' bs bs' is is' = absurd same
-one-text law (output.Document x) (output.World d w ps) same full full' bs bs' is is' = absurd same
-one-text law (output.Run d s ps) (output.Document y) same full full' bs bs' is is' = absurd same
-one-text law (output.Run d s ps) (output.Run d' s' ps') same full full' bs bs' is is' = run-once d d' s s' ps ps' same full full' bs bs' is is'
-one-text law (output.Run d s ps) (output.World d' w ps') same full full' bs bs' is is' = absurd same
-one-text law (output.World d w ps) (output.Document y) same full full' bs bs' is is' = absurd same
-one-text law (output.World d w ps) (output.Run d' s ps') same full full' bs bs' is is' = absurd same
-one-text law (output.World d w ps) (output.World d' w' ps') same full full' bs bs' is is' = world-once law d d' w w' ps ps' same full full' bs bs' is is'
+report-text : WorldsHaveOneReport → (r r' : Run) → IsSameRun r r' → (full full' : Bool) (bs bs' : List ℕ) → IsReportText full r bs → IsReportText full' r' bs' → bs ≡ bs'
+report-text law (run.Script d s ps) (run.Script d' s' ps') same full full' bs bs' is is' = run-once d d' s s' ps ps' same full full' bs bs' is is'
+report-text law (run.Script d s ps) (run.World d' w ps') same full full' bs bs' is is' = absurd same
+report-text law (run.World d w ps) (run.Script d' s ps') same full full' bs bs' is is' = absurd same
+report-text law (run.World d w ps) (run.World d' w' ps') same full full' bs bs' is is' = world-once law d d' w w' ps ps' same full full' bs bs' is is'
+
+pub one-text : WorldsHaveOneReport → (o o' : Owed) → SameText o o' → (full full' : Bool) (bs bs' : List ℕ) → IsOutputText full o bs → IsOutputText full' o' bs' → bs ≡ bs'
+one-text law (a_text w x) (a_text w' x') same full full' bs bs' is is' = is.1 ∙ same ∙ sym is'.1
+one-text law (a_text w x) (a_run r) same full full' bs bs' is is' = absurd same
+one-text law (a_run r) (a_text w x) same full full' bs bs' is is' = absurd same
+one-text law (a_run r) (a_run r') same full full' bs bs' is is' = report-text law r r' same full full' bs bs' is is'

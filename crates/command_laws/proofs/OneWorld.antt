@@ -9,8 +9,8 @@ use Rattle.command_laws.proofs.OneText.{WorldsHaveOneReport}
 use Rattle.world_maker.specs.Source.{source_of}
 use Rattle.journal_once_laws.specs.Ending.{EndsByItself}
 use Rattle.mate_cli.specs.Worlds.{world_output, sim, run_of_number, made_run}
-use Rattle.mate_documents.specs.declared.output.Output.{Output}
-use Rattle.mate_documents.specs.declared.output.Output.TheVariants as output
+use Rattle.mate_documents.specs.Owed.{Owed}
+use Rattle.mate_documents.specs.declared.output.Run.TheVariants as run
 use Rattle.mate_files.specs.Files.{Names}
 use Rattle.mate_journal.specs.Machine.{Meaning, HeldProgram}
 use Rattle.mate_journal.specs.NodeScript.{RunEnd}
@@ -61,7 +61,7 @@ module _ (law : WorldsHaveOneReport) (d : Description) (w : World) (ps qs : List
   run_same = record { machine = refl; world = refl; meaning = world-same }
 
   outputs_agree : (short : Bool) → AnswersAgree SameText (world_output short d w ps) (world_output short d w qs)
-  outputs_agree short = output_agrees d (IsReportOfWorld d w ps) (IsReportOfWorld d w qs) (output.World d w ps) (output.World d w qs) brief_once run_same short
+  outputs_agree short = output_agrees d (IsReportOfWorld d w ps) (IsReportOfWorld d w qs) (run.World d w ps) (run.World d w qs) brief_once run_same short
 
 -- ---- sim
 
@@ -90,10 +90,10 @@ pub sim_agrees : WorldsHaveOneReport → (names : Names) (fold short : Bool) (vm
 sim_agrees law names fold short vm name =
     then_agrees ◌≡◌ SameText _ _ _ _ (machine_agrees names vm)
     (λ a b e. subst (λ (d : Description). AnswersAgree SameText (after_machine a) (after_machine d)) e (with_machine a)) where
-      after_world : Description → World → Result Output Refusal → Type 0
+      after_world : Description → World → Result Owed Refusal → Type 0
       after_world d w = world_programs (steady names) d fold w ▸ λ ps. world_output short d w ps
 
-      after_machine : Description → Result Output Refusal → Type 0
+      after_machine : Description → Result Owed Refusal → Type 0
       after_machine d = world (steady names) d name ▸ after_world d
 
       with_world : (d : Description) (w : World) → AnswersAgree SameText (after_world d w) (after_world d w)

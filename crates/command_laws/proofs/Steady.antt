@@ -11,7 +11,7 @@ use Rattle.mate_documents.specs.Check.{check}
 use Rattle.mate_documents.specs.Compile.{compile}
 use Rattle.mate_documents.specs.Expand.{expand}
 use Rattle.mate_documents.specs.Feed.{feed}
-use Rattle.mate_documents.specs.declared.output.Output.{Output}
+use Rattle.mate_documents.specs.Owed.{Owed}
 use Rattle.mate_files.specs.Counts.{Rose}
 use Rattle.mate_files.specs.Files.{Names, WhereTold}
 use Rattle.mate_refusals.specs.declared.refusal.Refusal.{Refusal}
@@ -160,7 +160,7 @@ module _ (f : Folder) (names : Names) (told : f.told ≡ Some names) where
   owes_stay words = then_stays _ _ _ _ (stays (task words)) command_stays
 
   -- what the files are owed in a call, where they are steady or no read failed in it
-  pub owes_steady : (words : List (List ℕ)) (before now : ℕ) (x : Result Output Refusal) → IsTrue f.steady ⊎ (Rose before now → ⊥) → (IsUnreadAnswer x → Rose before now) → Owes f words x → Owes (steady names) words x
+  pub owes_steady : (words : List (List ℕ)) (before now : ℕ) (x : Result Owed Refusal) → IsTrue f.steady ⊎ (Rose before now → ⊥) → (IsUnreadAnswer x → Rose before now) → Owes f words x → Owes (steady names) words x
   owes_steady words before now x (inl always) counted owes =
       subst (λ (s : Bool). Owes (record { told = Some names; steady = s }) words x) always (subst (λ (t : Option Names). Owes (record { told = t; steady = f.steady }) words x) told owes)
   owes_steady words before now x (inr quiet) counted owes = by (owes_stay words x owes) where

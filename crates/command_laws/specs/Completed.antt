@@ -2,7 +2,7 @@
 use Rattle.std.specs.Prelude.{◌≡◌, ◌⊎◌, ℕ, true, false, List, Some, Ok, Err, IsTrue}
 use Rattle.command_laws.specs.Texts.{IsOutputText}
 use Rattle.mate_cli.specs.Ends.{Owes, Sinks, RefusesTo}
-use Rattle.mate_documents.specs.declared.output.Output.{Output}
+use Rattle.mate_documents.specs.Owed.{Owed}
 use Rattle.mate_files.specs.Counts.{Rose}
 use Rattle.mate_files.specs.Files.{Names}
 use Rattle.mate_files.specs.Sink.{Sent}
@@ -24,10 +24,10 @@ pub record IsUnhindered (f : Folder) (names : Names) (words : List (List ℕ)) (
 -- How it ends.
 pub data Completes (names : Names) (words : List (List ℕ)) (s t : Sinks) (status : Status) : Type 0 where
   -- the whole text that is owed was written, and no refusal
-  whole : (o : Output) → Owes (steady names) words (Ok o) → (bs : List ℕ) → IsOutputText false o bs → Sent s.out t.out bs → t.err ≡ s.err
+  whole : (o : Owed) → Owes (steady names) words (Ok o) → (bs : List ℕ) → IsOutputText false o bs → Sent s.out t.out bs → t.err ≡ s.err
       → status ≡ AllDone → Completes names words s t status
   -- the whole text of a run that a full log ended
-  full : (o : Output) → Owes (steady names) words (Ok o) → (bs : List ℕ) → IsOutputText true o bs → Sent s.out t.out bs
+  full : (o : Owed) → Owes (steady names) words (Ok o) → (bs : List ℕ) → IsOutputText true o bs → Sent s.out t.out bs
       → RefusesTo s t LogFull status → Completes names words s t status
   -- memory ran out
   wanting : status ≡ OutOfMemory → Completes names words s t status

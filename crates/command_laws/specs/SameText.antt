@@ -1,12 +1,11 @@
--- When two outputs are the same text.
+-- When one text is owed, or one run.
 use Rattle.std.specs.Prelude.{◌≡◌, List}
-use Rattle.mate_documents.specs.Documents.{document_text}
-use Rattle.mate_documents.specs.declared.output.Output.{Output}
-use Rattle.mate_documents.specs.declared.output.Output.TheVariants as output
+use Rattle.mate_documents.specs.Owed.{Owed, a_text, a_run}
+use Rattle.mate_documents.specs.declared.output.Run.{Run}
+use Rattle.mate_documents.specs.declared.output.Run.TheVariants as run
 use Rattle.mate_journal.specs.declared.program.Program.{Program}
 use Rattle.node_programs.specs.ScriptSteps.{steps_of}
 use Rattle.node_programs.specs.Sources.{meaning_by}
-use Rattle.report_summary.specs.Summary.{summary_text}
 use Rattle.script_reader.specs.Steps.{NodeScript}
 use Rattle.vm_desc.specs.declared.description.Description.{Description}
 use Rattle.world_script.specs.declared.world.World.{World}
@@ -24,10 +23,14 @@ pub record IsSameWorld (d d' : Description) (w w' : World) (ps ps' : List Progra
   pub world : w ≡ w'
   pub meaning : source_world d w ps ≡ source_world d' w' ps'
 
--- documents or summaries with the same text, and the same runs
-abbrev pub SameText : Output → Output → Type 0
-SameText (output.Document x) (output.Document y) = document_text x ≡ document_text y
-SameText (output.Summary d s) (output.Summary d' s') = summary_text d s ≡ summary_text d' s'
-SameText (output.Run d script ps) (output.Run d' script' ps') = IsSameNodeRun d d' script script' ps ps'
-SameText (output.World d w ps) (output.World d' w' ps') = IsSameWorld d d' w w' ps ps'
+-- the same runs
+abbrev pub IsSameRun : Run → Run → Type 0
+IsSameRun (run.Script d script ps) (run.Script d' script' ps') = IsSameNodeRun d d' script script' ps ps'
+IsSameRun (run.World d w ps) (run.World d' w' ps') = IsSameWorld d d' w w' ps ps'
+IsSameRun _ _ = ⊥
+
+-- one text, or the same runs
+abbrev pub SameText : Owed → Owed → Type 0
+SameText (a_text whole bs) (a_text whole' bs') = bs ≡ bs'
+SameText (a_run r) (a_run r') = IsSameRun r r'
 SameText _ _ = ⊥

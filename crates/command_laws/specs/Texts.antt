@@ -1,11 +1,10 @@
 -- The texts that outputs are.
 use Rattle.std.specs.Prelude.{◌≡◌, ℕ, Bool, true, false, not, List}
-use Rattle.mate_documents.specs.Documents.{document_text}
-use Rattle.mate_documents.specs.declared.output.Output.{Output}
-use Rattle.mate_documents.specs.declared.output.Output.TheVariants as output
+use Rattle.mate_documents.specs.Owed.{Owed, a_text, a_run}
+use Rattle.mate_documents.specs.declared.output.Run.{Run}
+use Rattle.mate_documents.specs.declared.output.Run.TheVariants as run
 use Rattle.mate_journal.specs.NodeScript.{RunEnd, Whole, Full}
 use Rattle.mate_journal.specs.declared.report.Report.{Report}
-use Rattle.report_summary.specs.Summary.{summary_text}
 use Rattle.report_text.specs.Text.{text}
 use Rattle.run_steps.specs.Running.{IsReportOf}
 use Rattle.report_summary.specs.Writing.{OfRun}
@@ -23,9 +22,12 @@ pub record IsRunText (d : Description) (Is : OfRun) (how : RunEnd) (bs : List �
   pub ended : Is how report
   pub text_is : bs ≡ text d report
 
--- a text of an output, which says whether a full log ended the run
-abbrev pub IsOutputText : (full : Bool) → Output → List ℕ → Type 0
-IsOutputText full (output.Document x) bs = (full ≡ false) × (bs ≡ document_text x)
-IsOutputText full (output.Summary d s) bs = (s.whole ≡ not full) × (bs ≡ summary_text d s)
-IsOutputText full (output.Run d script ps) bs = IsRunText d (IsReportOf d script ps) (run_end full) bs
-IsOutputText full (output.World d w ps) bs = IsRunText d (IsReportOfWorld d w ps) (run_end full) bs
+-- the text of a report of this run, which says whether a full log ended it
+abbrev pub IsReportText : (full : Bool) → Run → List ℕ → Type 0
+IsReportText full (run.Script d script ps) bs = IsRunText d (IsReportOf d script ps) (run_end full) bs
+IsReportText full (run.World d w ps) bs = IsRunText d (IsReportOfWorld d w ps) (run_end full) bs
+
+-- a text of what is owed, likewise
+abbrev pub IsOutputText : (full : Bool) → Owed → List ℕ → Type 0
+IsOutputText full (a_text whole it) bs = (whole ≡ not full) × (bs ≡ it)
+IsOutputText full (a_run r) bs = IsReportText full r bs

@@ -6,8 +6,7 @@ ghost use Rattle.command_laws.specs.Texts.{IsOutputText};
 ghost use Rattle.mate_cli.specs.Audit.{audit};
 ghost use Rattle.mate_cli.specs.Node.{node};
 ghost use Rattle.mate_cli.specs.Worlds.{sim};
-ghost use Rattle.mate_documents.specs.Outputs.{writes};
-ghost use Rattle.mate_documents.specs.declared.output.Output.{Output};
+ghost use Rattle.mate_documents.specs.Owed.{Owed, writes};
 ghost use Rattle.mate_files.specs.Files.{Names};
 ghost use Rattle.mate_refusals.specs.declared.refusal.Refusal.{Refusal};
 ghost use Rattle.mate_steps.specs.OneAnswer.{steady};
@@ -17,12 +16,12 @@ ghost use Rattle.mate_steps.specs.OneAnswer.{steady};
 /// 1,048,576 bytes or less: then `audit` with the same machine, the same script and this file owes `serial` and a
 /// line feed, unless memory runs out.
 pub fn written_runs_are_found_serial()
-    ensures nodes { (names : Names) (fold : Bool) (vm script report : List ℕ) (o : Output) (full : Bool) (bs : List ℕ)
-        (answer : Result Output Refusal) →
+    ensures nodes { (names : Names) (fold : Bool) (vm script report : List ℕ) (o : Owed) (full : Bool) (bs : List ℕ)
+        (answer : Result Owed Refusal) →
         node (steady names) fold false vm script (Ok o) → IsOutputText full o bs → names report ≡ Some bs → length bs ≤ FILE_MAX
         → audit (steady names) fold vm script report answer → writes (codes "serial\n") answer }
-    ensures worlds { (names : Names) (fold : Bool) (vm script report : List ℕ) (o : Output) (full : Bool) (bs : List ℕ)
-        (answer : Result Output Refusal) →
+    ensures worlds { (names : Names) (fold : Bool) (vm script report : List ℕ) (o : Owed) (full : Bool) (bs : List ℕ)
+        (answer : Result Owed Refusal) →
         sim (steady names) fold false vm script (Ok o) → IsOutputText full o bs → names report ≡ Some bs → length bs ≤ FILE_MAX
         → audit (steady names) fold vm script report answer → writes (codes "serial\n") answer }
 {}

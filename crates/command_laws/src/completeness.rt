@@ -9,7 +9,7 @@ ghost use Rattle.mate_documents.specs.Expand.{expand};
 ghost use Rattle.mate_documents.specs.Feed.{feed};
 ghost use Rattle.mate_cli.specs.Audit.{audit};
 ghost use Rattle.mate_cli.specs.Ends.{CallEnds, Owes, Sinks, task};
-ghost use Rattle.mate_documents.specs.declared.output.Output.{Output};
+ghost use Rattle.mate_documents.specs.Owed.{Owed};
 ghost use Rattle.mate_refusals.specs.declared.status.Status.{Status};
 ghost use Rattle.mate_cli.specs.Node.{node};
 ghost use Rattle.mate_cli.specs.Worlds.{made_run, sim};
@@ -91,7 +91,7 @@ pub fn words_have_one_answer()
 
 /// Outputs that are the same have one text: so have all reports of one run that ended by itself.
 pub fn same_outputs_have_one_text()
-    ensures { (o o' : Output) → SameText o o' → (full full' : Bool) (bs bs' : List ℕ) → IsOutputText full o bs → IsOutputText full' o' bs'
+    ensures { (o o' : Owed) → SameText o o' → (full full' : Bool) (bs bs' : List ℕ) → IsOutputText full o bs → IsOutputText full' o' bs'
         → bs ≡ bs' }
 {
     script_has_one_report();

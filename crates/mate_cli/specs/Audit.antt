@@ -1,10 +1,9 @@
 -- The command `audit`: whether a report shows serial behaviour of what a script runs on a machine.
-use Rattle.std.specs.Prelude.{ℕ, Bool, List, codes, Result, Ok, Err, ⊤}
+use Rattle.std.specs.Prelude.{ℕ, Bool, List, codes, Result, Ok, ⊤}
 use Rattle.audit_rules.specs.Verdicts.{IsVerdict}
 use Rattle.mate_journal.specs.declared.law.Law.{Law}
 use Rattle.mate_journal.specs.declared.law.Verdict.TheVariants as verdict
-use Rattle.mate_documents.specs.Outputs.{writes}
-use Rattle.mate_documents.specs.declared.output.Output.{Output}
+use Rattle.mate_documents.specs.Owed.{Owed, writes}
 use Rattle.mate_journal.specs.declared.program.Program.{Program}
 use Rattle.mate_journal.specs.declared.report.Report.{Report}
 use Rattle.mate_refusals.specs.declared.refusal.Refusal.{Refusal}
@@ -30,12 +29,12 @@ serial d ps r = judged (λ _. IsVerdict d ps r verdict.Serial) (λ (it : ℕ × 
     (λ it. Refuted (Node it.0 it.1))
 
 -- what is said of the report in a file, for the programs
-abbrev pub audit_of : Folder → Description → List Program → (report : List ℕ) → Result Output Refusal → Type 0
+abbrev pub audit_of : Folder → Description → List Program → (report : List ℕ) → Result Owed Refusal → Type 0
 audit_of f d ps report = report_of_file f d report ▸ λ r. serial d ps r ▸ λ _. writes (codes "serial\n")
 
 -- for those that the script in a file names
-abbrev pub audit_by : Folder → (fold : Bool) → Description → (script report : List ℕ) → Result Output Refusal → Type 0
+abbrev pub audit_by : Folder → (fold : Bool) → Description → (script report : List ℕ) → Result Owed Refusal → Type 0
 audit_by f fold d script report = programs_named f d fold script ▸ λ ps. audit_of f d ps report
 
-abbrev pub audit : Folder → (fold : Bool) → (vm script report : List ℕ) → Result Output Refusal → Type 0
+abbrev pub audit : Folder → (fold : Bool) → (vm script report : List ℕ) → Result Owed Refusal → Type 0
 audit f fold vm script report = machine f vm ▸ λ d. audit_by f fold d script report

@@ -15,15 +15,14 @@ use Rattle.mate_documents.specs.Feed.{feed}
 use Rattle.mate_cli.specs.Audit.{audit}
 use Rattle.mate_cli.specs.Node.{node}
 use Rattle.mate_cli.specs.Worlds.{sim, made_run}
-use Rattle.mate_documents.specs.Documents.{document_text}
 use Rattle.mate_steps.specs.Parts.{Folder, IsUnreadAnswer}
 use Rattle.mate_steps.specs.Steps.{judged, ◌▸◌}
 use Rattle.mate_documents.specs.Table.{opcode_table}
-use Rattle.mate_documents.specs.declared.output.Output.{Output}
-use Rattle.mate_documents.specs.declared.output.Output.TheVariants as output
+use Rattle.mate_documents.specs.Owed.{Owed, a_text, a_run}
+use Rattle.mate_documents.specs.declared.output.Run.{Run}
+use Rattle.mate_documents.specs.declared.output.Run.TheVariants as run
 use Rattle.mate_journal.specs.NodeScript.{Whole, Full}
 use Rattle.mate_journal.specs.declared.report.Report.{Report}
-use Rattle.report_summary.specs.Summary.{summary_text}
 use Rattle.report_text.specs.Text.{text}
 use Rattle.run_steps.specs.Running.{IsReportOf}
 use Rattle.report_summary.specs.Writing.{OfRun, IsWrittenPart, IsWrittenShort, IsNothingRun}
@@ -32,7 +31,7 @@ use Rattle.report_summary.specs.declared.write_fault.WriteFault.TheVariants as f
 use Rattle.vm_desc.specs.declared.description.Description.{Description}
 use Rattle.world_run_laws.specs.Promise.{IsReportOfWorld}
 
-abbrev pub command : Folder → Task → Result Output Refusal → Type 0
+abbrev pub command : Folder → Task → Result Owed Refusal → Type 0
 command f (Node fold brief vm script) = node f fold brief vm script
 command f (Sim fold brief vm script) = sim f fold brief vm script
 command f (Gen fold brief number vm) = made_run f fold brief number vm
@@ -48,7 +47,7 @@ abbrev pub task : List (List ℕ) → Result Task Refusal → Type 0
 task words = judged (Says words) (λ (_ : ⊤). SaysNothing words) (λ _. Usage)
 
 -- what the words are owed: an output, or the first refusal
-abbrev pub Owes : Folder → List (List ℕ) → Result Output Refusal → Type 0
+abbrev pub Owes : Folder → List (List ℕ) → Result Owed Refusal → Type 0
 Owes f words = task words ▸ command f
 
 -- the sinks before the call or after it: what was written, and how many writes failed
@@ -90,18 +89,22 @@ pub data IsRunWritten (d : Description) (Is : OfRun) (s t : Sinks) (status : Sta
   cut : (r : Report) → IsNothingRun s.out t.out r ⊎ IsWrittenPart d Is s.out t.out r → RefusesTo s t NoMemory status
       → IsRunWritten d Is s t status
 
-abbrev pub IsOutputWritten : Output → Sinks → Sinks → Status → Type 0
-IsOutputWritten (output.Document x) s t status = IsTextWritten (document_text x) true s t status
-IsOutputWritten (output.Summary d sum) s t status = IsTextWritten (summary_text d sum) sum.whole s t status
-IsOutputWritten (output.Run d script ps) s t status = IsRunWritten d (IsReportOf d script ps) s t status
-IsOutputWritten (output.World d w ps) s t status = IsRunWritten d (IsReportOfWorld d w ps) s t status
+-- How the writing of the run's report ends.
+abbrev pub IsReportWritten : Run → Sinks → Sinks → Status → Type 0
+IsReportWritten (run.Script d script ps) s t status = IsRunWritten d (IsReportOf d script ps) s t status
+IsReportWritten (run.World d w ps) s t status = IsRunWritten d (IsReportOfWorld d w ps) s t status
+
+-- How the writing of what is owed ends.
+abbrev pub IsOwedWritten : Owed → Sinks → Sinks → Status → Type 0
+IsOwedWritten (a_text whole bs) s t status = IsTextWritten bs whole s t status
+IsOwedWritten (a_run r) s t status = IsReportWritten r s t status
 
 -- How a call ends, with the counts of the files' faults before it and after it.
 pub data CallEnds (f : Folder) (words : List (List ℕ)) (before now : ℕ) (s t : Sinks) (status : Status) : Type 0 where
   -- what is owed was written, as far as it could be
-  written : (o : Output) → Owes f words (Ok o) → IsOutputWritten o s t status → CallEnds f words before now s t status
+  written : (o : Owed) → Owes f words (Ok o) → IsOwedWritten o s t status → CallEnds f words before now s t status
   -- nothing was written; a file could not be read only if the count rose
-  refused : (r : Refusal) → Owes f words (Err r) → (IsUnreadAnswer {A = Output} (Err r) → Rose before now) → t.out ≡ s.out
+  refused : (r : Refusal) → Owes f words (Err r) → (IsUnreadAnswer {A = Owed} (Err r) → Rose before now) → t.out ≡ s.out
       → RefusesTo s t r status → CallEnds f words before now s t status
 
 -- ---- on the way

@@ -9,17 +9,17 @@ use Rattle.script_reader.specs.Steps.{NodeScript}
 use Rattle.vm_desc.specs.declared.description.Description.{Description}
 use Rattle.mate_steps.specs.Parts.{Folder, machine}
 use Rattle.mate_steps.specs.Steps.{◌▸◌}
-use Rattle.mate_documents.specs.declared.output.Output.{Output}
-use Rattle.mate_documents.specs.declared.output.Output.TheVariants as output
+use Rattle.mate_documents.specs.Owed.{Owed}
+use Rattle.mate_documents.specs.declared.output.Run.TheVariants as run
 use Rattle.mate_refusals.specs.declared.refusal.Refusal.{Refusal}
 
 -- what is written of the run
-abbrev pub run_output : Bool → Description → NodeScript → List Program → Result Output Refusal → Type 0
-run_output brief d s ps = output_of brief d (IsReportOf d s ps) (output.Run d s ps)
+abbrev pub run_output : Bool → Description → NodeScript → List Program → Result Owed Refusal → Type 0
+run_output brief d s ps = output_of brief d (IsReportOf d s ps) (run.Script d s ps)
 
 -- what is written of the run of a script's file on a machine
-abbrev pub run_of_script : Folder → (fold brief : Bool) → Description → (name : List ℕ) → Result Output Refusal → Type 0
+abbrev pub run_of_script : Folder → (fold brief : Bool) → Description → (name : List ℕ) → Result Owed Refusal → Type 0
 run_of_script f fold brief d name = script f d name ▸ λ s. script_programs f d fold s ▸ λ ps. run_output brief d s ps
 
-abbrev pub node : Folder → (fold brief : Bool) → (vm name : List ℕ) → Result Output Refusal → Type 0
+abbrev pub node : Folder → (fold brief : Bool) → (vm name : List ℕ) → Result Owed Refusal → Type 0
 node f fold brief vm name = machine f vm ▸ λ d. run_of_script f fold brief d name

@@ -2,7 +2,7 @@
 
 ghost use Rattle.std.specs.Prelude.{◌≤◌, length, IfOk};
 ghost use Rattle.mate_cli.specs.Audit.{audit, audit_by, audit_of, report_of_file, report_in, serial};
-ghost use Rattle.mate_documents.specs.Outputs.{CanBeWritten};
+ghost use Rattle.mate_documents.specs.Outputs.{CanBeWritten, owed_in};
 ghost use Rattle.mate_files.specs.declared.files.TheConstants.{FILE_MAX};
 ghost use Rattle.mate_steps.specs.Parts.{ReadsFiles};
 ghost use Rattle.node_programs.specs.Right.{AreRightPrograms};
@@ -24,7 +24,7 @@ use world_programs::programs_named;
 #[inline(never)]
 pub fn output<F: Files>(alloc: Global, files: &mut F, words: Audit<'_>) -> Result<Output, Refusal>
     ensures does { audit (record { told = F.contents files.old; steady = F.steady files.old }) words.entry.fold words.entry.machine.now
-        words.entry.script.now words.entry.report.now result }
+        words.entry.script.now words.entry.report.now (owed_in result) }
     ensures reads { ReadsFiles (F.contents files.old) (F.steady files.old) (F.faults files.old) (F.contents files.new)
         (F.steady files.new) (F.faults files.new) result }
     ensures writable { IfOk result CanBeWritten }
@@ -42,7 +42,7 @@ fn audit_by<F: Files>(
     words: Audit<'_>,
 ) -> Result<Output, Refusal>
     ensures does { audit_by (record { told = F.contents files.old; steady = F.steady files.old }) words.entry.fold desc.now
-        words.entry.script.now words.entry.report.now result }
+        words.entry.script.now words.entry.report.now (owed_in result) }
     ensures reads { ReadsFiles (F.contents files.old) (F.steady files.old) (F.faults files.old) (F.contents files.new)
         (F.steady files.new) (F.faults files.new) result }
     ensures writable { IfOk result CanBeWritten }
@@ -61,7 +61,7 @@ fn audit_of<F: Files>(
     name: &str,
 ) -> Result<Output, Refusal>
     requires { AreRightPrograms desc.now programs.now }
-    ensures does { audit_of (record { told = F.contents files.old; steady = F.steady files.old }) desc.now programs.now name.now result }
+    ensures does { audit_of (record { told = F.contents files.old; steady = F.steady files.old }) desc.now programs.now name.now (owed_in result) }
     ensures reads { ReadsFiles (F.contents files.old) (F.steady files.old) (F.faults files.old) (F.contents files.new)
         (F.steady files.new) (F.faults files.new) result }
     ensures writable { IfOk result CanBeWritten }

@@ -2,7 +2,7 @@
 
 ghost use Rattle.std.specs.Prelude.{◌≡◌, IfOk, IfErr};
 ghost use Rattle.mate_cli.specs.Worlds.{made_run, run_of_number};
-ghost use Rattle.mate_documents.specs.Outputs.{CanBeWritten};
+ghost use Rattle.mate_documents.specs.Outputs.{CanBeWritten, owed_in};
 ghost use Rattle.mate_refusals.specs.declared.refusal.Refusal.TheVariants.{NoMemory};
 ghost use Rattle.mate_steps.specs.Parts.{ReadsFiles};
 
@@ -18,7 +18,7 @@ use world_programs::made_world;
 #[inline(never)]
 pub fn output<F: Files>(alloc: Global, files: &mut F, words: MadeRun<'_>) -> Result<Output, Refusal>
     ensures does { made_run (record { told = F.contents files.old; steady = F.steady files.old }) words.entry.fold words.entry.brief
-        words.entry.number words.entry.machine.now result }
+        words.entry.number words.entry.machine.now (owed_in result) }
     ensures reads { ReadsFiles (F.contents files.old) (F.steady files.old) (F.faults files.old) (F.contents files.new)
         (F.steady files.new) (F.faults files.new) result }
     ensures writable { IfOk result CanBeWritten }
@@ -34,7 +34,7 @@ fn run_of_number(
     machine: BoxedMachine,
     words: MadeRun<'_>,
 ) -> Result<Output, Refusal>
-    ensures does { run_of_number words.entry.fold words.entry.brief machine words.entry.number result }
+    ensures does { run_of_number words.entry.fold words.entry.brief machine words.entry.number (owed_in result) }
     ensures memory { IfErr result (λ r. r ≡ NoMemory) }
     ensures writable { IfOk result CanBeWritten }
 {

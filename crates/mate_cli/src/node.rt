@@ -3,12 +3,12 @@
 ghost use Rattle.std.specs.Prelude.{◌≡◌, IfOk, IfErr, true};
 ghost use Rattle.mate_refusals.specs.declared.refusal.Refusal.TheVariants.{NoMemory};
 ghost use Rattle.mate_cli.specs.Node.{node, run_of_script, run_output};
-ghost use Rattle.mate_documents.specs.Outputs.{CanBeWritten};
+ghost use Rattle.mate_documents.specs.Outputs.{CanBeWritten, owed_in};
 ghost use Rattle.mate_steps.specs.Parts.{ReadsFiles};
 ghost use Rattle.node_programs.specs.ScriptSteps.{AreProgramsOf};
 
 use command_line::ScriptRun;
-use mate_documents::{BoxedMachine, Output};
+use mate_documents::{BoxedMachine, Output, Run};
 use mate_files::Files;
 use mate_journal::Programs;
 use mate_refusals::Refusal;
@@ -25,7 +25,7 @@ pub fn output<F: Files>(
     words: ScriptRun<'_>,
 ) -> Result<Output, Refusal>
     ensures does { node (record { told = F.contents files.old; steady = F.steady files.old }) words.entry.fold words.entry.brief
-        words.entry.machine.now words.entry.script.now result }
+        words.entry.machine.now words.entry.script.now (owed_in result) }
     ensures reads { ReadsFiles (F.contents files.old) (F.steady files.old) (F.faults files.old) (F.contents files.new)
         (F.steady files.new) (F.faults files.new) result }
     ensures writable { IfOk result CanBeWritten }
@@ -43,7 +43,7 @@ fn run_of_script<F: Files>(
     words: ScriptRun<'_>,
 ) -> Result<Output, Refusal>
     ensures does { run_of_script (record { told = F.contents files.old; steady = F.steady files.old }) words.entry.fold words.entry.brief
-        machine words.entry.script.now result }
+        machine words.entry.script.now (owed_in result) }
     ensures reads { ReadsFiles (F.contents files.old) (F.steady files.old) (F.faults files.old) (F.contents files.new)
         (F.steady files.new) (F.faults files.new) result }
     ensures writable { IfOk result CanBeWritten }
@@ -64,14 +64,14 @@ fn run_output(
     programs: Programs,
 ) -> Result<Output, Refusal>
     requires { AreProgramsOf machine script programs }
-    ensures does { run_output brief machine script programs result }
+    ensures does { run_output brief machine script programs (owed_in result) }
     ensures memory { IfErr result (λ r. r ≡ NoMemory) }
     ensures writable { IfOk result CanBeWritten }
 {
     if brief {
         summary(alloc, machine, &script, &programs)
     } else {
-        Ok(Output::Run(machine, script, programs))
+        Ok(Output::Run(Run::Script(machine, script, programs)))
     }
 }
 
@@ -84,7 +84,7 @@ fn summary(
     programs: &Programs,
 ) -> Result<Output, Refusal>
     requires { AreProgramsOf machine script.now programs.now }
-    ensures does { run_output true machine script.now programs.now result }
+    ensures does { run_output true machine script.now programs.now (owed_in result) }
     ensures memory { IfErr result (λ r. r ≡ NoMemory) }
     ensures writable { IfOk result CanBeWritten }
 {

@@ -2,7 +2,7 @@
 
 ghost use Rattle.std.specs.Prelude.{IfOk};
 ghost use Rattle.mate_cli.specs.Worlds.{sim, run_of_world};
-ghost use Rattle.mate_documents.specs.Outputs.{CanBeWritten};
+ghost use Rattle.mate_documents.specs.Outputs.{CanBeWritten, owed_in};
 ghost use Rattle.mate_steps.specs.Parts.{ReadsFiles};
 
 use crate::worlds::world_output;
@@ -21,7 +21,7 @@ pub fn output<F: Files>(
     words: ScriptRun<'_>,
 ) -> Result<Output, Refusal>
     ensures does { sim (record { told = F.contents files.old; steady = F.steady files.old }) words.entry.fold words.entry.brief
-        words.entry.machine.now words.entry.script.now result }
+        words.entry.machine.now words.entry.script.now (owed_in result) }
     ensures reads { ReadsFiles (F.contents files.old) (F.steady files.old) (F.faults files.old) (F.contents files.new)
         (F.steady files.new) (F.faults files.new) result }
     ensures writable { IfOk result CanBeWritten }
@@ -39,7 +39,7 @@ fn run_of_world<F: Files>(
     words: ScriptRun<'_>,
 ) -> Result<Output, Refusal>
     ensures does { run_of_world (record { told = F.contents files.old; steady = F.steady files.old }) words.entry.fold words.entry.brief
-        machine words.entry.script.now result }
+        machine words.entry.script.now (owed_in result) }
     ensures reads { ReadsFiles (F.contents files.old) (F.steady files.old) (F.faults files.old) (F.contents files.new)
         (F.steady files.new) (F.faults files.new) result }
     ensures writable { IfOk result CanBeWritten }

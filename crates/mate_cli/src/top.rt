@@ -3,7 +3,7 @@
 ghost use Rattle.std.specs.Prelude.{◌≡◌, map, string_bytes, IfOk};
 ghost use Rattle.command_line.specs.Commands.{task_held};
 ghost use Rattle.mate_cli.specs.Ends.{CallEnds, Owes, command};
-ghost use Rattle.mate_documents.specs.Outputs.{CanBeWritten};
+ghost use Rattle.mate_documents.specs.Outputs.{CanBeWritten, owed_in};
 ghost use Rattle.mate_steps.specs.Parts.{ReadsFiles};
 
 use crate::writing::write_output;
@@ -59,7 +59,7 @@ pub fn mate<F: Files, S: Sink, E: Sink>(
 /// What the command of the words is to write.
 #[inline(never)]
 fn output_of<F: Files>(alloc: Global, files: &mut F, words: &Vec<String>) -> Result<Output, Refusal>
-    ensures does { Owes (record { told = F.contents files.old; steady = F.steady files.old }) (map string_bytes words.now.items) result }
+    ensures does { Owes (record { told = F.contents files.old; steady = F.steady files.old }) (map string_bytes words.now.items) (owed_in result) }
     ensures reads { ReadsFiles (F.contents files.old) (F.steady files.old) (F.faults files.old) (F.contents files.new)
         (F.steady files.new) (F.faults files.new) result }
     ensures writable { IfOk result CanBeWritten }
@@ -78,7 +78,7 @@ fn output_of<F: Files>(alloc: Global, files: &mut F, words: &Vec<String>) -> Res
 /// What a command is to write.
 #[inline(never)]
 fn task_output<F: Files>(alloc: Global, files: &mut F, task: Command<'_>) -> Result<Output, Refusal>
-    ensures does { command (record { told = F.contents files.old; steady = F.steady files.old }) (task_held task.entry) result }
+    ensures does { command (record { told = F.contents files.old; steady = F.steady files.old }) (task_held task.entry) (owed_in result) }
     ensures reads { ReadsFiles (F.contents files.old) (F.steady files.old) (F.faults files.old) (F.contents files.new)
         (F.steady files.new) (F.faults files.new) result }
     ensures writable { IfOk result CanBeWritten }

@@ -2,11 +2,11 @@
 
 ghost use Rattle.std.specs.Prelude.{◌≡◌, IfOk, IfErr, true};
 ghost use Rattle.mate_cli.specs.Worlds.{world_output};
-ghost use Rattle.mate_documents.specs.Outputs.{CanBeWritten};
+ghost use Rattle.mate_documents.specs.Outputs.{CanBeWritten, owed_in};
 ghost use Rattle.mate_refusals.specs.declared.refusal.Refusal.TheVariants.{NoMemory};
 ghost use Rattle.node_programs.specs.WorldPrograms.{AreProgramsOfWorld};
 
-use mate_documents::{BoxedMachine, Output};
+use mate_documents::{BoxedMachine, Output, Run};
 use mate_journal::Programs;
 use mate_refusals::Refusal;
 use std::alloc::Global;
@@ -23,14 +23,14 @@ pub(crate) fn world_output(
     programs: Programs,
 ) -> Result<Output, Refusal>
     requires { AreProgramsOfWorld machine world programs }
-    ensures does { world_output brief machine world programs result }
+    ensures does { world_output brief machine world programs (owed_in result) }
     ensures memory { IfErr result (λ r. r ≡ NoMemory) }
     ensures writable { IfOk result CanBeWritten }
 {
     if brief {
         summary(alloc, machine, &world, &programs)
     } else {
-        Ok(Output::World(machine, world, programs))
+        Ok(Output::Run(Run::World(machine, world, programs)))
     }
 }
 
@@ -43,7 +43,7 @@ fn summary(
     programs: &Programs,
 ) -> Result<Output, Refusal>
     requires { AreProgramsOfWorld machine world.now programs.now }
-    ensures does { world_output true machine world.now programs.now result }
+    ensures does { world_output true machine world.now programs.now (owed_in result) }
     ensures memory { IfErr result (λ r. r ≡ NoMemory) }
     ensures writable { IfOk result CanBeWritten }
 {

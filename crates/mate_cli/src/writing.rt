@@ -4,13 +4,13 @@ ghost use Rattle.world_run_laws.specs.Promise.{IsReportOfWorld};
 ghost use Rattle.run_steps.specs.Running.{IsReportOf};
 ghost use Rattle.node_programs.specs.WorldPrograms.{AreProgramsOfWorld};
 ghost use Rattle.std.specs.Prelude.{true};
-ghost use Rattle.mate_cli.specs.Ends.{IsTextWritten, IsOutputWritten, IsRunWritten, TellsEnd};
-ghost use Rattle.mate_documents.specs.Outputs.{CanBeWritten};
+ghost use Rattle.mate_cli.specs.Ends.{IsTextWritten, IsOwedWritten, IsReportWritten, IsRunWritten, TellsEnd};
+ghost use Rattle.mate_documents.specs.Outputs.{CanBeWritten, HasPrograms, owed_of};
 ghost use Rattle.mate_documents.specs.Documents.{document_text, HasText};
 ghost use Rattle.node_programs.specs.ScriptSteps.{AreProgramsOf};
 ghost use Rattle.report_summary.specs.Summary.{summary_text, IsSmall};
 
-use mate_documents::{Document, Output};
+use mate_documents::{Document, Output, Run};
 use mate_files::Sink;
 use mate_journal::Programs;
 use mate_refusals::{Refusal, Status};
@@ -31,7 +31,7 @@ pub(crate) fn write_output<S: Sink, E: Sink>(
     err: &mut E,
 ) -> Status
     requires { CanBeWritten output.now }
-    ensures { IsOutputWritten output.now
+    ensures { IsOwedWritten (owed_of output.now)
         (record { out = S.written out.old; out_faults = S.faults out.old; err = E.written err.old; err_faults = E.faults err.old })
         (record { out = S.written out.new; out_faults = S.faults out.new; err = E.written err.new; err_faults = E.faults err.new }) result }
 {
@@ -40,10 +40,23 @@ pub(crate) fn write_output<S: Sink, E: Sink>(
         Output::Summary(machine, summary) => {
             write_summary(machine.description(), summary, out, err)
         }
-        Output::Run(machine, script, programs) => {
+        Output::Run(run) => write_report(alloc, run, out, err),
+    }
+}
+
+/// Writes the report of a run.
+#[inline(never)]
+fn write_report<S: Sink, E: Sink>(alloc: Global, run: &Run, out: &mut S, err: &mut E) -> Status
+    requires { HasPrograms run.now }
+    ensures { IsReportWritten run.now
+        (record { out = S.written out.old; out_faults = S.faults out.old; err = E.written err.old; err_faults = E.faults err.old })
+        (record { out = S.written out.new; out_faults = S.faults out.new; err = E.written err.new; err_faults = E.faults err.new }) result }
+{
+    match run {
+        Run::Script(machine, script, programs) => {
             write_run(alloc, machine.description(), script, programs, out, err)
         }
-        Output::World(machine, world, programs) => {
+        Run::World(machine, world, programs) => {
             run_world(alloc, machine.description(), world, programs, out, err)
         }
     }

@@ -1,3 +1,4 @@
 pub mod MachineLemmas
+pub mod OwedLemmas
 pub mod ReadsLemmas
 pub mod StreamLemmas

@@ -3,11 +3,10 @@ use Rattle.std.specs.Prelude.{ℕ, List, Result}
 use Rattle.capsule_codec.specs.Image.{capsule_parts}
 use Rattle.capsule_listing.specs.CapsuleText.{capsule_text}
 use Rattle.mate_steps.specs.CapsuleFiles.{capsule}
-use Rattle.mate_documents.specs.Outputs.{writes}
+use Rattle.mate_documents.specs.Owed.{Owed, writes}
 use Rattle.mate_steps.specs.Parts.{Folder, machine}
 use Rattle.mate_steps.specs.Steps.{◌▸◌}
-use Rattle.mate_documents.specs.declared.output.Output.{Output}
 use Rattle.mate_refusals.specs.declared.refusal.Refusal.{Refusal}
 
-abbrev pub check : Folder → (vm name : List ℕ) → Result Output Refusal → Type 0
+abbrev pub check : Folder → (vm name : List ℕ) → Result Owed Refusal → Type 0
 check f vm name = machine f vm ▸ λ d. capsule f d name ▸ λ c. writes (capsule_text d (capsule_parts c.0) c.1.code)

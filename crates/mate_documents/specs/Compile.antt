@@ -6,11 +6,10 @@ use Rattle.mate_num.specs.declared.id.HandlerId.{HandlerId}
 use Rattle.vm_desc.specs.declared.description.Description.{Description}
 use Rattle.capsule_codec.specs.Image.{capsule_image}
 use Rattle.mate_refusals.specs.declared.refusal.Refusal.{Refusal}
-use Rattle.mate_documents.specs.Outputs.{writes}
+use Rattle.mate_documents.specs.Owed.{Owed, writes}
 use Rattle.mate_steps.specs.Parts.{Folder, machine, handler}
 use Rattle.mate_steps.specs.Sources.{source}
 use Rattle.mate_steps.specs.Steps.{◌▸◌}
-use Rattle.mate_documents.specs.declared.output.Output.{Output}
 
 -- the image of the capsule with the machine's number, in hexadecimal digits, and a line feed
 abbrev pub capsule_hex : Description → HandlerId → ℕ → ArrayVec ℕ → List ℕ
@@ -19,8 +18,8 @@ capsule_hex d h version code =
     ++ codes "\n"
 
 -- the image of a source's capsule for a machine
-abbrev pub source_image : Folder → Bool → Description → (h : List ℕ) → ℕ → List ℕ → Result Output Refusal → Type 0
+abbrev pub source_image : Folder → Bool → Description → (h : List ℕ) → ℕ → List ℕ → Result Owed Refusal → Type 0
 source_image f fold d h version name = handler d h ▸ λ k. source f d fold name ▸ λ c. writes (capsule_hex d k version c.code)
 
-abbrev pub compile : Folder → Bool → (vm h : List ℕ) → ℕ → List ℕ → Result Output Refusal → Type 0
+abbrev pub compile : Folder → Bool → (vm h : List ℕ) → ℕ → List ℕ → Result Owed Refusal → Type 0
 compile f fold vm h version name = machine f vm ▸ λ d. source_image f fold d h version name

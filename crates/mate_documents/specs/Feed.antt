@@ -1,8 +1,7 @@
 -- The command `feed`: what a new node answers to the frames of the stream of bytes in a file, which come from a serial line.
 use Rattle.std.specs.Prelude.{◌≡◌, ◌≢◌, ◌+◌, ℕ, List, [], length, Result, ⊤}
 use Rattle.capsule_feed.specs.Lines.{feed_text}
-use Rattle.mate_documents.specs.Outputs.{writes}
-use Rattle.mate_documents.specs.declared.output.Output.{Output}
+use Rattle.mate_documents.specs.Owed.{Owed, writes}
 use Rattle.mate_refusals.specs.declared.refusal.Refusal.{Refusal}
 use Rattle.mate_refusals.specs.declared.refusal.Refusal.TheVariants.{BadStream}
 use Rattle.mate_steps.specs.Parts.{Folder, file, machine}
@@ -19,8 +18,8 @@ abbrev pub whole_stream : List ℕ → Result ⊤ Refusal → Type 0
 whole_stream bytes = judged (λ _. unfinished bytes ≡ []) (IsOpenAt bytes) BadStream
 
 -- the answers to its frames
-abbrev pub answers : Description → List ℕ → Result Output Refusal → Type 0
+abbrev pub answers : Description → List ℕ → Result Owed Refusal → Type 0
 answers d bytes = whole_stream bytes ▸ λ _. writes (feed_text d bytes)
 
-abbrev pub feed : Folder → (vm name : List ℕ) → Result Output Refusal → Type 0
+abbrev pub feed : Folder → (vm name : List ℕ) → Result Owed Refusal → Type 0
 feed f vm name = machine f vm ▸ λ d. file f name ▸ λ bytes. answers d bytes.items

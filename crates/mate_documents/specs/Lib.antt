@@ -1,4 +1,5 @@
 pub mod Documents
+pub mod Owed
 pub mod Outputs
 pub mod Table
 pub mod Compile

@@ -1,23 +1,33 @@
--- What a command writes: a text all of whose parts are at hand, the summary of a run, or a run, which is written as its events end.
-use Rattle.std.specs.Prelude.{◌≡◌, ℕ, List, Result, Ok, Err}
+-- Outputs: what the program holds of what it is to write.
+use Rattle.std.specs.Prelude.{true, Result, Ok, Err}
 use Rattle.node_programs.specs.ScriptSteps.{AreProgramsOf}
 use Rattle.node_programs.specs.WorldPrograms.{AreProgramsOfWorld}
 use Rattle.mate_documents.specs.Documents.{document_text, HasText}
+use Rattle.mate_documents.specs.Owed.{Owed, a_text, a_run}
 use Rattle.mate_documents.specs.declared.output.Output.{Output}
 use Rattle.mate_documents.specs.declared.output.Output.TheVariants as output
-use Rattle.report_summary.specs.Summary.{IsSmall}
+use Rattle.mate_documents.specs.declared.output.Run.{Run}
+use Rattle.mate_documents.specs.declared.output.Run.TheVariants as run_of
+use Rattle.report_summary.specs.Summary.{IsSmall, summary_text}
 use Rattle.mate_refusals.specs.declared.refusal.Refusal.{Refusal}
-use Rattle.mate_refusals.specs.declared.refusal.Refusal.TheVariants.{NoMemory}
+
+-- what is owed, of which this is the output
+abbrev pub owed_of : Output → Owed
+owed_of (output.Document x) = a_text true (document_text x)
+owed_of (output.Summary d s) = a_text s.whole (summary_text d s)
+owed_of (output.Run r) = a_run r
+
+abbrev pub owed_in : Result Output Refusal → Result Owed Refusal
+owed_in (Ok o) = Ok (owed_of o)
+owed_in (Err r) = Err r
+
+-- its programs are those of its files
+abbrev pub HasPrograms : Run → Type 0
+HasPrograms (run_of.Script d script ps) = AreProgramsOf d script ps
+HasPrograms (run_of.World d w ps) = AreProgramsOfWorld d w ps
 
 -- it can be written
 abbrev pub CanBeWritten : Output → Type 0
 CanBeWritten (output.Document x) = HasText x
 CanBeWritten (output.Summary d s) = IsSmall s
-CanBeWritten (output.Run d script ps) = AreProgramsOf d script ps
-CanBeWritten (output.World d w ps) = AreProgramsOfWorld d w ps
-
--- a document with this text is to be written
-abbrev pub writes : List ℕ → Result Output Refusal → Type 0
-writes bytes (Ok (output.Document x)) = document_text x ≡ bytes
-writes bytes (Err r) = r ≡ NoMemory
-writes bytes _ = ⊥
+CanBeWritten (output.Run r) = HasPrograms r

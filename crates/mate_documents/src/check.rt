@@ -1,7 +1,7 @@
 //! The command `check`.
 
 ghost use Rattle.std.specs.Prelude.{◌≡◌, IfOk};
-ghost use Rattle.mate_documents.specs.Outputs.{CanBeWritten};
+ghost use Rattle.mate_documents.specs.Outputs.{CanBeWritten, owed_in};
 ghost use Rattle.mate_steps.specs.Parts.{ReadsFiles};
 ghost use Rattle.mate_documents.specs.Check.{check};
 
@@ -21,7 +21,7 @@ pub fn output<F: Files>(
     vm: &str,
     name: &str,
 ) -> Result<Output, Refusal>
-    ensures does { check (record { told = F.contents files.old; steady = F.steady files.old }) vm.now name.now result }
+    ensures does { check (record { told = F.contents files.old; steady = F.steady files.old }) vm.now name.now (owed_in result) }
     ensures reads { ReadsFiles (F.contents files.old) (F.steady files.old) (F.faults files.old) (F.contents files.new)
         (F.steady files.new) (F.faults files.new) result }
     ensures writable { IfOk result CanBeWritten }

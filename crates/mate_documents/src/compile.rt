@@ -4,7 +4,8 @@ ghost use Rattle.std.specs.Prelude.{◌≡◌, ◌≤◌, ◌++◌, codes, optio
 ghost use Rattle.hex.specs.Hex.{encode_lower};
 ghost use Rattle.mate_refusals.specs.declared.refusal.Refusal.TheVariants.{NoMemory};
 ghost use Rattle.mate_documents.specs.Compile.{compile};
-ghost use Rattle.mate_documents.specs.Outputs.{CanBeWritten, writes};
+ghost use Rattle.mate_documents.specs.Outputs.{CanBeWritten, owed_in};
+ghost use Rattle.mate_documents.specs.Owed.{writes};
 ghost use Rattle.mate_steps.specs.Parts.{ReadsFiles, handler_named};
 
 use crate::boxed_machine::BoxedMachine;
@@ -27,7 +28,7 @@ pub fn output<F: Files>(
     words: Compilation<'_>,
 ) -> Result<Output, Refusal>
     ensures does { compile (record { told = F.contents files.old; steady = F.steady files.old }) words.entry.fold words.entry.machine.now
-        words.entry.handler.now words.entry.version words.entry.source.now result }
+        words.entry.handler.now words.entry.version words.entry.source.now (owed_in result) }
     ensures reads { ReadsFiles (F.contents files.old) (F.steady files.old) (F.faults files.old) (F.contents files.new)
         (F.steady files.new) (F.faults files.new) result }
     ensures writable { IfOk result CanBeWritten }
@@ -50,7 +51,7 @@ pub fn output<F: Files>(
 /// An image as a document.
 #[inline(never)]
 fn image_output(alloc: Global, image: Image) -> Result<Output, Refusal>
-    ensures does { writes (encode_lower image.items ++ codes "\n") result }
+    ensures does { writes (encode_lower image.items ++ codes "\n") (owed_in result) }
     ensures memory { IfErr result (λ r. r ≡ NoMemory) }
     ensures writable { IfOk result CanBeWritten }
 {

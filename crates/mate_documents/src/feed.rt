@@ -2,7 +2,7 @@
 
 ghost use Rattle.std.specs.Prelude.{◌≤◌, length, IfOk};
 ghost use Rattle.mate_documents.specs.Feed.{feed, answers, whole_stream};
-ghost use Rattle.mate_documents.specs.Outputs.{CanBeWritten};
+ghost use Rattle.mate_documents.specs.Outputs.{CanBeWritten, owed_in};
 ghost use Rattle.mate_files.specs.declared.files.TheConstants.{FILE_MAX};
 ghost use Rattle.mate_steps.specs.Parts.{ReadsFiles};
 
@@ -23,7 +23,7 @@ pub fn output<F: Files>(
     vm: &str,
     name: &str,
 ) -> Result<Output, Refusal>
-    ensures does { feed (record { told = F.contents files.old; steady = F.steady files.old }) vm.now name.now result }
+    ensures does { feed (record { told = F.contents files.old; steady = F.steady files.old }) vm.now name.now (owed_in result) }
     ensures reads { ReadsFiles (F.contents files.old) (F.steady files.old) (F.faults files.old) (F.contents files.new)
         (F.steady files.new) (F.faults files.new) result }
     ensures writable { IfOk result CanBeWritten }
@@ -37,7 +37,7 @@ pub fn output<F: Files>(
 #[inline(never)]
 fn answers(machine: BoxedMachine, stream: Vec<u8>) -> Result<Output, Refusal>
     requires { length stream.items ≤ FILE_MAX }
-    ensures does { answers machine stream.items result }
+    ensures does { answers machine stream.items (owed_in result) }
     ensures writable { IfOk result CanBeWritten }
 {
     whole_stream(stream.as_slice())?;

@@ -12,4 +12,4 @@ pub mod table;
 
 pub use boxed_machine::BoxedMachine;
 pub use document::Document;
-pub use output::Output;
+pub use output::{Output, Run};

@@ -13,9 +13,16 @@ pub enum Output {
     Document(Document),
     /// The summary of a run on this machine, which was counted as its events ended.
     Summary(BoxedMachine, Summary),
-    /// The report of the run of a script on this machine, with the programs of its files: it is run and written event by event.
-    Run(BoxedMachine, Steps, Programs),
-    /// The report of the run of a world on nodes of this machine, with the programs of its files; it, too, is written event by event.
+    /// The report of a run, which is run and written event by event.
+    Run(Run),
+}
+
+/// A run on nodes of a machine, with the programs of the files that it names.
+#[derive(Drop)]
+pub enum Run {
+    /// The run of a script on one node.
+    Script(BoxedMachine, Steps, Programs),
+    /// The run of a world.
     World(BoxedMachine, World, Programs),
 }
 
@@ -25,8 +32,7 @@ impl Drop for Output {
         match self {
             Output::Document(_document) => {}
             Output::Summary(_machine, _summary) => {}
-            Output::Run(_machine, _script, _programs) => {}
-            Output::World(_machine, _world, _programs) => {}
+            Output::Run(_run) => {}
         }
     }
 }

@@ -1,7 +1,7 @@
 //! The command `table`.
 
 ghost use Rattle.std.specs.Prelude.{◌≡◌, IfOk};
-ghost use Rattle.mate_documents.specs.Outputs.{CanBeWritten};
+ghost use Rattle.mate_documents.specs.Outputs.{CanBeWritten, owed_in};
 ghost use Rattle.mate_steps.specs.Parts.{ReadsFiles};
 ghost use Rattle.mate_documents.specs.Table.{opcode_table};
 
@@ -15,7 +15,7 @@ use std::alloc::Global;
 /// The opcode table of a machine.
 #[inline(never)]
 pub fn output<F: Files>(alloc: Global, files: &mut F, vm: &str) -> Result<Output, Refusal>
-    ensures does { opcode_table (record { told = F.contents files.old; steady = F.steady files.old }) vm.now result }
+    ensures does { opcode_table (record { told = F.contents files.old; steady = F.steady files.old }) vm.now (owed_in result) }
     ensures reads { ReadsFiles (F.contents files.old) (F.steady files.old) (F.faults files.old) (F.contents files.new)
         (F.steady files.new) (F.faults files.new) result }
     ensures writable { IfOk result CanBeWritten }

@@ -2,16 +2,17 @@ use Rattle.std.proofs.Common.{refl}
 use Rattle.std.proofs.lemmas.Result.{IfOk-from_err}
 use Rattle.mate_cli.proofs.AuditLemmas.{quiet-serial}
 use Rattle.mate_steps.specs.Steps.{goes_on}
-use Rattle.mate_steps.proofs.Laws.{stops_by, reads-as, reads-err}
+use Rattle.mate_steps.proofs.Laws.{reads-as, reads-err}
+use Rattle.mate_documents.proofs.OwedLemmas.{owed-stops}
 use Rattle.mate_cli.proofs.audit.audit_of.Goals as goal
 
 pub returns-in_err-report-clause-does : goal.returns-in_err-report-clause-does
-returns-in_err-report-clause-does g c = stops_by c.in_err-report.field-0.0 c.from_residual.result c.in_err-report.ensures.does c.from_residual.ensures.1
+returns-in_err-report-clause-does g c = owed-stops c.in_err-report.field-0.0 c.from_residual.result c.in_err-report.ensures.does c.from_residual.ensures.1
 
 pub returns-in_err-serial-clause-does : goal.returns-in_err-serial-clause-does
 returns-in_err-serial-clause-does g c =
     goes_on c.in_ok-report.report c.in_ok-report.ensures.does
-    (stops_by c.in_err-serial.field-0.0 c.from_residual-in_err-serial.result c.in_err-serial.ensures c.from_residual-in_err-serial.ensures.1)
+    (owed-stops c.in_err-serial.field-0.0 c.from_residual-in_err-serial.result c.in_err-serial.ensures c.from_residual-in_err-serial.ensures.1)
 
 pub returns-clause-does : goal.returns-clause-does
 returns-clause-does g c = goes_on c.in_ok-report.report c.in_ok-report.ensures.does (goes_on tt c.in_ok-serial.ensures refl)

@@ -1,11 +1,12 @@
 use Rattle.mate_steps.specs.Steps.{goes_on}
-use Rattle.mate_steps.proofs.Laws.{stops_by, reads-as}
+use Rattle.mate_steps.proofs.Laws.{reads-as}
+use Rattle.mate_documents.proofs.OwedLemmas.{owed-stops}
 use Rattle.mate_documents.proofs.ReadsLemmas.{quiet-memory}
 use Rattle.std.proofs.lemmas.Result.{IfOk-from_err}
 use Rattle.mate_cli.proofs.made.output.Goals as goal
 
 pub returns-in_err-machine-clause-does : goal.returns-in_err-machine-clause-does
-returns-in_err-machine-clause-does g c = stops_by c.in_err-machine.field-0.0 c.from_residual.result c.in_err-machine.ensures.does c.from_residual.ensures.1
+returns-in_err-machine-clause-does g c = owed-stops c.in_err-machine.field-0.0 c.from_residual.result c.in_err-machine.ensures.does c.from_residual.ensures.1
 
 pub returns-clause-does : goal.returns-clause-does
 returns-clause-does g c = goes_on c.in_ok-machine.machine c.in_ok-machine.ensures.does c.run_of_number.ensures.does

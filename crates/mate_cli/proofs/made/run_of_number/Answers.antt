@@ -1,14 +1,14 @@
 use Rattle.std.proofs.Common.{Ok, Err, subst}
 use Rattle.vm_desc.specs.declared.description.Description.{Description}
 use Rattle.mate_steps.specs.Steps.{goes_on}
-use Rattle.mate_steps.proofs.Laws.{stops_by}
+use Rattle.mate_documents.proofs.OwedLemmas.{owed-stops}
 use Rattle.std.proofs.lemmas.Result.{IfOk-from_err}
 use Rattle.world_programs.specs.Made.{made}
 use Rattle.node_programs.specs.WorldPrograms.{AreProgramsOfWorld}
 use Rattle.mate_cli.proofs.made.run_of_number.Goals as goal
 
 pub returns-in_err-made-clause-does : goal.returns-in_err-made-clause-does
-returns-in_err-made-clause-does c = stops_by c.in_err-made.field-0.0 c.from_residual.result
+returns-in_err-made-clause-does c = owed-stops c.in_err-made.field-0.0 c.from_residual.result
     (subst (λ (d : Description). made d c.args.words.fold c.args.words.number (Err c.in_err-made.field-0.0)) c.description.ensures c.in_err-made.ensures.does) c.from_residual.ensures.1
 
 pub returns-clause-does : goal.returns-clause-does

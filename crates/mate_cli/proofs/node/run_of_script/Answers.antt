@@ -4,7 +4,8 @@ use Rattle.script_programs.specs.Scripts.{script}
 use Rattle.vm_desc.specs.declared.description.Description.{Description}
 use Rattle.mate_steps.specs.Parts.{Folder}
 use Rattle.mate_steps.specs.Steps.{goes_on}
-use Rattle.mate_steps.proofs.Laws.{stops_by, moved, reads-as, reads-err, reads-then}
+use Rattle.mate_steps.proofs.Laws.{moved, reads-as, reads-err, reads-then}
+use Rattle.mate_documents.proofs.OwedLemmas.{owed-stops}
 use Rattle.node_programs.specs.ScriptSteps.{AreProgramsOf}
 use Rattle.mate_documents.proofs.ReadsLemmas.{quiet-memory}
 use Rattle.std.proofs.lemmas.Result.{IfOk-from_err}
@@ -13,7 +14,7 @@ use Rattle.mate_cli.proofs.node.run_of_script.Goals as goal
 pub returns-in_err-script-clause-does : goal.returns-in_err-script-clause-does
 returns-in_err-script-clause-does g c =
     let f : Folder = record { told = g.F.Files.contents c.args.files.now; steady = g.F.Files.steady c.args.files.now } in
-    stops_by c.in_err-script.field-0.0 c.from_residual.result
+    owed-stops c.in_err-script.field-0.0 c.from_residual.result
     (subst (λ (d : Description). script f d c.args.words.script.now (Err c.in_err-script.field-0.0)) c.description-desc.ensures c.in_err-script.ensures.does)
     c.from_residual.ensures.1
 
@@ -22,7 +23,7 @@ returns-in_err-programs-clause-does g c =
     let f : Folder = record { told = g.F.Files.contents c.args.files.now; steady = g.F.Files.steady c.args.files.now } in
     goes_on c.in_ok-script.script
     (subst (λ (d : Description). script f d c.args.words.script.now (Ok c.in_ok-script.script)) c.description-desc.ensures c.in_ok-script.ensures.does)
-    (stops_by c.in_err-programs.field-0.0 c.from_residual-in_err-programs.result
+    (owed-stops c.in_err-programs.field-0.0 c.from_residual-in_err-programs.result
     (subst (λ (d : Description). script_programs f d c.args.words.fold c.in_ok-script.script (Err c.in_err-programs.field-0.0)) c.description-desc.ensures
     (moved (λ f. script_programs f c.description-desc.result.now c.args.words.fold c.in_ok-script.script (Err c.in_err-programs.field-0.0)) c.in_ok-script.ensures.reads
     c.in_err-programs.ensures.does))

@@ -1,13 +1,15 @@
 use Rattle.std.proofs.Common.{Bool, Ok, refl, sym, subst}
 use Rattle.mate_cli.specs.Node.{run_output}
-use Rattle.mate_documents.specs.declared.output.Output.TheVariants as output
+use Rattle.mate_documents.specs.Owed.{a_run}
+use Rattle.mate_documents.specs.declared.output.Run.TheVariants as run
+use Rattle.mate_documents.specs.Outputs.{owed_in}
 use Rattle.mate_cli.proofs.node.run_output.Goals as goal
 
 pub returns-then-brief-clause-does : goal.returns-then-brief-clause-does
-returns-then-brief-clause-does c = subst (λ (b : Bool). run_output b c.args.machine c.args.script c.args.programs c.summary.result) (sym c.if-brief.true) c.summary.ensures.does
+returns-then-brief-clause-does c = subst (λ (b : Bool). run_output b c.args.machine c.args.script c.args.programs (owed_in c.summary.result)) (sym c.if-brief.true) c.summary.ensures.does
 
 pub returns-else-brief-clause-does : goal.returns-else-brief-clause-does
-returns-else-brief-clause-does c = subst (λ (b : Bool). run_output b c.args.machine c.args.script c.args.programs (Ok (output.Run c.args.machine c.args.script c.args.programs))) (sym c.if-brief.false) refl
+returns-else-brief-clause-does c = subst (λ (b : Bool). run_output b c.args.machine c.args.script c.args.programs (Ok (a_run (run.Script c.args.machine c.args.script c.args.programs)))) (sym c.if-brief.false) refl
 
 pub returns-then-brief-clause-memory : goal.returns-then-brief-clause-memory
 returns-then-brief-clause-memory c = c.summary.ensures.memory

@@ -1,18 +1,19 @@
 use Rattle.std.proofs.Common.{refl, Ok, Err}
 use Rattle.mate_steps.specs.CapsuleFiles.{capsule}
 use Rattle.mate_steps.specs.Steps.{goes_on}
-use Rattle.mate_steps.proofs.Laws.{stops_by, reads-as, reads-err, reads-then}
+use Rattle.mate_steps.proofs.Laws.{reads-as, reads-err, reads-then}
+use Rattle.mate_documents.proofs.OwedLemmas.{owed-stops}
 use Rattle.mate_documents.proofs.MachineLemmas.{at_machine}
 use Rattle.std.proofs.lemmas.Result.{IfOk-from_err}
 use Rattle.mate_documents.proofs.check.output.Goals as goal
 
 pub returns-in_err-machine-clause-does : goal.returns-in_err-machine-clause-does
-returns-in_err-machine-clause-does g c = stops_by c.in_err-machine.field-0.0 c.from_residual.result c.in_err-machine.ensures.does c.from_residual.ensures.1
+returns-in_err-machine-clause-does g c = owed-stops c.in_err-machine.field-0.0 c.from_residual.result c.in_err-machine.ensures.does c.from_residual.ensures.1
 
 pub returns-in_err-capsule-clause-does : goal.returns-in_err-capsule-clause-does
 returns-in_err-capsule-clause-does g c =
     goes_on c.in_ok-machine.machine c.in_ok-machine.ensures.does
-    (stops_by c.in_err-capsule.field-0.0 c.from_residual-in_err-capsule.result
+    (owed-stops c.in_err-capsule.field-0.0 c.from_residual-in_err-capsule.result
     (at_machine (λ f d. capsule f d c.args.name.now (Err c.in_err-capsule.field-0.0)) c.in_ok-machine.machine c.description.result.now c.description.ensures c.in_ok-machine.ensures.reads c.in_err-capsule.ensures.does)
     c.from_residual-in_err-capsule.ensures.1)
 

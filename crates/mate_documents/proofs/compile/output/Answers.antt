@@ -2,16 +2,18 @@ use Rattle.std.proofs.Common.{ℕ, List, ◌++◌, codes, Err, refl, sym, subst,
 use Rattle.hex.specs.Hex.{encode_lower}
 use Rattle.mate_steps.specs.Steps.{goes_on, stops}
 use Rattle.mate_refusals.specs.declared.refusal.Refusal.TheVariants.{Usage}
-use Rattle.mate_steps.proofs.Laws.{stops_by, reads-as, reads-err, reads-then}
+use Rattle.mate_steps.proofs.Laws.{reads-as, reads-err, reads-then}
+use Rattle.mate_documents.proofs.OwedLemmas.{owed-stops}
 use Rattle.mate_documents.specs.Compile.{source_image}
-use Rattle.mate_documents.specs.Outputs.{writes}
+use Rattle.mate_documents.specs.Owed.{writes}
+use Rattle.mate_documents.specs.Outputs.{owed_in}
 use Rattle.mate_documents.proofs.MachineLemmas.{at_machine}
 use Rattle.std.proofs.lemmas.Result.{IfOk-from_err}
 use Rattle.mate_documents.proofs.ReadsLemmas.{quiet-memory}
 use Rattle.mate_documents.proofs.compile.output.Goals as goal
 
 pub returns-in_err-machine-clause-does : goal.returns-in_err-machine-clause-does
-returns-in_err-machine-clause-does g c = stops_by c.in_err-machine.field-0.0 c.from_residual.result c.in_err-machine.ensures.does c.from_residual.ensures.1
+returns-in_err-machine-clause-does g c = owed-stops c.in_err-machine.field-0.0 c.from_residual.result c.in_err-machine.ensures.does c.from_residual.ensures.1
 
 pub returns-in_default-clause-does : goal.returns-in_default-clause-does
 returns-in_default-clause-does g c =
@@ -22,17 +24,17 @@ returns-in_default-clause-does g c =
 pub returns-in_err-source-clause-does : goal.returns-in_err-source-clause-does
 returns-in_err-source-clause-does g c =
     goes_on c.in_ok-machine.machine c.in_ok-machine.ensures.does
-    (at_machine (λ f d. source_image f c.args.words.fold d c.args.words.handler.now c.args.words.version c.args.words.source.now c.from_residual-in_err-source.result) c.in_ok-machine.machine c.description-desc.result.now c.description-desc.ensures c.in_ok-machine.ensures.reads
+    (at_machine (λ f d. source_image f c.args.words.fold d c.args.words.handler.now c.args.words.version c.args.words.source.now (owed_in c.from_residual-in_err-source.result)) c.in_ok-machine.machine c.description-desc.result.now c.description-desc.ensures c.in_ok-machine.ensures.reads
     (goes_on c.in-Some.handler (sym c.in-Some.ensures)
-    (stops_by c.in_err-source.field-0.0 c.from_residual-in_err-source.result c.in_err-source.ensures.does c.from_residual-in_err-source.ensures.1)))
+    (owed-stops c.in_err-source.field-0.0 c.from_residual-in_err-source.result c.in_err-source.ensures.does c.from_residual-in_err-source.ensures.1)))
 
 pub returns-clause-does : goal.returns-clause-does
 returns-clause-does g c =
     goes_on c.in_ok-machine.machine c.in_ok-machine.ensures.does
-    (at_machine (λ f d. source_image f c.args.words.fold d c.args.words.handler.now c.args.words.version c.args.words.source.now c.image_output.result) c.in_ok-machine.machine c.description-desc.result.now c.description-desc.ensures c.in_ok-machine.ensures.reads
+    (at_machine (λ f d. source_image f c.args.words.fold d c.args.words.handler.now c.args.words.version c.args.words.source.now (owed_in c.image_output.result)) c.in_ok-machine.machine c.description-desc.result.now c.description-desc.ensures c.in_ok-machine.ensures.reads
     (goes_on c.in-Some.handler (sym c.in-Some.ensures)
     (goes_on c.in_ok-source.source c.in_ok-source.ensures.does
-    (subst (λ (bs : List ℕ). writes (encode_lower bs ++ codes "\n") c.image_output.result) c.encode.ensures.bytes c.image_output.ensures.does))))
+    (subst (λ (bs : List ℕ). writes (encode_lower bs ++ codes "\n") (owed_in c.image_output.result)) c.encode.ensures.bytes c.image_output.ensures.does))))
 
 pub returns-in_err-machine-clause-reads : goal.returns-in_err-machine-clause-reads
 returns-in_err-machine-clause-reads g c = reads-err c.in_err-machine.field-0.0 c.from_residual.result c.in_err-machine.ensures.reads c.from_residual.ensures.1

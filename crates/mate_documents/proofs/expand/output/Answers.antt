@@ -1,11 +1,12 @@
 use Rattle.std.proofs.Common.{refl}
 use Rattle.mate_steps.specs.Steps.{goes_on}
-use Rattle.mate_steps.proofs.Laws.{stops_by, reads-as, reads-err}
+use Rattle.mate_steps.proofs.Laws.{reads-as, reads-err}
+use Rattle.mate_documents.proofs.OwedLemmas.{owed-stops}
 use Rattle.std.proofs.lemmas.Result.{IfOk-from_err}
 use Rattle.mate_documents.proofs.expand.output.Goals as goal
 
 pub returns-in_err-script-clause-does : goal.returns-in_err-script-clause-does
-returns-in_err-script-clause-does g c = stops_by c.in_err-script.field-0.0 c.from_residual.result c.in_err-script.ensures.does c.from_residual.ensures.1
+returns-in_err-script-clause-does g c = owed-stops c.in_err-script.field-0.0 c.from_residual.result c.in_err-script.ensures.does c.from_residual.ensures.1
 
 pub returns-clause-does : goal.returns-clause-does
 returns-clause-does g c = goes_on c.in_ok-script.script c.in_ok-script.ensures.does refl

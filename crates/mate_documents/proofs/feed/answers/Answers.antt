@@ -1,12 +1,12 @@
 use Rattle.std.proofs.Common.{ℕ, List, Ok, Err, refl, subst}
 use Rattle.mate_steps.specs.Steps.{goes_on}
-use Rattle.mate_steps.proofs.Laws.{stops_by}
+use Rattle.mate_documents.proofs.OwedLemmas.{owed-stops}
 use Rattle.mate_documents.specs.Feed.{whole_stream}
 use Rattle.mate_documents.proofs.feed.answers.Goals as goal
 
 pub returns-in_err-whole_stream-clause-does : goal.returns-in_err-whole_stream-clause-does
 returns-in_err-whole_stream-clause-does c =
-    stops_by c.in_err-whole_stream.field-0.0 c.from_residual.result
+    owed-stops c.in_err-whole_stream.field-0.0 c.from_residual.result
     (subst (λ (bytes : List ℕ). whole_stream bytes (Err c.in_err-whole_stream.field-0.0)) c.as_slice.ensures.value c.in_err-whole_stream.ensures)
     c.from_residual.ensures.1
 

@@ -1,18 +1,19 @@
 use Rattle.std.proofs.Common.{Ok, Err}
 use Rattle.mate_steps.specs.Parts.{file}
 use Rattle.mate_steps.specs.Steps.{goes_on}
-use Rattle.mate_steps.proofs.Laws.{stops_by, moved, reads-as, reads-err, reads-then}
+use Rattle.mate_steps.proofs.Laws.{moved, reads-as, reads-err, reads-then}
+use Rattle.mate_documents.proofs.OwedLemmas.{owed-stops}
 use Rattle.mate_documents.proofs.StreamLemmas.{quiet-answers}
 use Rattle.std.proofs.lemmas.Result.{IfOk-from_err}
 use Rattle.mate_documents.proofs.feed.output.Goals as goal
 
 pub returns-in_err-machine-clause-does : goal.returns-in_err-machine-clause-does
-returns-in_err-machine-clause-does g c = stops_by c.in_err-machine.field-0.0 c.from_residual.result c.in_err-machine.ensures.does c.from_residual.ensures.1
+returns-in_err-machine-clause-does g c = owed-stops c.in_err-machine.field-0.0 c.from_residual.result c.in_err-machine.ensures.does c.from_residual.ensures.1
 
 pub returns-in_err-stream-clause-does : goal.returns-in_err-stream-clause-does
 returns-in_err-stream-clause-does g c =
     goes_on c.in_ok-machine.machine c.in_ok-machine.ensures.does
-    (stops_by c.in_err-stream.field-0.0 c.from_residual-in_err-stream.result
+    (owed-stops c.in_err-stream.field-0.0 c.from_residual-in_err-stream.result
     (moved (λ f. file f c.args.name.now (Err c.in_err-stream.field-0.0)) c.in_ok-machine.ensures.reads c.in_err-stream.ensures.does)
     c.from_residual-in_err-stream.ensures.1)
 
