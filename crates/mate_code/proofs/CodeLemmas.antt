@@ -13,10 +13,12 @@ use Rattle.mate_code.specs.declared.kind.OperandForm.{OperandForm}
 use Rattle.mate_code.specs.declared.kind.OperandForm.TheVariants.{Absent, Byte, Word, SignedWord}
 use Rattle.mate_code.specs.declared.kind.Kind.{Kind}
 use Rattle.mate_code.specs.declared.instr.Instr.{Instr}
-use Rattle.mate_code.specs.Kind.{form_of, width_of}
-use Rattle.mate_code.specs.Instr.{kind_of, operand_of, instr_of, size_of, FitsForm}
-use Rattle.mate_code.specs.Table.{Layout, IsInTable, opcode_of}
+use Rattle.mate_code.specs.Kind.{kind_of, instr_of, form_of}
+use Rattle.mate_code.specs.Instr.{operand_of, size_of, FitsForm}
+use Rattle.mate_code.specs.Row.{Row, row_of, width_of}
+use Rattle.mate_code.specs.Table.{Layout, IsInTable, opcode_in, opcode_of}
 use Rattle.mate_code.specs.Code.{operand_bytes, instr_bytes, code_bytes, placed, operand_at, with_kind, instr_at, decoded_from, decoded, IsWritable}
+use Rattle.mate_code.proofs.KindLemmas.{row-kind, instr_at-kind}
 use Rattle.mate_code.proofs.OpcodeLemmas.{kind_at-opcode_of}
 
 -- ---- lengths
@@ -28,7 +30,7 @@ length-operand_bytes Word n = refl
 length-operand_bytes SignedWord n = refl
 
 pub length-instr_bytes : (t : Layout) (i : Instr) → length (instr_bytes t i) ≡ size_of i
-length-instr_bytes t i = ap suc (length-operand_bytes (form_of (kind_of i)) (operand_of i)) ∙ omega arith
+length-instr_bytes t i = ap suc (length-operand_bytes (row_of i).form (operand_of i)) ∙ omega arith
 
 pub length-code_bytes : (t : Layout) (instrs : List Instr) → length (code_bytes t instrs) ≡ sum_by size_of instrs
 length-code_bytes t instrs =
@@ -56,12 +58,18 @@ with_kind-operand_bytes place k n rest fits =
     let long : ltb (length (operand_bytes (form_of k) n ++ rest)) (width_of (form_of k)) ≡ false = le-ltb _ _ (omega arith) in
     rw (long, operand_at-operand_bytes (form_of k) n rest fits, drop-operand_bytes (form_of k) n rest) refl
 
--- an instruction's bytes give it again
-pub instr_at-instr_bytes : (t : Layout) (place : ℕ) (i : Instr) (rest : List ℕ) → IsInTable t (kind_of i) → IsWritable i → instr_at t place (opcode_of t (kind_of i)) (operand_bytes (form_of (kind_of i)) (operand_of i) ++ rest) ≡ Ok (i, rest)
-instr_at-instr_bytes t place i rest in_table writable =
-    ap (λ (o : Option Kind). with_kind place o (operand_bytes (form_of (kind_of i)) (operand_of i) ++ rest)) (kind_at-opcode_of t (kind_of i) in_table)
+by_kind : (t : Layout) (place : ℕ) (i : Instr) (rest : List ℕ) → IsInTable t (kind_of i) → IsWritable i → instr_at t place (opcode_of t (kind_of i)) (operand_bytes (form_of (kind_of i)) (operand_of i) ++ rest) ≡ Ok (i, rest)
+by_kind t place i rest in_table writable =
+    let bytes : List ℕ = operand_bytes (form_of (kind_of i)) (operand_of i) ++ rest in
+    instr_at-kind t place (opcode_of t (kind_of i)) bytes
+    ∙ ap (λ (o : Option Kind). with_kind place o bytes) (kind_at-opcode_of t (kind_of i) in_table)
     ∙ with_kind-operand_bytes place (kind_of i) (operand_of i) rest writable.fits
     ∙ ap (λ (x : Instr). Ok (x, rest)) writable.whole
+
+-- an instruction's bytes give it again
+instr_at-instr_bytes : (t : Layout) (place : ℕ) (i : Instr) (rest : List ℕ) → IsInTable t (kind_of i) → IsWritable i → instr_at t place (opcode_in t (row_of i).opcode) (operand_bytes (row_of i).form (operand_of i) ++ rest) ≡ Ok (i, rest)
+instr_at-instr_bytes t place i rest in_table writable =
+    subst (λ (r : Row). instr_at t place (opcode_in t r.opcode) (operand_bytes r.form (operand_of i) ++ rest) ≡ Ok (i, rest)) (row-kind i) (by_kind t place i rest in_table writable)
 
 -- ---- all instructions
 

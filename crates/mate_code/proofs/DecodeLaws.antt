@@ -13,10 +13,12 @@ use Rattle.mate_code.specs.declared.kind.Kind.{Kind}
 use Rattle.mate_code.specs.declared.instr.Instr.{Instr}
 use Rattle.mate_code.specs.declared.decoding.DecodeFault.{DecodeFault}
 use Rattle.mate_code.specs.declared.decoding.DecodeFault.TheVariants.{BadOpcode, CutShort}
-use Rattle.mate_code.specs.Kind.{form_of, width_of}
-use Rattle.mate_code.specs.Instr.{kind_of, operand_of, instr_of, size_of, FitsForm}
-use Rattle.mate_code.specs.Table.{Layout, IsInTable, opcode_of, kind_at}
+use Rattle.mate_code.specs.Kind.{kind_of, instr_of, form_of}
+use Rattle.mate_code.specs.Instr.{operand_of, size_of, FitsForm}
+use Rattle.mate_code.specs.Row.{Row, width_of}
+use Rattle.mate_code.specs.Table.{Layout, IsInTable, opcode_in, opcode_of, kind_at}
 use Rattle.mate_code.specs.Code.{operand_bytes, instr_bytes, code_bytes, instrs_of, operand_at, with_kind, instr_at, decoded_from, decoded, IsWritable, ◌>>=◌, AreBytes, IsDecoded, CannotRead, StopsAt}
+use Rattle.mate_code.proofs.KindLemmas.{row-kind, instr_at-kind}
 use Rattle.mate_code.proofs.ReadLemmas.{kind_of-instr_of, operand_of-instr_of, IsRead, instr_at_ok, size_of-read}
 use Rattle.mate_code.proofs.OpcodeLemmas.{opcode_of-kind_at}
 use Rattle.mate_code.proofs.CodeLemmas.{length-instr_bytes}
@@ -76,7 +78,8 @@ reads_back t opcode bytes i after fits r =
     let fits_as : Kind → ℕ → Type 0 = λ k m. FitsForm (form_of k) m in
     let back : ReadsBack t opcode bytes made rest = record {
       encoding =
-          ap (λ (k : Kind). spelled k (operand_of made)) kind
+          ap (λ (r : Row). (opcode_in t r.opcode ∷ operand_bytes r.form (operand_of made)) ++ rest) (sym (row-kind made))
+          ∙ ap (λ (k : Kind). spelled k (operand_of made)) kind
           ∙ ap (λ (m : ℕ). spelled k m) operand
           ∙ ap (λ (o : ℕ). o ∷ (operand_bytes (form_of k) n ++ rest)) stands.opcode
           ∙ ap (λ (xs : List ℕ). opcode ∷ xs) (operand_bytes-operand_at (form_of k) bytes r.long fits);
@@ -160,7 +163,7 @@ stops_here t place opcode bytes fault e =
       rest = bytes;
       parts = refl;
       in_table = All-nil (HasKind t);
-      stops = subst (λ (p : ℕ). CannotRead t p opcode bytes fault) at (cannot_read t place opcode (kind_at t opcode) bytes fault refl e);
+      stops = subst (λ (p : ℕ). CannotRead t p opcode bytes fault) at (cannot_read t place opcode (kind_at t opcode) bytes fault refl (sym (instr_at-kind t place opcode bytes) ∙ e));
     }
 
 stops_later : (t : Layout) (place opcode : ℕ) (bytes : List ℕ) (i : Instr) (after : List ℕ) (fault : DecodeFault) → ReadsBack t opcode bytes i after → StopsAt t (place + size_of i) after fault → StopsAt t place (opcode ∷ bytes) fault

@@ -1,6 +1,7 @@
 pub mod CodeLemmas
 pub mod DecodeLaws
 pub mod DecodeLoop
+pub mod KindLemmas
 pub mod ListLemmas
 pub mod NameLemmas
 pub mod OpcodeLemmas

@@ -6,9 +6,7 @@ use Rattle.mate_code.specs.declared.kind.Kind.{Kind}
 use Rattle.mate_code.specs.declared.row.Opcode.{Opcode}
 use Rattle.mate_code.specs.declared.row.Opcode.TheVariants.{Base, Group, Function}
 use Rattle.mate_code.specs.declared.instr.Instr.{Instr}
-use Rattle.mate_code.specs.Kind.{HasName, IsKindNamed}
-use Rattle.mate_code.specs.Instr.{kind_of}
-use Rattle.mate_code.specs.Row.{row_of}
+use Rattle.mate_code.specs.Kind.{kind_of, HasName, IsKindNamed, kind_row}
 use Rattle.mate_code.specs.Table.{Layout, HasOpcode, IsInTable, AreInTable}
 use Rattle.mate_code.specs.Code.{instrs_of}
 
@@ -19,7 +17,7 @@ has_name t functions (Group n) len h = tt
 has_name t functions (Function f send) len h = let within : f.0 < length t.sends = slice_get_within t.sends f.0 send h in omega arith
 
 pub IsNamed-IsInTable : (t : Layout) (functions : List (List ℕ)) (k : Kind) → length functions ≡ length t.sends → IsInTable t k → IsKindNamed functions k
-IsNamed-IsInTable t functions k len h = has_name t functions (row_of k).opcode len h
+IsNamed-IsInTable t functions k len h = has_name t functions (kind_row k).opcode len h
 
 -- the kind of each pair's instruction has a name
 pub IsNamed-at : (t : Layout) (functions : List (List ℕ)) (pairs : List (ℕ × Instr)) (i : ℕ) (d : ℕ × Instr) → length functions ≡ length t.sends → AreInTable t (instrs_of pairs) → i < length pairs → IsKindNamed functions (kind_of (get_or pairs i d).1)

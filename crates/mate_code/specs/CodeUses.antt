@@ -10,7 +10,7 @@ use Rattle.mate_code.specs.declared.row.Access.{Access}
 use Rattle.mate_code.specs.declared.row.Access.TheVariants as access
 use Rattle.mate_code.specs.declared.uses.Use.{Use}
 use Rattle.mate_code.specs.declared.uses.Use.TheVariants.{Nothing, Gets, Changes, Calls, Sends}
-use Rattle.mate_code.specs.Instr.{kind_of, operand_of}
+use Rattle.mate_code.specs.Instr.{operand_of}
 use Rattle.mate_code.specs.Row.{row_of}
 
 -- what an instruction with this access and this operand has to do with what handlers share
@@ -24,7 +24,7 @@ use_by (access.Sends f) n = Sends f record { 0 = n }
 use_by _ n = Nothing
 
 abbrev pub use_of : Instr → Use
-use_of i = use_by (row_of (kind_of i)).access (operand_of i)
+use_of i = use_by (row_of i).access (operand_of i)
 
 -- the cell that an instruction names
 abbrev pub cell_in : Use → Option Resource

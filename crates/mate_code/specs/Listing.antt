@@ -6,8 +6,8 @@ use Rattle.std.specs.Fmt.{signed_decimal}
 use Rattle.mate_code.specs.declared.kind.OperandForm.{OperandForm}
 use Rattle.mate_code.specs.declared.kind.OperandForm.TheVariants.{Absent, Byte, Word, SignedWord}
 use Rattle.mate_code.specs.declared.instr.Instr.{Instr}
-use Rattle.mate_code.specs.Kind.{form_of, kind_name}
-use Rattle.mate_code.specs.Instr.{kind_of, operand_of}
+use Rattle.mate_code.specs.Kind.{kind_of, form_of, kind_name}
+use Rattle.mate_code.specs.Instr.{operand_of}
 
 -- an operand after a space, in decimal; a word with a sign as a signed number
 abbrev pub operand_text : OperandForm → ℕ → List ℕ

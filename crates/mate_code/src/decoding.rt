@@ -1,13 +1,13 @@
 //! From bytes to instructions.
 
 ghost use Rattle.std.specs.Prelude.{◌≡◌, ◌+◌, ◌≤◌, length, MatchResult, IfOk, IfErr, Ok, Err};
-ghost use Rattle.mate_code.specs.Kind.{width_of};
 ghost use Rattle.mate_code.specs.Instr.{FitsForm, size_of};
-ghost use Rattle.mate_code.specs.Code.{decoded, instr_at, operand_at, IsDecoded, StopsAt};
+ghost use Rattle.mate_code.specs.Row.{width_of};
+ghost use Rattle.mate_code.specs.Code.{decoded, instr_at, with_kind, operand_at, IsDecoded, StopsAt};
 
 use crate::instr::Instr;
 use crate::instrs::Instrs;
-use crate::kind::OperandForm;
+use crate::kind::{Kind, OperandForm};
 use crate::table::Table;
 use mate_num::CODE_MAX;
 
@@ -61,8 +61,22 @@ pub fn read_instr<'a>(
         (λ read. instr_at table.now place opcode bytes.now ≡ Ok (read.0, read.1.now))
         (λ fault. instr_at table.now place opcode bytes.now ≡ Err fault) }
 {
+    read_kind(place, table.kind(opcode), bytes)
+}
+
+/// The same by the kind that the opcode has, if it has one.
+fn read_kind<'a>(
+    place: u16,
+    kind: Option<Kind>,
+    bytes: &'a [u8],
+) -> Result<(Instr, &'a [u8]), DecodeFault>
+    ensures { MatchResult
+        result
+        (λ read. with_kind place kind bytes.now ≡ Ok (read.0, read.1.now))
+        (λ fault. with_kind place kind bytes.now ≡ Err fault) }
+{
     let place = place as u32;
-    let Some(kind) = table.kind(opcode) else {
+    let Some(kind) = kind else {
         return Err(DecodeFault::BadOpcode { place });
     };
     let form = kind.form();

@@ -2,8 +2,9 @@
 
 ghost use Rattle.std.specs.Prelude.{◌≡◌, ◌+◌, ◌<◌, ◌≤◌, ◌++◌, ◌∷◌, ◌↔◌, length, sum_by, IfOk, IfErr, IsErr, Ok};
 ghost use Rattle.std.specs.Int.{w16, to_be_bytes};
-ghost use Rattle.mate_code.specs.Kind.{form_of, width_of};
-ghost use Rattle.mate_code.specs.Instr.{kind_of, operand_of, size_of, FitsForm};
+ghost use Rattle.mate_code.specs.Kind.{kind_of, form_of};
+ghost use Rattle.mate_code.specs.Instr.{operand_of, size_of, FitsForm};
+ghost use Rattle.mate_code.specs.Row.{width_of};
 ghost use Rattle.mate_code.specs.Table.{AreInTable};
 ghost use Rattle.mate_code.specs.Code.{code_bytes, operand_bytes, decoded, placed, IsWritable};
 

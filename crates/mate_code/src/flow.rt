@@ -41,7 +41,7 @@ impl Instr {
         ensures { result ≡ flow_of self }
     {
         let target = self.operand();
-        match self.kind().row().way {
+        match self.row().way {
             Way::Next => Flow::Next,
             Way::Ends => Flow::Ends,
             Way::Branches => Flow::Branches(target),
@@ -54,7 +54,7 @@ impl Instr {
     pub fn pops(self, shape: &Shape) -> u8
         ensures { result ≡ pops_of shape.now self }
     {
-        match self.kind().row().pops {
+        match self.row().pops {
             Pops::Values(number) => number,
             Pops::Args(fun) => args(shape, fun),
         }
@@ -64,7 +64,7 @@ impl Instr {
     pub fn pushes(self) -> u8
         ensures { result ≡ pushes_of self }
     {
-        self.kind().row().pushes
+        self.row().pushes
     }
 
     /// Whether the variable, private variable or buffer that the instruction names exists.
@@ -72,7 +72,7 @@ impl Instr {
         ensures { result ≡ is_in_range shape.now self }
     {
         let number = self.operand();
-        match self.kind().row().access {
+        match self.row().access {
             Access::Nothing | Access::Calls(_) => true,
             Access::Private => (number as usize) < PRIVATES,
             Access::GetsVariable | Access::SetsVariable => number < shape.shared as u16,

@@ -1,10 +1,13 @@
 //! The instructions, in the order of their opcodes.
 
 ghost use Rattle.std.specs.Prelude.{◌≡◌};
-ghost use Rattle.mate_code.specs.Kind.{form_of};
-ghost use Rattle.mate_code.specs.Instr.{kind_of, operand_of, instr_of, size_of, FitsForm};
+ghost use Rattle.mate_code.specs.Kind.{kind_of, instr_of, form_of};
+ghost use Rattle.mate_code.specs.Instr.{operand_of, size_of, FitsForm};
+ghost use Rattle.mate_code.specs.Row.{row_of};
+ghost use Rattle.mate_code.specs.RowValue.{row_in};
 
 use crate::kind::Kind;
+use crate::row::Row;
 use mate_num::{BufId, FunId, VarId};
 
 /// One instruction. A number that names a variable, a buffer, a function or a place may be out of range:
@@ -198,10 +201,17 @@ impl Instr {
         }
     }
 
+    /// The row of the instruction's kind.
+    pub fn row(self) -> Row
+        ensures { row_in result ≡ row_of self }
+    {
+        self.kind().row()
+    }
+
     /// How many bytes the instruction takes, from 1 to 3.
     pub fn size(self) -> usize
         ensures { result ≡ size_of self }
     {
-        1 + self.kind().form().width()
+        1 + self.row().form.width()
     }
 }

@@ -1,7 +1,8 @@
 //! The kinds of instructions, in the order of their opcodes, and what comes after each opcode.
 
 ghost use Rattle.std.specs.Prelude.{◌≡◌, ◌<◌, length, IsSome, slice_get};
-ghost use Rattle.mate_code.specs.Kind.{form_of, width_of, kind_name, IsKindNamed};
+ghost use Rattle.mate_code.specs.Kind.{form_of, kind_name, IsKindNamed};
+ghost use Rattle.mate_code.specs.Row.{width_of};
 
 use crate::row::Opcode;
 use mate_num::{FunId, Name};

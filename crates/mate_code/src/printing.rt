@@ -3,8 +3,8 @@
 ghost use Rattle.std.specs.Prelude.{◌≡◌, ◌++◌, length, codes, decimal};
 ghost use Rattle.mate_files.specs.Sink.{Puts};
 ghost use Rattle.mate_files.specs.Pen.{Prints};
-ghost use Rattle.mate_code.specs.Kind.{IsKindNamed, form_of};
-ghost use Rattle.mate_code.specs.Instr.{kind_of, FitsForm};
+ghost use Rattle.mate_code.specs.Kind.{kind_of, IsKindNamed, form_of};
+ghost use Rattle.mate_code.specs.Instr.{FitsForm};
 ghost use Rattle.mate_code.specs.Table.{AreInTable};
 ghost use Rattle.mate_code.specs.Code.{instrs_of};
 ghost use Rattle.mate_code.specs.Listing.{listing_text, line, operand_text};

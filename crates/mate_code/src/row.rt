@@ -1,7 +1,8 @@
 //! The table of instructions: all that is said of a kind in one row. (What an instruction does is in the specs' `Effect`.)
 
 ghost use Rattle.std.specs.Prelude.{◌≡◌};
-ghost use Rattle.mate_code.specs.Row.{columns, row_of};
+ghost use Rattle.mate_code.specs.Row.{columns};
+ghost use Rattle.mate_code.specs.Kind.{kind_row};
 ghost use Rattle.mate_code.specs.RowValue.{row_in};
 
 use crate::kind::{Kind, OperandForm};
@@ -92,7 +93,7 @@ impl Kind {
     /// how many values it pops and pushes, where a run goes on, and what it names. A row by `plain` or `of_byte` leaves out
     /// the columns that all of its sort share.
     pub fn row(self) -> Row
-        ensures { row_in result ≡ row_of self }
+        ensures { row_in result ≡ kind_row self }
     {
         match self {
             Kind::Halt => columns(Base(0x00), "HALT", Absent, Values(0), 0, Ends, Nothing),

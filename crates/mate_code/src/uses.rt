@@ -28,7 +28,7 @@ impl Instr {
         ensures { result ≡ use_of self }
     {
         let number = self.operand();
-        match self.kind().row().access {
+        match self.row().access {
             Access::Nothing | Access::Private => Use::Nothing,
             Access::GetsVariable => Use::Gets(Resource::Shared(VarId(number as u8))),
             Access::SetsVariable => Use::Changes(Resource::Shared(VarId(number as u8))),

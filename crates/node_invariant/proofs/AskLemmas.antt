@@ -24,8 +24,8 @@ use Rattle.mate_num.specs.Operators.{sum_of, difference_of, product_of, quotient
 use Rattle.mate_code.specs.Run.{Code, fetch, Status, Going, Over, Stuck, Own, Run, asked, own_after_effect, effect_in, executed_at, step_at, step, after, begun_run, bound, end_of, code_run, whole_code_run}
 use Rattle.mate_code.specs.declared.decoding.DecodeFault.{DecodeFault}
 use Rattle.mate_code.specs.Code.{◌>>=◌, decoded, decoded_from, instr_at, operand_at}
-use Rattle.mate_code.specs.Instr.{kind_of, size_of}
-use Rattle.mate_code.specs.Kind.{form_of}
+use Rattle.mate_code.specs.Kind.{kind_of, form_of}
+use Rattle.mate_code.specs.Instr.{size_of}
 use Rattle.mate_code.specs.Table.{Layout, IsInTable, table_of}
 use Rattle.mate_code.proofs.OpcodeLemmas.{opcode_of-kind_at}
 use Rattle.mate_code.proofs.ReadLemmas.{kind_of-instr_of, instr_at_ok}

@@ -3,7 +3,8 @@ use Rattle.std.specs.Prelude.{ℕ, List, [], ◌∷◌, ◌++◌, map, codes, de
 use Rattle.std.specs.List.{flat_map, enumerate_from}
 use Rattle.mate_files.specs.Pen.{encode_lower}
 use Rattle.mate_code.specs.declared.kind.Kind.{Kind}
-use Rattle.mate_code.specs.Kind.{form_of, width_of, kind_name}
+use Rattle.mate_code.specs.Kind.{form_of, kind_name}
+use Rattle.mate_code.specs.Row.{width_of}
 use Rattle.mate_code.specs.Table.{table_of, kinds_of}
 use Rattle.vm_desc.specs.declared.description.Description.{Description}
 use Rattle.vm_desc.specs.Shapes.{shape_of}

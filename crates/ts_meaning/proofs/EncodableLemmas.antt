@@ -13,7 +13,8 @@ use Rattle.mate_num.specs.declared.shape.FunShape.{FunShape}
 use Rattle.mate_code.specs.declared.instr.Instr.{Instr}
 use Rattle.mate_code.specs.declared.instr.Instr.TheVariants as instr
 use Rattle.mate_code.specs.Code.{code_bytes}
-use Rattle.mate_code.specs.Instr.{kind_of, size_of}
+use Rattle.mate_code.specs.Kind.{kind_of}
+use Rattle.mate_code.specs.Instr.{size_of}
 use Rattle.mate_code.specs.Table.{Layout, table_of, IsInTable, AreInTable}
 use Rattle.mate_code.proofs.CodeLemmas.{length-code_bytes}
 use Rattle.ts_checked.specs.Expression.{Expression, Arguments, no_arguments, argument, Num, Shared, Private, Item, Size, MsgItem, MsgSize, Call, SendBuf, Neg, Not, Two}

@@ -1,8 +1,7 @@
 use Rattle.std.proofs.Common.{◌∙◌, ap}
 use Rattle.mate_files.proofs.PenLemmas.{◌⟫◌, Prints-by}
 use Rattle.mate_code.specs.declared.kind.OperandForm.{OperandForm}
-use Rattle.mate_code.specs.Kind.{form_of, kind_name}
-use Rattle.mate_code.specs.Instr.{kind_of}
+use Rattle.mate_code.specs.Kind.{kind_of, form_of, kind_name}
 use Rattle.mate_code.specs.Listing.{operand_text}
 use Rattle.mate_code.proofs.printing.print_line.Goals as goal
 

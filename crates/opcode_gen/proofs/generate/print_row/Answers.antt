@@ -1,6 +1,6 @@
 use Rattle.std.proofs.Common.{◌∙◌, ap, decimal}
 use Rattle.mate_files.proofs.PenLemmas.{◌⟫◌, Prints-by}
-use Rattle.mate_code.specs.Kind.{width_of}
+use Rattle.mate_code.specs.Row.{width_of}
 use Rattle.opcode_gen.proofs.generate.print_row.Goals as goal
 
 pub returns : goal.returns

@@ -1,6 +1,6 @@
 use Rattle.std.proofs.Common.{ap, sym}
 use Rattle.mate_code.specs.declared.kind.Kind.{Kind}
-use Rattle.mate_code.specs.Instr.{instr_of}
+use Rattle.mate_code.specs.Kind.{instr_of}
 use Rattle.mate_code.proofs.instr.Instr.of.Goals as goal
 
 pub returns-in-Halt : goal.returns-in-Halt

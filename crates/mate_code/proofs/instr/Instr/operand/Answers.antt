@@ -4,8 +4,8 @@ use Rattle.mate_num.specs.declared.id.FunId.{FunId}
 use Rattle.mate_num.specs.declared.id.VarId.{VarId}
 use Rattle.mate_code.specs.declared.instr.Instr.{Instr}
 use Rattle.mate_code.specs.declared.instr.Instr.TheVariants.{PushW, PushB, GetP, SetP, GetS, SetS, Jz, Jmp, Back, BGet, BSet, BAdd, BTake, BSize, BClear, FunBuf}
-use Rattle.mate_code.specs.Kind.{form_of}
-use Rattle.mate_code.specs.Instr.{kind_of, operand_of, instr_of, FitsForm}
+use Rattle.mate_code.specs.Kind.{kind_of, instr_of, form_of}
+use Rattle.mate_code.specs.Instr.{operand_of, FitsForm}
 use Rattle.mate_code.proofs.instr.Instr.operand.Goals as goal
 
 -- an operand and what is told of it
