@@ -36,6 +36,20 @@ impl Model for Verified {
 }
 
 impl Verified {
+    /// The same code again. It takes no memory.
+    pub fn copy(&self) -> Verified
+        ensures { result ≡ self.now }
+    {
+        let Ok(bytes) = Code::try_from(self.bytes.as_slice()) else {
+            unreachable!()
+        };
+        Verified {
+            shape: self.shape.copy(),
+            bytes,
+            instrs: self.instrs.copy(),
+        }
+    }
+
     /// The shape by which the code was verified.
     pub fn shape(&self) -> &Shape
         ensures value { result.now ≡ self.now.shape }

@@ -1,6 +1,5 @@
 -- What bytes are to a node that should install them: a capsule with right code, newer than what it holds; or the first refusal.
 use Rattle.std.specs.Prelude.{◌≡◌, ℕ, ◌<◌, ◌≤◌, List, Option, Some, None, Result, Ok, Err, MatchResult, IsSomeAnd, ⊤, length}
-use Rattle.arrayvec.specs.ArrayVec.{ArrayVec}
 use Rattle.mate_num.specs.declared.call.Stamp.{Stamp}
 use Rattle.mate_num.specs.declared.id.HandlerId.{HandlerId}
 use Rattle.capsule_codec.specs.declared.capsule.Capsule.{Capsule as DecodedCapsule}
@@ -17,7 +16,6 @@ use Rattle.mate_journal.specs.Machine.{HeldProgram}
 use Rattle.mate_journal.specs.Journal.{JournalEntry, NodeState, held}
 use Rattle.mate_journal.specs.NodeScript.{Installs}
 use Rattle.mate_journal.specs.Pace.{Pace}
-use Rattle.node_contexts.specs.Programs.{renewed}
 use Rattle.node_contexts.specs.declared.handlers.Held.{Held}
 use Rattle.node_invariant.specs.Meaning.{machine_in}
 use Rattle.node_invariant.specs.declared.parts.Parts.{Parts}
@@ -26,8 +24,10 @@ use Rattle.node_invariant.specs.Fits.{IsHeld, program_of}
 use Rattle.node_calls.specs.Calls.{RestsAgain, AtPace}
 use Rattle.node_calls.specs.declared.installing.InstallFault.{InstallFault}
 use Rattle.node_calls.specs.declared.installing.InstallFault.TheVariants.{Capsule, Code, NotNewer}
+use Rattle.node_calls.specs.declared.installing.Coming.{Coming}
+use Rattle.node_calls.specs.declared.installing.Coming.TheVariants.{Own, Shared}
 use Rattle.node_calls.specs.declared.installing.Installable.{Installable}
-use Rattle.node_calls.specs.declared.installing.LockedCode.{LockedCode}
+use Rattle.node_calls.specs.declared.ready.ReadyCapsule.{ReadyCapsule}
 
 -- the bytes are this capsule of the machine, and its code is verified
 pub record IsRightCapsule (d : Description) (bytes : List ℕ) (c : CapsuleParts) : Type 0 where
@@ -88,23 +88,17 @@ pub record IsInstallable (d : Description) (bytes : List ℕ) (i : Incoming) : T
   pub program : program_of i.handler i.held ≡ program_by capsule bytes
   pub handler : i.handler.0 < length d.handlers.items
 
--- what the handler holds with this version and this image, and with this code or that of what it held
-abbrev pub held_with : Option Held → ℕ → ArrayVec ℕ → Option LockedCode → Option Held
-held_with held version image None = renewed version image held
-held_with held version image (Some x) = Some (record { version = version; image = image; code = x.code; locks = x.locks })
+-- the program that comes, the node's own or a shared one
+abbrev pub coming_held : Coming → Held
+coming_held (Own x) = x
+coming_held (Shared x) = x
 
-abbrev pub holding_after : Option Held → Installable → Option Held
-holding_after held i = held_with held i.version i.image i.code
+abbrev pub incoming : Installable → Incoming
+incoming i = record { handler = i.handler; held = coming_held i.program }
 
--- the program that comes, as a journal has it
-abbrev pub comes : Installable → HeldProgram
-comes i = record { handler = i.handler; version = i.version; image = i.image }
-
--- with what the handler holds, this can be installed
-pub record CanInstall (d : Description) (bytes : List ℕ) (held : Option Held) (i : Installable) : Type 0 where
-  pub x : Held
-  pub after : holding_after held i ≡ Some x
-  pub can : IsInstallable d bytes (record { handler = i.handler; held = x })
+-- the bytes are the capsule that is ready
+abbrev pub IsReady : Description → List ℕ → ReadyCapsule → Type 0
+IsReady d bytes r = IsInstallable d bytes (record { handler = r.handler; held = r.program })
 
 -- what is held has this code
 abbrev pub HoldsCode : Option Held → List ℕ → Type 0

@@ -1,27 +1,28 @@
 //! Installs: a newer capsule replaces a handler's program, and an era begins.
 
-ghost use Rattle.std.specs.Prelude.{◌≡◌, ◌<◌, ◌≤◌, ◌∷◌, [], true, false, length, slice_set, Option, IsTrue};
+ghost use Rattle.std.specs.Prelude.{◌≡◌, ◌<◌, ◌≤◌, ◌∷◌, [], true, false, length, slice_set, Some, IfSome, IsTrue};
 ghost use Rattle.mate_journal.specs.Journal.{journal_of, Installed};
 ghost use Rattle.journal_laws.specs.Growth.{last_is_seen};
 ghost use Rattle.vm_desc.specs.Shapes.{shape_of};
 ghost use Rattle.code_verifier.specs.Verified.{IsVerificationOf};
 ghost use Rattle.node_contexts.specs.Programs.{held_at};
-ghost use Rattle.node_contexts.specs.declared.handlers.Held.{Held};
+ghost use Rattle.node_invariant.specs.Fits.{program_of};
 ghost use Rattle.node_invariant.specs.Keeps.{IsTimely};
 ghost use Rattle.node_invariant.specs.Meaning.{machine_in};
 ghost use Rattle.node_invariant.specs.Starting.{Rests};
 ghost use Rattle.node_calls.specs.Calls.{RestsAgain};
-ghost use Rattle.node_calls.specs.Installing.{CanInstall, HoldsCode, IsReadAs, InstallGives, comes, holding_after};
+ghost use Rattle.node_calls.specs.Installing.{HoldsCode, IsInstallable, IsReadAs, IsReady, InstallGives, coming_held, incoming};
 
 use crate::era::clear;
 use crate::posting::post_in;
+use crate::ready::ReadyCapsule;
 use crate::showing::seen_in;
 use capsule_codec::{Capsule, CapsuleFault, decode};
 use code_verifier::{Verified, VerifyFault, verify};
 use lock_inference::locks;
 use mate_code::Table;
-use mate_num::{HandlerId, Image, LockSet, Payload, Stamp};
-use node_contexts::{Handlers, Held};
+use mate_num::{HandlerId, Image, Payload, Stamp};
+use node_contexts::{Handlers, Held, SharedHeld};
 use node_invariant::Parts;
 use vm_desc::{Description, HandlerKind, shape};
 
@@ -36,20 +37,29 @@ pub enum InstallFault {
     NotNewer { held: u32 },
 }
 
-/// Verified code, with the locks that it takes.
+/// A program that comes to a handler: one of the node's own, or one that nodes share.
 #[derive(Drop)]
-struct LockedCode {
-    code: Verified,
-    locks: LockSet,
+enum Coming {
+    Own(Held),
+    Shared(SharedHeld),
 }
 
-/// A program that can be installed for the handler. Its code comes with it, unless it is the code that the handler holds.
+impl Coming {
+    fn held(&self) -> &Held
+        ensures { result.now ≡ coming_held self.now }
+    {
+        match self {
+            Coming::Own(held) => held,
+            Coming::Shared(shared) => shared.as_held(),
+        }
+    }
+}
+
+/// A program that can be installed for the handler.
 #[derive(Drop)]
 struct Installable {
     handler: HandlerId,
-    version: u32,
-    image: Image,
-    code: Option<LockedCode>,
+    program: Coming,
 }
 
 /// The bytes as an image.
@@ -67,22 +77,22 @@ fn image_in(description: &Description, bytes: &[u8], capsule: &Capsule) -> Image
 
 /// The program of the capsule that the bytes are, with its code.
 #[inline(never)]
-fn new_program(
+pub(crate) fn new_program(
     description: &Description,
     bytes: &[u8],
     capsule: &Capsule,
     code: Verified,
-) -> Installable
+) -> Held
     requires read { IsReadAs description.now bytes.now capsule.now }
     requires verified { IsVerificationOf (shape_of description.now) capsule.now.code.items code }
-    ensures { (held : Option Held) → CanInstall description.now bytes.now held result }
+    ensures { IsInstallable description.now bytes.now (record { handler = capsule.now.handler; held = result }) }
 {
     let locks = locks(description, &code);
-    Installable {
-        handler: capsule.handler,
+    Held {
         version: capsule.version,
         image: image_in(description, bytes, capsule),
-        code: Some(LockedCode { code, locks }),
+        code,
+        locks,
     }
 }
 
@@ -99,23 +109,20 @@ fn holds_code(parts: &Parts, capsule: &Capsule) -> bool
 /// The program of the capsule that the bytes are, whose code the handler holds. What was verified of the code, and its locks, are
 /// still right: they depend on the machine and the code alone.
 #[inline(never)]
-fn known_program(
-    description: &Description,
-    parts: &Parts,
-    bytes: &[u8],
-    capsule: &Capsule,
-) -> Installable
+fn known_program(description: &Description, parts: &Parts, bytes: &[u8], capsule: &Capsule) -> Held
     requires rests { Rests description.now parts.now }
     requires read { IsReadAs description.now bytes.now capsule.now }
     requires known { HoldsCode (held_at parts.now.handlers.programs capsule.now.handler) capsule.now.code.items }
-    ensures { CanInstall description.now bytes.now (held_at parts.now.handlers.programs result.handler) result }
+    ensures { IsInstallable description.now bytes.now (record { handler = capsule.now.handler; held = result }) }
 {
-    let _parts = parts;
-    Installable {
-        handler: capsule.handler,
+    let Some(held) = parts.handlers.get(capsule.handler) else {
+        unreachable!()
+    };
+    Held {
         version: capsule.version,
         image: image_in(description, bytes, capsule),
-        code: None,
+        code: held.code.copy(),
+        locks: held.locks,
     }
 }
 
@@ -123,26 +130,12 @@ fn known_program(
 #[inline(never)]
 fn put(handlers: &mut Handlers, program: Installable)
     requires { program.handler.0 < length handlers.old.programs }
-    ensures { handlers.new.programs ≡ slice_set handlers.old.programs program.handler.0
-        (holding_after (held_at handlers.old.programs program.handler) program) }
+    ensures { handlers.new.programs ≡ slice_set handlers.old.programs program.handler.0 (Some (coming_held program.program)) }
 {
-    let Installable {
-        handler,
-        version,
-        image,
-        code,
-    } = program;
-    match code {
-        Some(LockedCode { code, locks }) => handlers.install(
-            handler,
-            Held {
-                version,
-                image,
-                code,
-                locks,
-            },
-        ),
-        None => handlers.renew(handler, version, &image),
+    let Installable { handler, program } = program;
+    match program {
+        Coming::Own(held) => handlers.install(handler, held),
+        Coming::Shared(shared) => handlers.share(handler, shared),
     }
 }
 
@@ -160,14 +153,16 @@ fn begin(
     requires room { 1 ≤ parts.old.log.all.spare }
     requires few { length parts.old.log.all.entries < 4100000000 }
     requires seen { last_is_seen false (journal_of parts.old.log.all) ≡ true }
-    requires can { CanInstall description.now bytes.now (held_at parts.old.handlers.programs program.handler) program }
-    ensures again { RestsAgain description.now parts.old parts.new at (λ told. told ≡ Installed (comes program) ∷ []) }
+    requires can { IsInstallable description.now bytes.now (incoming program) }
+    ensures again { RestsAgain description.now parts.old parts.new at
+        (λ told. told ≡ Installed (program_of program.handler (coming_held program.program)) ∷ []) }
     ensures gone { parts.new.log.gone ≡ parts.old.log.gone }
 {
     let _bytes = bytes;
+    let held = program.program.held();
     parts
         .log
-        .push_install(at, program.handler, program.version, &program.image);
+        .push_install(at, program.handler, held.version, &held.image);
     clear(description, parts);
     put(&mut parts.handlers, program);
 }
@@ -196,13 +191,13 @@ fn install_program(
     requires timely { IsTimely at parts.old.log.all }
     requires room { 4 ≤ parts.old.log.all.spare }
     requires few { length parts.old.log.all.entries < 4000000000 }
-    requires can { CanInstall description.now bytes.now (held_at parts.old.handlers.programs program.handler) program }
+    requires can { IsInstallable description.now bytes.now (incoming program) }
     ensures installs { InstallGives description.now parts.old parts.new bytes.now at result }
     ensures gone { parts.new.log.gone ≡ parts.old.log.gone }
 {
     let handler = program.handler;
     let held = parts.handlers.version(handler);
-    if program.version <= held {
+    if program.program.held().version <= held {
         return Err(InstallFault::NotNewer { held });
     }
     seen_in(description, parts, at);
@@ -213,8 +208,33 @@ fn install_program(
     Ok(())
 }
 
-/// Installs the program of the capsule that the bytes are, if it is newer than what the node holds. A program is large: each
-/// call that moves it or its code is in a function of its own, so that the stack holds few copies at once.
+/// Installs a program of the node's own, if it is newer than what the node holds. A program is large: each call that moves it or its
+/// code is in a function of its own, so that the stack holds few copies at once.
+#[inline(never)]
+fn install_own(
+    description: &Description,
+    parts: &mut Parts,
+    bytes: &[u8],
+    handler: HandlerId,
+    held: Held,
+    at: Stamp,
+) -> Result<(), InstallFault>
+    requires rests { Rests description.now parts.old }
+    requires timely { IsTimely at parts.old.log.all }
+    requires room { 4 ≤ parts.old.log.all.spare }
+    requires few { length parts.old.log.all.entries < 4000000000 }
+    requires can { IsInstallable description.now bytes.now (record { handler = handler; held = held }) }
+    ensures installs { InstallGives description.now parts.old parts.new bytes.now at result }
+    ensures gone { parts.new.log.gone ≡ parts.old.log.gone }
+{
+    let program = Installable {
+        handler,
+        program: Coming::Own(held),
+    };
+    install_program(description, parts, bytes, program, at)
+}
+
+/// Installs the program of the capsule that the bytes are, if it is newer than what the node holds.
 #[inline(never)]
 fn install_code(
     description: &Description,
@@ -233,8 +253,8 @@ fn install_code(
     ensures installs { InstallGives description.now parts.old parts.new bytes.now at result }
     ensures gone { parts.new.log.gone ≡ parts.old.log.gone }
 {
-    let program = new_program(description, bytes, capsule, code);
-    install_program(description, parts, bytes, program, at)
+    let held = new_program(description, bytes, capsule, code);
+    install_own(description, parts, bytes, capsule.handler, held, at)
 }
 
 /// Installs the capsule of the machine that the bytes are for its handler, if it is newer than what the node holds: the store
@@ -261,12 +281,58 @@ pub fn install_in(
         Err(fault) => return Err(InstallFault::Capsule(*fault)),
     };
     if holds_code(parts, capsule) {
-        let program = known_program(description, parts, bytes, capsule);
-        return install_program(description, parts, bytes, program, at);
+        let held = known_program(description, parts, bytes, capsule);
+        return install_own(description, parts, bytes, capsule.handler, held, at);
     }
     let table = Table::of(&shape(description));
     match verify(&table, description, capsule.code.as_slice()) {
         Ok(code) => install_code(description, parts, bytes, capsule, code, at),
         Err(fault) => Err(InstallFault::Code(fault)),
+    }
+}
+
+/// Installs the capsule that is ready, if it is newer than what the node holds. Its program stays in its one place.
+fn install_ready(
+    description: &Description,
+    parts: &mut Parts,
+    bytes: &[u8],
+    ready: ReadyCapsule,
+    at: Stamp,
+) -> Result<(), InstallFault>
+    requires rests { Rests description.now parts.old }
+    requires timely { IsTimely at parts.old.log.all }
+    requires room { 4 ≤ parts.old.log.all.spare }
+    requires few { length parts.old.log.all.entries < 4000000000 }
+    requires ready { IsReady description.now bytes.now ready }
+    ensures installs { InstallGives description.now parts.old parts.new bytes.now at result }
+    ensures gone { parts.new.log.gone ≡ parts.old.log.gone }
+{
+    let ReadyCapsule { handler, program } = ready;
+    let program = Installable {
+        handler,
+        program: Coming::Shared(program),
+    };
+    install_program(description, parts, bytes, program, at)
+}
+
+/// Installs the capsule that the bytes are, as `install_in` does. If it is ready, it needs no more than its place.
+pub fn install_shared(
+    description: &Description,
+    parts: &mut Parts,
+    bytes: &[u8],
+    ready: Option<ReadyCapsule>,
+    at: Stamp,
+) -> Result<(), InstallFault>
+    requires rests { Rests description.now parts.old }
+    requires timely { IsTimely at parts.old.log.all }
+    requires room { 4 ≤ parts.old.log.all.spare }
+    requires few { length parts.old.log.all.entries < 4000000000 }
+    requires ready { IfSome ready (IsReady description.now bytes.now) }
+    ensures installs { InstallGives description.now parts.old parts.new bytes.now at result }
+    ensures gone { parts.new.log.gone ≡ parts.old.log.gone }
+{
+    match ready {
+        Some(ready) => install_ready(description, parts, bytes, ready, at),
+        None => install_in(description, parts, bytes, at),
     }
 }

@@ -8,14 +8,16 @@ pub mod answering;
 pub mod era;
 pub mod installing;
 pub mod posting;
+pub mod ready;
 pub mod running;
 pub mod showing;
 pub mod turns;
 
 pub use answering::answer_in;
 pub use era::reset_in;
-pub use installing::{InstallFault, install_in};
+pub use installing::{InstallFault, install_in, install_shared};
 pub use posting::{PostAnswer, post_in};
+pub use ready::ReadyCapsule;
 pub use running::run_some;
 pub use showing::{seen_in, void_in};
 pub use turns::{settle, take_turn};

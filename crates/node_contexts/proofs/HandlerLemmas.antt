@@ -1,13 +1,14 @@
--- What is held where no place has a program.
-use Rattle.std.proofs.Common.{◌≡◌, ℕ, ◌+◌, ◌<◌, ◌≤◌, inl, inr, length, length-append, List, [], ◌∷◌, ◌++◌, Option, None, refl, sym, ap, ◌∙◌, subst, arith}
+-- What is held where no place has a program, and where own and shared ones are.
+use Rattle.std.proofs.Common.{◌≡◌, ℕ, ◌+◌, ◌<◌, ◌≤◌, inl, inr, length, length-append, List, [], ◌∷◌, ◌++◌, Option, Some, None, zero, suc, refl, sym, ap, ◌∙◌, subst, arith, get_or, set}
 use Rattle.std.specs.Prelude.{◌⊎◌}
 use Rattle.std.specs.List.{All}
+use Rattle.std.specs.Option.{option_or}
 use Rattle.std.proofs.lemmas.Bool.{cases_lt}
 use Rattle.std.proofs.lemmas.List.{get_or_past}
 use Rattle.std.proofs.lemmas.List.Elements.{All-get_or, All-push}
 use Rattle.mate_num.specs.declared.id.HandlerId.{HandlerId}
 use Rattle.node_contexts.specs.declared.handlers.Held.{Held}
-use Rattle.node_contexts.specs.Programs.{held_at}
+use Rattle.node_contexts.specs.Programs.{held_at, held_either}
 
 pub nothing-held : (programs : List (Option Held)) → All (λ (held : Option Held). held ≡ None) programs → (h : HandlerId) → held_at programs h ≡ None
 nothing-held programs none h = by (cases_lt h.0 (length programs)) where
@@ -33,3 +34,39 @@ pub nothing-more : (old new : List (Option Held)) → new ≡ old ++ None ∷ []
 nothing-more old new is none =
     let P : List (Option Held) → Type 0 = λ l. All (λ (held : Option Held). held ≡ None) l in
     subst P (sym is) (All-push (λ (held : Option Held). held ≡ None) old None none refl)
+
+-- ---- own programs and shared ones
+
+pub either-length : (own shared : List (Option Held)) → length (held_either own shared) ≡ length shared
+either-length [] shared = refl
+either-length (x ∷ own) [] = refl
+either-length (x ∷ own) (y ∷ shared) = let e = either-length own shared in omega arith
+
+pub either-at : (own shared : List (Option Held)) (k : ℕ) → length own ≤ length shared → get_or (held_either own shared) k None ≡ option_or (get_or own k None) (get_or shared k None)
+either-at [] shared k within = refl
+either-at (x ∷ own) [] k within = absurd (omega arith)
+either-at (x ∷ own) (y ∷ shared) zero within = refl
+either-at (x ∷ own) (y ∷ shared) (suc k) within = either-at own shared k (omega arith)
+
+-- a place more, without a program
+pub either-none : (own shared : List (Option Held)) → held_either (own ++ None ∷ []) shared ≡ held_either own shared
+either-none [] [] = refl
+either-none [] (y ∷ shared) = refl
+either-none (x ∷ own) [] = refl
+either-none (x ∷ own) (y ∷ shared) = ap (λ (l : List (Option Held)). option_or x y ∷ l) (either-none own shared)
+
+-- one comes to a place that was made, and what was shared there is no more
+pub either-install : (own shared : List (Option Held)) (k : ℕ) (x : Held) → k < length own → held_either (set own k (Some x)) (set shared k None) ≡ set (held_either own shared) k (Some x)
+either-install [] shared k x below = absurd (omega arith)
+either-install (a ∷ own) [] zero x below = refl
+either-install (a ∷ own) [] (suc k) x below = refl
+either-install (a ∷ own) (b ∷ shared) zero x below = refl
+either-install (a ∷ own) (b ∷ shared) (suc k) x below = ap (λ (l : List (Option Held)). option_or a b ∷ l) (either-install own shared k x (omega arith))
+
+-- one is shared, and the place has none of its own
+pub either-share : (own shared : List (Option Held)) (k : ℕ) (x : Held) → held_either (set own k None) (set shared k (Some x)) ≡ set (held_either own shared) k (Some x)
+either-share [] shared k x = refl
+either-share (a ∷ own) [] zero x = refl
+either-share (a ∷ own) [] (suc k) x = refl
+either-share (a ∷ own) (b ∷ shared) zero x = refl
+either-share (a ∷ own) (b ∷ shared) (suc k) x = ap (λ (l : List (Option Held)). option_or a b ∷ l) (either-share own shared k x)

@@ -1,12 +1,27 @@
 -- What is held for each handler.
-use Rattle.std.specs.Prelude.{ℕ, List, Option, Some, None, slice_index_or}
-use Rattle.arrayvec.specs.ArrayVec.{ArrayVec}
+use Rattle.std.specs.Prelude.{◌≡◌, ◌≤◌, ℕ, List, [], ◌∷◌, Option, Some, None, slice_index_or}
+use Rattle.std.specs.Option.{option_or}
 use Rattle.mate_num.specs.declared.id.HandlerId.{HandlerId}
 use Rattle.node_contexts.specs.declared.handlers.Held.{Held}
 
 -- what is held for the handlers, by their numbers
 pub record HeldPrograms : Type 0 where
   pub programs : List (Option Held)
+
+-- of each handler its own program, or else the shared one: there may be places for fewer handlers among the own ones
+abbrev pub held_either : List (Option Held) → List (Option Held) → List (Option Held)
+held_either [] shared = shared
+held_either (x ∷ own) [] = []
+held_either (x ∷ own) (y ∷ shared) = option_or x y ∷ held_either own shared
+
+-- more places of its own, none with a program
+abbrev pub HaveSame : List (Option Held) → List (Option Held) → Type 0
+HaveSame own more = (shared : List (Option Held)) → held_either more shared ≡ held_either own shared
+
+-- so many places of its own were made, there is room for so many, and there are so many handlers
+pub record HavePlaces (made room handlers : ℕ) : Type 0 where
+  pub within : made ≤ handlers
+  pub room_is : handlers ≤ room
 
 abbrev pub Programs : Type 0
 Programs = HandlerId → Option Held
@@ -19,8 +34,3 @@ held_at programs h = slice_index_or programs h.0 None
 abbrev pub held_version_in : Option Held → ℕ
 held_version_in None = 0
 held_version_in (Some x) = x.version
-
--- what is held, with another version and another image, and with its code and locks
-abbrev pub renewed : ℕ → ArrayVec ℕ → Option Held → Option Held
-renewed version image None = None
-renewed version image (Some x) = Some (record x { version = version; image = image })

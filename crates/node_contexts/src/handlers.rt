@@ -1,9 +1,11 @@
 //! What is installed for each handler.
 
-ghost use Rattle.std.specs.Prelude.{◌≡◌, ◌<◌, Some, None, length, slice_set, IfOk};
+ghost use Rattle.std.specs.Prelude.{◌≡◌, ◌<◌, ◌≤◌, Some, None, length, slice_index_or, slice_set, max, vec_capacity, IfOk};
 ghost use Rattle.std.specs.Option.{option_copied};
 ghost use Rattle.mate_num.specs.declared.id.HandlerId.{HandlerId as Handler};
+ghost use Rattle.node_contexts.specs.Programs.{HaveSame};
 
+use crate::shared::SharedHeld;
 use code_verifier::Verified;
 use mate_num::{HandlerId, Image, LockSet, NoMemory};
 use std::alloc::Global;
@@ -20,43 +22,72 @@ pub struct Held {
 
 /// The program of each handler. Contracts see the list of them.
 ///
-/// Programs are large, so they are on the heap; each handler has its place there from the start, so that an install takes
-/// no memory.
+/// A program is one of the node's own, or one that nodes share. Programs are large, so they are on the heap; there is room for
+/// one of its own for each handler from the start, so that an install takes no memory, but no place of it is written before
+/// a program comes there, or behind it.
 #[derive(Drop)]
 pub struct Handlers {
-    programs: Vec<Option<Held>>,
+    own: Vec<Option<Held>>,
+    /// What is shared, at each handler that has no program of its own.
+    shared: Vec<Option<SharedHeld>>,
 }
 
 impl Model for Handlers {
-    ghost use Rattle.node_contexts.specs.Programs.{HeldPrograms};
+    ghost use Rattle.std.specs.Prelude.{length, vec_capacity};
+    ghost use Rattle.node_contexts.specs.Programs.{HeldPrograms, HavePlaces, held_either};
 
     ghost Value = { HeldPrograms };
 
-    ghost view = { λ h. record { programs = h.programs.items } };
+    ghost view = { λ h. record { programs = held_either h.own.items h.shared.items } };
+
+    ghost invariant = { λ h. HavePlaces (length h.own.items) (vec_capacity h.own) (length h.shared.items) };
+}
+
+/// The node's own program at the place.
+fn own_at(own: &Vec<Option<Held>>, place: usize) -> Option<&Held>
+    ensures { option_copied result ≡ slice_index_or own.now.items place None }
+{
+    match own.get(place) {
+        Some(held) => held.as_ref(),
+        None => None,
+    }
+}
+
+/// The shared program at the place.
+fn shared_at(shared: &Vec<Option<SharedHeld>>, place: usize) -> Option<&Held>
+    ensures { option_copied result ≡ slice_index_or shared.now.items place None }
+{
+    match shared.get(place) {
+        Some(Some(held)) => Some(held.as_held()),
+        Some(None) => None,
+        None => None,
+    }
 }
 
 impl Handlers {
-    ghost use Rattle.node_contexts.specs.Programs.{held_at, renewed, held_version_in};
+    ghost use Rattle.node_contexts.specs.Programs.{held_at, held_version_in};
 
     /// Places for this number of handlers, with nothing installed. No other call takes memory.
     pub fn new(alloc: Global, count: usize) -> Result<Handlers, NoMemory>
         ensures none { IfOk result (λ handlers. (h : Handler) → held_at handlers.programs h ≡ None) }
         ensures places { IfOk result (λ handlers. length handlers.programs ≡ count) }
     {
-        let mut programs = Vec::with_capacity(alloc, count)?;
+        let own = Vec::with_capacity(alloc, count)?;
+        let mut shared = Vec::with_capacity(alloc, count)?;
         for _place in 0..count {
-            programs.push(None)?;
+            shared.push(None)?;
         }
-        Ok(Handlers { programs })
+        Ok(Handlers { own, shared })
     }
 
     /// What is installed for the handler; None also for a number of no handler.
     pub fn get(&self, handler: HandlerId) -> Option<&Held>
         ensures { option_copied result ≡ held_at self.now.programs handler }
     {
-        match self.programs.get(usize::from(handler.0)) {
-            Some(held) => held.as_ref(),
-            None => None,
+        let place = usize::from(handler.0);
+        match own_at(&self.own, place) {
+            Some(held) => Some(held),
+            None => shared_at(&self.shared, place),
         }
     }
 
@@ -65,22 +96,20 @@ impl Handlers {
         requires { handler.0 < length self.old.programs }
         ensures { self.new.programs ≡ slice_set self.old.programs handler.0 (Some held) }
     {
-        self.programs[usize::from(handler.0)] = Some(held);
+        let place = usize::from(handler.0);
+        reach(&mut self.own, place + 1);
+        self.own[place] = Some(held);
+        self.shared[place] = None;
     }
 
-    /// Gives what is installed for the handler, if anything is, this version and this image. Its code and its locks stay.
-    pub fn renew(&mut self, handler: HandlerId, version: u32, image: &Image)
+    /// Installs the shared program in place of the one that was.
+    pub fn share(&mut self, handler: HandlerId, program: SharedHeld)
         requires { handler.0 < length self.old.programs }
-        ensures { self.new.programs ≡ slice_set self.old.programs handler.0
-            (renewed version image.now (held_at self.old.programs handler)) }
+        ensures { self.new.programs ≡ slice_set self.old.programs handler.0 (Some program) }
     {
-        if let Some(held) = &mut self.programs[usize::from(handler.0)] {
-            let Ok(image) = Image::try_from(image.as_slice()) else {
-                unreachable!()
-            };
-            held.version = version;
-            held.image = image;
-        }
+        let place = usize::from(handler.0);
+        leave(&mut self.own, place);
+        self.shared[place] = Some(program);
     }
 
     /// The version that is installed for the handler, 0 for none.
@@ -91,5 +120,28 @@ impl Handlers {
             Some(held) => held.version,
             None => 0,
         }
+    }
+}
+
+/// Makes places without a program behind the others, until there are so many. It takes no memory.
+fn reach(own: &mut Vec<Option<Held>>, count: usize)
+    requires { count ≤ vec_capacity own.old }
+    ensures same { HaveSame own.old.items own.new.items }
+    ensures reached { count ≤ length own.new.items }
+    ensures few { length own.new.items ≤ max count (length own.old.items) }
+    ensures capacity { vec_capacity own.new ≡ vec_capacity own.old }
+{
+    while own.len() < count {
+        own.push_reserved(None);
+    }
+}
+
+/// The place has no program, if it is there.
+fn leave(own: &mut Vec<Option<Held>>, place: usize)
+    ensures items { own.new.items ≡ slice_set own.old.items place None }
+    ensures capacity { vec_capacity own.new ≡ vec_capacity own.old }
+{
+    if place < own.len() {
+        own[place] = None;
     }
 }

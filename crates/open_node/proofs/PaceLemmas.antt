@@ -18,7 +18,7 @@ use Rattle.open_node.specs.Inside.{entry_of, view_of}
 
 -- a node with these fields, as it is seen
 abbrev pub seen_as : Description → Parts → NodeView
-seen_as d s = view_of (record { description = d; parts = s })
+seen_as d s = view_of (record { machine = d; parts = s })
 
 entry-at : (xs : List (Option Seat)) (k : ℕ) → slice_index_or (map entry_of xs) k (0, 0) ≡ entry_of (slice_index_or xs k None)
 entry-at [] k = refl

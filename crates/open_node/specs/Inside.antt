@@ -12,7 +12,7 @@ entry_of o = (number_at o, seat_count o)
 
 abbrev pub view_of : Inside → NodeView
 view_of n = record {
-  description = n.description;
+  description = n.machine;
   log = n.parts.log.all;
   gone = n.parts.log.gone;
   line = map (invocation_in n.parts.contexts) n.parts.contexts.ring;
@@ -21,4 +21,4 @@ view_of n = record {
 
 -- what each node keeps: it rests
 pub record IsResting (n : Inside) : Type 0 where
-  pub rests : Rests n.description n.parts
+  pub rests : Rests n.machine n.parts

@@ -1,4 +1,6 @@
 pub mod View
+pub mod Machines
+pub mod Start
 pub mod Inside
 pub mod Journal
 pub mod Calls

@@ -14,7 +14,7 @@ use crate::open_node::OpenNode;
 use mate_journal::VoidCause;
 use mate_num::{ContextId, HandlerId, Payload, Stamp};
 use node_calls::{
-    InstallFault, PostAnswer, answer_in, install_in, post_in, reset_in, seen_in, void_in,
+    InstallFault, PostAnswer, answer_in, install_shared, post_in, reset_in, seen_in, void_in,
 };
 use split_phase::NotWaiting;
 
@@ -33,7 +33,7 @@ impl OpenNode {
         ensures { Tells self.old self.new at
             (Pacing (λ _. PostGives (machine_in self.old.description) (heard_of self.old) handler payload.now result)) }
     {
-        post_in(&self.description, &mut self.parts, handler, payload, at)
+        post_in(self.machine.description(), &mut self.parts, handler, payload, at)
     }
 
     /// Gives the invocation that waits in the context the answer to its call: it is ready, with its turn after all others.
@@ -46,7 +46,7 @@ impl OpenNode {
             (λ _. Tells self.old self.new at (Pacing (λ _. AnswersCall (heard_of self.old) ctx value)))
             (λ _. NobodyWaits (heard_of self.old) ctx × (self.new ≡ self.old)) }
     {
-        answer_in(&self.description, &mut self.parts, ctx, value, at)
+        answer_in(self.machine.description(), &mut self.parts, ctx, value, at)
     }
 
     /// Installs the capsule, and begins an era: live invocations are cut, variables are 0 and buffers empty. A handler that
@@ -60,7 +60,9 @@ impl OpenNode {
             (λ _. Tells self.old self.new at (Pacing (InstallsBytes self.old.description (heard_of self.old) bytes.now)))
             (λ fault. Refuses self.old.description (heard_of self.old) bytes.now fault × (self.new ≡ self.old)) }
     {
-        install_in(&self.description, &mut self.parts, bytes, at)
+        let ready = self.machine.ready(bytes);
+        let description = self.machine.description();
+        install_shared(description, &mut self.parts, bytes, ready, at)
     }
 
     /// Begins an era as an install does, but what is installed stays, and nothing is posted.
@@ -71,7 +73,7 @@ impl OpenNode {
         ensures { Tells self.old self.new at
             (Pacing (Resets (machine_in self.old.description) (heard_of self.old))) }
     {
-        reset_in(&self.description, &mut self.parts, at);
+        reset_in(self.machine.description(), &mut self.parts, at);
     }
 
     /// Records the shared variables and buffers as they are.
@@ -82,7 +84,7 @@ impl OpenNode {
         ensures { Tells self.old self.new at
             (Pacing (ShowsOnce (machine_in self.old.description) (heard_of self.old))) }
     {
-        seen_in(&self.description, &mut self.parts, at);
+        seen_in(self.machine.description(), &mut self.parts, at);
     }
 
     /// Records that a step could do nothing, and why.
@@ -91,6 +93,6 @@ impl OpenNode {
         requires room { 1 ≤ self.old.log.spare }
         ensures { Tells self.old self.new at (Pacing (λ _ told. told ≡ Void cause ∷ [])) }
     {
-        void_in(&self.description, &mut self.parts, cause, at);
+        void_in(self.machine.description(), &mut self.parts, cause, at);
     }
 }

@@ -3,7 +3,9 @@
 
 pub mod calls;
 pub mod open_node;
+pub mod shared_machine;
 pub mod standing;
 
 pub use open_node::OpenNode;
+pub use shared_machine::SharedMachine;
 pub use standing::{Asked, NotReady, Standing};

@@ -16,7 +16,9 @@ ghost use Rattle.mate_journal.specs.OpenLog.{nothing_gone, gone_of, IsKept};
 ghost use Rattle.mate_journal.specs.Tidy.{IsEntryInRange};
 ghost use Rattle.mate_journal.specs.declared.entry.Stamped.{Stamped as Entered};
 ghost use Rattle.open_node.specs.Journal.{KeepsJournal};
+ghost use Rattle.open_node.specs.Start.{AreNewParts};
 
+use crate::shared_machine::SharedMachine;
 use crate::standing::{Asked, NotReady, Standing};
 use journal_laws::asks_devices_in_order;
 use mate_journal::{NodeLog, OpenLog, Stamped};
@@ -35,14 +37,14 @@ use vm_desc::Description;
 /// Each call that takes a stamp has the conditions that neither the event nor the time of the stamp is below those of the
 /// last entry, that the time is the last entry's if the event is, and that there is room for the entries.
 pub struct OpenNode {
-    pub(crate) description: Description,
+    pub(crate) machine: SharedMachine,
     pub(crate) parts: Parts,
 }
 
 impl Drop for OpenNode {
     fn drop(self) {
         let OpenNode {
-            description: _description,
+            machine: _machine,
             parts: _parts,
         } = self;
     }
@@ -70,6 +72,22 @@ fn keeps_journal(description: &Description, parts: &Parts)
     asks_devices_in_order();
 }
 
+/// The parts of a node at its start.
+fn new_parts(alloc: Global, description: &Description) -> Result<Parts, NoMemory>
+    ensures { IfOk result (AreNewParts description.now) }
+{
+    Ok(Parts {
+        heap: Heap::new(
+            description.shared.len() as u8,
+            description.buffers.len() as u8,
+        ),
+        contexts: Contexts::new(alloc)?,
+        handlers: Handlers::new(alloc, description.handlers.len())?,
+        posts: 0,
+        log: OpenLog::new(alloc),
+    })
+}
+
 impl OpenNode {
     ghost use Rattle.open_node.specs.View.{heard_of, HasPace, Tells, IsSameNode};
     ghost use Rattle.open_node.specs.Calls.{HasStepped, IsNoneReady, StandsAs, IsAsked, IsImageOf, TellFrom};
@@ -79,19 +97,16 @@ impl OpenNode {
         ensures { IfOk result (λ made. (made.description ≡ description.now) × IsEmpty made.log × HasPace made no_pace
             × (made.gone ≡ nothing_gone)) }
     {
-        Ok(OpenNode {
-            description: description.copy(),
-            parts: Parts {
-                heap: Heap::new(
-                    description.shared.len() as u8,
-                    description.buffers.len() as u8,
-                ),
-                contexts: Contexts::new(alloc)?,
-                handlers: Handlers::new(alloc, description.handlers.len())?,
-                posts: 0,
-                log: OpenLog::new(alloc),
-            },
-        })
+        OpenNode::on(alloc, SharedMachine::new(alloc, description)?)
+    }
+
+    /// Such a node of a machine that nodes share.
+    pub fn on(alloc: Global, machine: SharedMachine) -> Result<OpenNode, NoMemory>
+        ensures { IfOk result (λ made. (made.description ≡ machine) × IsEmpty made.log × HasPace made no_pace
+            × (made.gone ≡ nothing_gone)) }
+    {
+        let parts = new_parts(alloc, machine.description())?;
+        Ok(OpenNode { machine, parts })
     }
 
     /// Makes room for n more entries. `NoMemory` leaves all of the node but its room as it was.
@@ -125,7 +140,7 @@ impl OpenNode {
         if !self.parts.contexts.is_ready(ctx) {
             return Err(NotReady);
         }
-        Ok(take_turn(&self.description, &mut self.parts, at, ctx, n))
+        Ok(take_turn(self.machine.description(), &mut self.parts, at, ctx, n))
     }
 
     /// Turns of the description's quantum follow one another, each to the invocation that is longest without one, until
@@ -136,7 +151,7 @@ impl OpenNode {
         ensures { Tells self.old self.new at (SettlesWithin (machine_in self.old.description)
             ((self.old.description.turns + 1) * CODE_MAX) (heard_of self.old)) }
     {
-        settle(&self.description, &mut self.parts, at);
+        settle(self.machine.description(), &mut self.parts, at);
     }
 
     /// Whether an invocation is ready.
@@ -223,7 +238,7 @@ impl OpenNode {
         ensures kept { IsKept (record { all = self.now.log; gone = self.now.gone }) result.now }
         ensures keeps { KeepsJournal self.now.description (machine_in self.now.description) self.now.log }
     {
-        keeps_journal(&self.description, &self.parts);
+        keeps_journal(self.machine.description(), &self.parts);
         self.parts.log.kept()
     }
 
@@ -246,7 +261,7 @@ impl OpenNode {
         ensures same { result.now ≡ self.now.log }
         ensures keeps { KeepsJournal self.now.description (machine_in self.now.description) self.now.log }
     {
-        keeps_journal(&self.description, &self.parts);
+        keeps_journal(self.machine.description(), &self.parts);
         self.parts.log.whole()
     }
 
@@ -256,9 +271,9 @@ impl OpenNode {
         ensures same { result ≡ self.log }
         ensures keeps { KeepsJournal self.description (machine_in self.description) self.log }
     {
-        keeps_journal(&self.description, &self.parts);
+        keeps_journal(self.machine.description(), &self.parts);
         let OpenNode {
-            description: _description,
+            machine: _machine,
             parts,
         } = self;
         parts.log.into_whole()

@@ -20,12 +20,11 @@ use crate::effect::Effect;
 use capsule_exchange::Exchange;
 use mate_journal::Air;
 use mate_num::{ContextId, HandlerId, Image, NoMemory, Payload, Stamp};
-use open_node::OpenNode;
+use open_node::{OpenNode, SharedMachine};
 use packet_codec::Packet;
 use sim_air::Calls;
 use std::alloc::Global;
 use trickle_timer::{Fire, Trickle};
-use vm_desc::Description;
 
 /// A node of a world.
 #[derive(Drop)]
@@ -40,12 +39,18 @@ pub struct Mote {
 
 impl Mote {
     /// A node at the start of a world whose random streams begin at `random`.
-    pub fn new(alloc: Global, desc: &Description, random: u64, node: u8) -> Result<Mote, NoMemory>
+    pub fn new(
+        alloc: Global,
+        machine: &SharedMachine,
+        random: u64,
+        node: u8,
+    ) -> Result<Mote, NoMemory>
         requires { node < NODES_MAX }
-        ensures { IfOk result (BeginsMote desc.now random node) }
+        ensures { IfOk result (BeginsMote machine.now random node) }
     {
+        let desc = machine.description();
         Ok(Mote {
-            node: OpenNode::new(alloc, desc)?,
+            node: OpenNode::on(alloc, machine.share()?)?,
             timer: Trickle::start(desc.trickle, random, node, 0),
             exchange: Exchange::new(alloc, desc.handlers.len() as u8)?,
             pumps: false,

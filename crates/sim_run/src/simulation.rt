@@ -22,9 +22,9 @@ ghost use Rattle.sim_run.specs.Keeping.{IsWhole, IsFew, LetsGo, LetsGoAsTold};
 ghost use Rattle.sim_run.specs.Telling.{LogsAreKept};
 
 use journal_laws::air_is_in_range_from;
-use mate_journal::{NodeLog, RECORDS_MAX};
+use mate_journal::{NodeLog, Programs, RECORDS_MAX};
 use mate_num::NoMemory;
-use open_node::OpenNode;
+use open_node::{OpenNode, SharedMachine};
 use packet_codec::Packet;
 use radio_sim::{Event, Radio};
 use sim_air::{begin_node, schedule_lines};
@@ -51,8 +51,13 @@ pub struct Simulation {
 
 impl Simulation {
     /// The world before its first event: the lines of the script are due, and for each node the point and the end of its
-    /// first interval and its first periods.
-    pub fn start(alloc: Global, desc: &Description, world: &World) -> Result<Simulation, NoMemory>
+    /// first interval and its first periods. The nodes share the machine, and the programs that they will install.
+    pub fn start(
+        alloc: Global,
+        desc: &Description,
+        world: &World,
+        programs: &Programs,
+    ) -> Result<Simulation, NoMemory>
         requires { IsRightWorld desc.now world.now }
         ensures stands { IfOk result (λ sim. (ps : List ProgramOfFile) → StandsAfter (code_world desc.now world.now ps) 0 sim) }
         ensures whole { IfOk result IsWhole }
@@ -61,7 +66,8 @@ impl Simulation {
     {
         let mut radio = Radio::new(alloc, world, desc)?;
         schedule_lines(&mut radio, world)?;
-        let motes = begin_motes(alloc, desc, world, &mut radio)?;
+        let machine = SharedMachine::with_programs(alloc, desc, programs)?;
+        let motes = begin_motes(alloc, &machine, world, &mut radio)?;
         air_is_in_range_from(radio.air(), 0);
         Ok(Simulation {
             radio,
@@ -135,18 +141,18 @@ fn forget_told(node: &mut OpenNode, trades: bool, room: &mut NodeLog)
 /// The nodes of the world before its first event, in order: the first events of each are due.
 fn begin_motes(
     alloc: Global,
-    desc: &Description,
+    machine: &SharedMachine,
     world: &World,
     radio: &mut Radio,
 ) -> Result<Vec<Mote>, NoMemory>
     requires nodes { world.now.nodes ≤ NODES_MAX }
     requires now { radio.old.agenda.now ≡ 0 }
     ensures { IfOk result (λ motes. (ps : List ProgramOfFile)
-        → HaveBegun (code_world desc.now world.now ps) world.now.nodes radio.old radio.new motes.items) }
+        → HaveBegun (code_world machine.now world.now ps) world.now.nodes radio.old radio.new motes.items) }
 {
     let mut motes = Vec::with_capacity(alloc, usize::from(world.nodes))?;
     for node in 0..world.nodes {
-        motes.push(begin_mote(alloc, desc, world.random, node, radio)?)?;
+        motes.push(begin_mote(alloc, machine, world.random, node, radio)?)?;
     }
     Ok(motes)
 }
@@ -154,19 +160,19 @@ fn begin_motes(
 /// The node before the first event: its first events are due.
 fn begin_mote(
     alloc: Global,
-    desc: &Description,
+    machine: &SharedMachine,
     random: u64,
     node: u8,
     radio: &mut Radio,
 ) -> Result<Mote, NoMemory>
     requires node { node < NODES_MAX }
     requires now { radio.old.agenda.now ≡ 0 }
-    ensures begins { IfOk result (BeginsMote desc.now random node) }
+    ensures begins { IfOk result (BeginsMote machine.now random node) }
     ensures adds { IfOk result (λ mote. AddsToAir radio.old radio.new (aired_at beginning node (air.Interval mote.timer.running.length)
-        ∷ []) (first_items desc.now node mote.timer)) }
+        ∷ []) (first_items machine.now node mote.timer)) }
 {
-    let mote = Mote::new(alloc, desc, random, node)?;
-    begin_node(radio, desc, node, &mote.timer)?;
+    let mote = Mote::new(alloc, machine, random, node)?;
+    begin_node(radio, machine.description(), node, &mote.timer)?;
     Ok(mote)
 }
 

@@ -43,7 +43,7 @@ pub fn start_recorded(
     ensures { IfOk result (λ made. StartsRecorded (code_world desc.now world.now programs.now) made.0 made.1) }
 {
     let mut record = Record::new(alloc, world.nodes)?;
-    let sim = Simulation::start(alloc, desc, world)?;
+    let sim = Simulation::start(alloc, desc, world, programs)?;
     add_event(&mut record, &sim, 0)?;
     Ok((sim, record))
 }

@@ -29,7 +29,7 @@ pub fn run(
     reports_keep_the_promise();
     states_are_sound();
     let logs = NodeLogs::empty(alloc, world.nodes)?;
-    let mut sim = Simulation::start(alloc, desc, world)?;
+    let mut sim = Simulation::start(alloc, desc, world, programs)?;
     // (nothing is let go, so nothing takes its place)
     let mut room = NodeLog::new(alloc);
     let mut effect = Effect::none();

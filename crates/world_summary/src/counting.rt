@@ -85,7 +85,7 @@ fn start_counted(
         made.1) }
 {
     let mut tally = RunTally::new(alloc, world.nodes, desc.handlers.len())?;
-    let sim = Simulation::start(alloc, desc, world)?;
+    let sim = Simulation::start(alloc, desc, world, programs)?;
     logs_are_kept(sim.motes.as_slice());
     count_event(&mut tally, &sim, 0);
     Ok((sim, tally))

@@ -49,7 +49,7 @@ pub fn write_world<S: Sink>(
     ensures later { S.faults out.old ≤ S.faults out.new }
 {
     reports_keep_the_promise();
-    let Ok(mut sim) = Simulation::start(alloc, desc, world) else {
+    let Ok(mut sim) = Simulation::start(alloc, desc, world, programs) else {
         return Err(WriteFault::NoMemory);
     };
     let mut none = None;

@@ -6,6 +6,6 @@ use Rattle.sim_run.proofs.simulation.begin_motes.Given as goal
 
 abbrev pub invariant-loop-node : goal.invariant-loop-node
 invariant-loop-node l = record {
-  begun : (ps : List Program) → HaveBegun (code_world l.desc l.world ps) l.node l.initial.radio l.radio l.motes.items;
+  begun : (ps : List Program) → HaveBegun (code_world l.machine l.world ps) l.node l.initial.radio l.radio l.motes.items;
   now : l.radio.agenda.now ≡ 0;
 }

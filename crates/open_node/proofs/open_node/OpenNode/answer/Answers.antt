@@ -13,15 +13,15 @@ use Rattle.open_node.proofs.open_node.OpenNode.answer.Goals as goal
 pub invariant_of-self : goal.invariant_of-self
 invariant_of-self c =
     let n = c.self.inside in
-    record { rests = Rests-either n.description n.parts c.answer_in.new.parts c.args.at c.self.invariant.rests c.answer_in.ensures.gone c.answer_in.result _ _ c.answer_in.ensures.answers }
+    record { rests = Rests-either n.machine n.parts c.answer_in.new.parts c.args.at c.self.invariant.rests c.answer_in.ensures.gone c.answer_in.result _ _ (rw c.description.ensures at c.answer_in.ensures.answers) }
 
 pub returns : goal.returns
 returns c =
     let n = c.self.inside in
-    let r = reading n.description n.parts.log.all in
+    let r = reading n.machine n.parts.log.all in
     let whole : to_z w16 (of_z w16 c.args.value) ≡ c.args.value = search rules in
-    let P : ℤ → Type 0 = λ x. MatchResult c.answer_in.result (λ _. RestsAgain n.description n.parts c.answer_in.new.parts c.args.at (AnswersCall r c.args.ctx x)) (λ _. NobodyWaits r c.args.ctx × (c.answer_in.new.parts ≡ n.parts)) in
-    Seen-either n.description n.parts c.answer_in.new.parts c.args.self.now c.answer_in.result _
-    (λ v. Tells v (seen_as n.description c.answer_in.new.parts) c.args.at (Pacing (λ _. AnswersCall (heard_of v) c.args.ctx c.args.value)))
+    let P : ℤ → Type 0 = λ x. MatchResult c.answer_in.result (λ _. RestsAgain n.machine n.parts c.answer_in.new.parts c.args.at (AnswersCall r c.args.ctx x)) (λ _. NobodyWaits r c.args.ctx × (c.answer_in.new.parts ≡ n.parts)) in
+    Seen-either n.machine n.parts c.answer_in.new.parts c.args.self.now c.answer_in.result _
+    (λ v. Tells v (seen_as n.machine c.answer_in.new.parts) c.args.at (Pacing (λ _. AnswersCall (heard_of v) c.args.ctx c.args.value)))
     _ (λ v _. NobodyWaits (heard_of v) c.args.ctx) c.self.view_is
-    (λ made. Tells-again n.description n.parts c.answer_in.new.parts c.args.at c.self.invariant.rests c.answer_in.ensures.gone (AnswersCall r c.args.ctx c.args.value) made) (λ _ nobody. nobody) (subst P whole c.answer_in.ensures.answers)
+    (λ made. Tells-again n.machine n.parts c.answer_in.new.parts c.args.at c.self.invariant.rests c.answer_in.ensures.gone (AnswersCall r c.args.ctx c.args.value) made) (λ _ nobody. nobody) (subst P whole (rw c.description.ensures at c.answer_in.ensures.answers))

@@ -16,7 +16,7 @@ returns-in_err-fun c =
     let P : NodeView → Type 0 = λ v. NobodyWaits (heard_of v) c.args.ctx in
     let Q : Option Asked → Type 0 = λ o. MatchOption o (NobodyWaits r c.args.ctx) (IsAsked r c.args.ctx) in
     subst Q (sym c.from_residual.ensures)
-    (subst P c.self.view_is (nobody-waits n.description n.parts c.self.invariant.rests.order.keeps c.args.ctx (sym c.asked.ensures ∙ c.in_err-fun.was)))
+    (subst P c.self.view_is (nobody-waits n.machine n.parts c.self.invariant.rests.order.keeps c.args.ctx (sym c.asked.ensures ∙ c.in_err-fun.was)))
 
 pub returns-in_err-inv : goal.returns-in_err-inv
 returns-in_err-inv c =
@@ -24,11 +24,11 @@ returns-in_err-inv c =
     let r = heard_of c.args.self.now in
     let Q : Option Asked → Type 0 = λ o. MatchOption o (NobodyWaits r c.args.ctx) (IsAsked r c.args.ctx) in
     subst Q (sym c.from_residual-in_err-inv.ensures)
-    (absurd (seat-asked n.description n.parts c.self.invariant.rests.order.keeps c.args.ctx (c.in_ok-fun.fun, c.in_ok-fun.args) (sym c.asked.ensures ∙ c.in_ok-fun.was) (sym c.seat.ensures ∙ ap option_copied c.in_err-inv.was)))
+    (absurd (seat-asked n.machine n.parts c.self.invariant.rests.order.keeps c.args.ctx (c.in_ok-fun.fun, c.in_ok-fun.args) (sym c.asked.ensures ∙ c.in_ok-fun.was) (sym c.seat.ensures ∙ ap option_copied c.in_err-inv.was)))
 
 pub returns : goal.returns
 returns c =
     let n = c.self.inside in
     let P : NodeView → Type 0 = λ v. IsAsked (heard_of v) c.args.ctx (record { inv = c.in_ok-inv.field-0.now.inv; fun = c.in_ok-fun.fun; args = c.in_ok-fun.args }) in
     subst P c.self.view_is
-    (asked-seat n.description n.parts c.self.invariant.rests.order.keeps c.args.ctx (c.in_ok-fun.fun, c.in_ok-fun.args) (sym c.asked.ensures ∙ c.in_ok-fun.was) c.in_ok-inv.field-0.now (sym c.seat.ensures ∙ ap option_copied c.in_ok-inv.was))
+    (asked-seat n.machine n.parts c.self.invariant.rests.order.keeps c.args.ctx (c.in_ok-fun.fun, c.in_ok-fun.args) (sym c.asked.ensures ∙ c.in_ok-fun.was) c.in_ok-inv.field-0.now (sym c.seat.ensures ∙ ap option_copied c.in_ok-inv.was))

@@ -9,4 +9,4 @@ pub returns-in-Some : goal.returns-in-Some
 returns-in-Some c =
     let n = c.self.inside in
     let P : NodeView → Type 0 = λ v. IsImageOf (heard_of v) c.args.handler c.in-Some.held.now.image in
-    subst P c.self.view_is (image-is n.description n.parts c.self.invariant.rests.order.keeps c.args.handler c.in-Some.held.now (sym c.in-Some.ensures))
+    subst P c.self.view_is (image-is n.machine n.parts c.self.invariant.rests.order.keeps c.args.handler c.in-Some.held.now (sym c.in-Some.ensures))

@@ -1,20 +1,28 @@
 -- The install, or the same node.
-use Rattle.node_calls.specs.Installing.{InstallsBytes, Refuses}
+use Rattle.std.proofs.Common.{sym, subst}
+use Rattle.std.specs.Prelude.{IfSome}
+use Rattle.vm_desc.specs.declared.description.Description.{Description}
+use Rattle.node_calls.specs.Installing.{InstallsBytes, IsReady, Refuses}
 use Rattle.open_node.specs.View.{heard_of, Tells}
 use Rattle.open_node.specs.Calls.{Pacing}
 use Rattle.open_node.proofs.PaceLemmas.{seen_as}
 use Rattle.open_node.proofs.CallLemmas.{Tells-paced, Rests-either, Seen-either}
 use Rattle.open_node.proofs.open_node.OpenNode.install.Goals as goal
 
+pub install_shared-requires-clause-ready : goal.install_shared-requires-clause-ready
+install_shared-requires-clause-ready c =
+    let P : Description → Type 0 = λ d. IfSome c.ready-ready.result (IsReady d c.args.bytes.now) in
+    subst P (sym c.description-description.ensures) c.ready-ready.ensures
+
 pub invariant_of-self : goal.invariant_of-self
 invariant_of-self c =
     let n = c.self.inside in
-    record { rests = Rests-either n.description n.parts c.install_in.new.parts c.args.at c.self.invariant.rests c.install_in.ensures.gone c.install_in.result _ _ c.install_in.ensures.installs }
+    record { rests = Rests-either n.machine n.parts c.install_shared.new.parts c.args.at c.self.invariant.rests c.install_shared.ensures.gone c.install_shared.result _ _ (rw c.description-description.ensures at c.install_shared.ensures.installs) }
 
 pub returns : goal.returns
 returns c =
     let n = c.self.inside in
-    Seen-either n.description n.parts c.install_in.new.parts c.args.self.now c.install_in.result _
-    (λ v. Tells v (seen_as n.description c.install_in.new.parts) c.args.at (Pacing (InstallsBytes v.description (heard_of v) c.args.bytes.now)))
+    Seen-either n.machine n.parts c.install_shared.new.parts c.args.self.now c.install_shared.result _
+    (λ v. Tells v (seen_as n.machine c.install_shared.new.parts) c.args.at (Pacing (InstallsBytes v.description (heard_of v) c.args.bytes.now)))
     _ (λ v fault. Refuses v.description (heard_of v) c.args.bytes.now fault) c.self.view_is
-    (λ made. Tells-paced n.description n.parts c.install_in.new.parts c.args.at c.self.invariant.rests c.install_in.ensures.gone _ made) (λ _ why. why) c.install_in.ensures.installs
+    (λ made. Tells-paced n.machine n.parts c.install_shared.new.parts c.args.at c.self.invariant.rests c.install_shared.ensures.gone _ made) (λ _ why. why) (rw c.description-description.ensures at c.install_shared.ensures.installs)

@@ -11,4 +11,4 @@ pub returns : goal.returns
 returns c =
     let n = c.self.inside in
     let P : NodeView → Type 0 = λ v. MatchBool c.is_some.result (IsSomeReady (heard_of v)) (IsNoneReady (heard_of v) × (v.line ≡ [])) in
-    subst P c.self.view_is (ready-or-not n.description n.parts c.self.invariant.rests.order.keeps c.first_ready.result c.first_ready.ensures.first c.is_some.result c.is_some.ensures)
+    subst P c.self.view_is (ready-or-not n.machine n.parts c.self.invariant.rests.order.keeps c.first_ready.result c.first_ready.ensures.first c.is_some.result c.is_some.ensures)

@@ -1,5 +1,6 @@
 -- What a node that rests keeps.
 use Rattle.std.proofs.Common.{subst}
+use Rattle.vm_desc.specs.declared.description.Description.{Description}
 use Rattle.node_invariant.specs.Meaning.{machine_in}
 use Rattle.open_node.specs.View.{NodeView}
 use Rattle.open_node.specs.Journal.{KeepsJournal}
@@ -8,4 +9,5 @@ use Rattle.open_node.proofs.open_node.OpenNode.kept.Goals as goal
 pub returns-clause-keeps : goal.returns-clause-keeps
 returns-clause-keeps c =
     let P : NodeView → Type 0 = λ v. KeepsJournal v.description (machine_in v.description) v.log in
-    subst P c.self.view_is c.keeps_journal.ensures
+    let Q : Description → Type 0 = λ d. KeepsJournal d (machine_in d) c.self.inside.parts.log.all in
+    subst P c.self.view_is (subst Q c.description.ensures c.keeps_journal.ensures)

@@ -9,10 +9,10 @@ use Rattle.open_node.proofs.CallLemmas.{Tells-again}
 use Rattle.open_node.proofs.open_node.OpenNode.post.Goals as goal
 
 pub invariant_of-self : goal.invariant_of-self
-invariant_of-self c = record { rests = c.post_in.ensures.again.rests }
+invariant_of-self c = record { rests = (rw c.description.ensures at c.post_in.ensures.again).rests }
 
 pub returns : goal.returns
 returns c =
     let n = c.self.inside in
-    let P : NodeView → Type 0 = λ v. Tells v (seen_as n.description c.post_in.new.parts) c.args.at (Pacing (λ _. PostGives (machine_in v.description) (heard_of v) c.args.handler c.args.payload.now c.post_in.result)) in
-    subst P c.self.view_is (Tells-again n.description n.parts c.post_in.new.parts c.args.at c.self.invariant.rests c.post_in.ensures.gone _ c.post_in.ensures.again)
+    let P : NodeView → Type 0 = λ v. Tells v (seen_as n.machine c.post_in.new.parts) c.args.at (Pacing (λ _. PostGives (machine_in v.description) (heard_of v) c.args.handler c.args.payload.now c.post_in.result)) in
+    subst P c.self.view_is (Tells-again n.machine n.parts c.post_in.new.parts c.args.at c.self.invariant.rests c.post_in.ensures.gone _ (rw c.description.ensures at c.post_in.ensures.again))

@@ -6,11 +6,11 @@ use Rattle.open_node.proofs.JournalLemmas.{Rests-room, IsPace-room}
 use Rattle.open_node.proofs.open_node.OpenNode.reserve.Goals as goal
 
 pub invariant_of-self : goal.invariant_of-self
-invariant_of-self c = record { rests = Rests-room c.self.inside.description c.self.inside.parts c.reserve.new.self c.reserve.ensures.same c.self.invariant.rests }
+invariant_of-self c = record { rests = Rests-room c.self.inside.machine c.self.inside.parts c.reserve.new.self c.reserve.ensures.same c.self.invariant.rests }
 
 pub returns-clause-pace : goal.returns-clause-pace
 returns-clause-pace c = λ p pace.
-    (let d = c.self.inside.description in
+    (let d = c.self.inside.machine in
     let s = c.self.inside.parts in
     let rests = c.self.invariant.rests in
     let P : NodeView → Type 0 = λ v. HasPace v p in

@@ -9,10 +9,10 @@ use Rattle.open_node.proofs.CallLemmas.{Tells-paced}
 use Rattle.open_node.proofs.open_node.OpenNode.reset.Goals as goal
 
 pub invariant_of-self : goal.invariant_of-self
-invariant_of-self c = record { rests = c.reset_in.ensures.again.rests }
+invariant_of-self c = record { rests = (rw c.description.ensures at c.reset_in.ensures.again).rests }
 
 pub returns : goal.returns
 returns c =
     let n = c.self.inside in
-    let P : NodeView → Type 0 = λ v. Tells v (seen_as n.description c.reset_in.new.parts) c.args.at (Pacing (Resets (machine_in v.description) (heard_of v))) in
-    subst P c.self.view_is (Tells-paced n.description n.parts c.reset_in.new.parts c.args.at c.self.invariant.rests c.reset_in.ensures.gone _ c.reset_in.ensures.again)
+    let P : NodeView → Type 0 = λ v. Tells v (seen_as n.machine c.reset_in.new.parts) c.args.at (Pacing (Resets (machine_in v.description) (heard_of v))) in
+    subst P c.self.view_is (Tells-paced n.machine n.parts c.reset_in.new.parts c.args.at c.self.invariant.rests c.reset_in.ensures.gone _ (rw c.description.ensures at c.reset_in.ensures.again))

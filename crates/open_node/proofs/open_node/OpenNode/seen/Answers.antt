@@ -9,10 +9,10 @@ use Rattle.open_node.proofs.CallLemmas.{Tells-store}
 use Rattle.open_node.proofs.open_node.OpenNode.seen.Goals as goal
 
 pub invariant_of-self : goal.invariant_of-self
-invariant_of-self c = record { rests = c.seen_in.ensures.tells.again.rests }
+invariant_of-self c = record { rests = (rw c.description.ensures at c.seen_in.ensures.tells).again.rests }
 
 pub returns : goal.returns
 returns c =
     let n = c.self.inside in
-    let P : NodeView → Type 0 = λ v. Tells v (seen_as n.description c.seen_in.new.parts) c.args.at (Pacing (ShowsOnce (machine_in v.description) (heard_of v))) in
-    subst P c.self.view_is (Tells-store n.description n.parts c.seen_in.new.parts c.args.at c.self.invariant.rests c.seen_in.ensures.gone c.seen_in.ensures.tells)
+    let P : NodeView → Type 0 = λ v. Tells v (seen_as n.machine c.seen_in.new.parts) c.args.at (Pacing (ShowsOnce (machine_in v.description) (heard_of v))) in
+    subst P c.self.view_is (Tells-store n.machine n.parts c.seen_in.new.parts c.args.at c.self.invariant.rests c.seen_in.ensures.gone (rw c.description.ensures at c.seen_in.ensures.tells))

@@ -15,16 +15,16 @@ use Rattle.open_node.proofs.open_node.OpenNode.settle.Goals as goal
 pub settle-requires-clause-room : goal.settle-requires-clause-room
 settle-requires-clause-room c =
     let n = c.self.inside in
-    let few = owes-most (held_at n.parts.handlers.programs) (reading n.description n.parts.log.all) n.parts.contexts c.self.invariant.rests.order.keeps.fits in
+    let few = owes-most (held_at n.parts.handlers.programs) (reading n.machine n.parts.log.all) n.parts.contexts c.self.invariant.rests.order.keeps.fits in
     let same = ap (λ (v : NodeView). v.log.spare) c.self.view_is in
     let room = c.requires.room in
     omega arith
 
 pub settle-requires-clause-quantum : goal.settle-requires-clause-quantum
-settle-requires-clause-quantum c = let low = (bounds_of c.self.inside.description).quantum_low in omega arith
+settle-requires-clause-quantum c = let low = (bounds_of c.self.inside.machine).quantum_low in omega arith
 
 pub returns : goal.returns
 returns c =
     let n = c.self.inside in
-    let P : NodeView → Type 0 = λ v. Tells v (seen_as n.description c.settle.new.parts) c.args.at (SettlesWithin (machine_in v.description) ((v.description.turns + 1) * CODE_MAX) (heard_of v)) in
-    subst P c.self.view_is (Tells-settled n.description n.parts c.settle.new.parts c.args.at c.self.invariant.rests c.settle.ensures.gone c.settle.ensures.settles)
+    let P : NodeView → Type 0 = λ v. Tells v (seen_as n.machine c.settle.new.parts) c.args.at (SettlesWithin (machine_in v.description) ((v.description.turns + 1) * CODE_MAX) (heard_of v)) in
+    subst P c.self.view_is (Tells-settled n.machine n.parts c.settle.new.parts c.args.at c.self.invariant.rests c.settle.ensures.gone (rw c.description.ensures at c.settle.ensures.settles))

@@ -18,7 +18,7 @@ returns-then-not-is_ready c =
     let n = c.self.inside in
     let P : NodeView → Type 0 = λ v. IsReadyIn (heard_of v) c.args.ctx → ⊥ in (
       subst P c.self.view_is
-          (none_ready (held_at n.parts.handlers.programs) (reading n.description n.parts.log.all) n.parts.contexts c.args.ctx c.self.invariant.rests.order.keeps.fits (sym c.is_ready.ensures ∙ c.if-not-is_ready.true)),
+          (none_ready (held_at n.parts.handlers.programs) (reading n.machine n.parts.log.all) n.parts.contexts c.args.ctx c.self.invariant.rests.order.keeps.fits (sym c.is_ready.ensures ∙ c.if-not-is_ready.true)),
       refl,
     )
 
@@ -29,7 +29,7 @@ pub take_turn-requires-clause-room : goal.take_turn-requires-clause-room
 take_turn-requires-clause-room c =
     let n = c.self.inside in
     let ready : (at n.parts.contexts c.args.ctx).ready ≡ true = sym c.is_ready.ensures ∙ c.if-not-is_ready.false in
-    let few = starts-most (machine_in n.description) (held_at n.parts.handlers.programs) (reading n.description n.parts.log.all) n.parts.contexts c.args.ctx c.self.invariant.rests.order.keeps.fits c.requires.context ready in
+    let few = starts-most (machine_in n.machine) (held_at n.parts.handlers.programs) (reading n.machine n.parts.log.all) n.parts.contexts c.args.ctx c.self.invariant.rests.order.keeps.fits c.requires.context ready in
     let same = ap (λ (v : NodeView). v.log.spare) c.self.view_is in
     let room = c.requires.room in
     omega arith
@@ -38,5 +38,5 @@ pub returns : goal.returns
 returns c =
     let n = c.self.inside in
     let ready : (at n.parts.contexts c.args.ctx).ready ≡ true = sym c.is_ready.ensures ∙ c.if-not-is_ready.false in
-    let P : NodeView → Type 0 = λ v. Tells v (seen_as n.description c.take_turn.new.parts) c.args.at (HasStepped (machine_in v.description) (heard_of v) c.args.ctx c.args.n c.take_turn.result) in
-    subst P c.self.view_is (Tells-turn n.description n.parts c.take_turn.new.parts c.args.at c.args.ctx c.args.n c.take_turn.result c.self.invariant.rests ready c.take_turn.ensures.gone c.take_turn.ensures.turn)
+    let P : NodeView → Type 0 = λ v. Tells v (seen_as n.machine c.take_turn.new.parts) c.args.at (HasStepped (machine_in v.description) (heard_of v) c.args.ctx c.args.n c.take_turn.result) in
+    subst P c.self.view_is (Tells-turn n.machine n.parts c.take_turn.new.parts c.args.at c.args.ctx c.args.n c.take_turn.result c.self.invariant.rests ready c.take_turn.ensures.gone (rw c.description.ensures at c.take_turn.ensures.turn))

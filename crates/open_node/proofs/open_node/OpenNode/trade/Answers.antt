@@ -11,11 +11,11 @@ pub invariant_of-self : goal.invariant_of-self
 invariant_of-self c =
     let l = c.self.inside.parts.log in
     let P : OpenView → Type 0 = λ v. IsSameLog v.all l.all in
-    record { rests = Rests-room c.self.inside.description c.self.inside.parts c.trade.new.self (subst P (sym c.trade.ensures.same) (record { entries = refl; images = refl; stores = refl })) c.self.invariant.rests }
+    record { rests = Rests-room c.self.inside.machine c.self.inside.parts c.trade.new.self (subst P (sym c.trade.ensures.same) (record { entries = refl; images = refl; stores = refl })) c.self.invariant.rests }
 
 pub returns-clause-pace : goal.returns-clause-pace
 returns-clause-pace c = λ p pace.
-    (let d = c.self.inside.description in
+    (let d = c.self.inside.machine in
     let s = c.self.inside.parts in
     let rests = c.self.invariant.rests in
     let Q : OpenView → Type 0 = λ v. IsSameLog v.all s.log.all in

@@ -8,10 +8,10 @@ use Rattle.open_node.proofs.CallLemmas.{Tells-again}
 use Rattle.open_node.proofs.open_node.OpenNode.void.Goals as goal
 
 pub invariant_of-self : goal.invariant_of-self
-invariant_of-self c = record { rests = c.void_in.ensures.again.rests }
+invariant_of-self c = record { rests = (rw c.description.ensures at c.void_in.ensures.again).rests }
 
 pub returns : goal.returns
 returns c =
     let n = c.self.inside in
-    let P : NodeView → Type 0 = λ v. Tells v (seen_as n.description c.void_in.new.parts) c.args.at (Pacing (λ _ told. told ≡ Void c.args.cause ∷ [])) in
-    subst P c.self.view_is (Tells-again n.description n.parts c.void_in.new.parts c.args.at c.self.invariant.rests c.void_in.ensures.gone _ c.void_in.ensures.again)
+    let P : NodeView → Type 0 = λ v. Tells v (seen_as n.machine c.void_in.new.parts) c.args.at (Pacing (λ _ told. told ≡ Void c.args.cause ∷ [])) in
+    subst P c.self.view_is (Tells-again n.machine n.parts c.void_in.new.parts c.args.at c.self.invariant.rests c.void_in.ensures.gone _ (rw c.description.ensures at c.void_in.ensures.again))

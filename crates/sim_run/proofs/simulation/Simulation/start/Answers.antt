@@ -7,7 +7,7 @@ use Rattle.sim_run.proofs.simulation.Simulation.start.Goals as goal
 
 pub returns-clause-stands : goal.returns-clause-stands
 returns-clause-stands c = λ ps.
-    let begun = c.in_ok-motes.ensures ps in
+    let begun = rw c.in_ok-machine.ensures at (c.in_ok-motes.ensures ps) in
     record {
       moments = [];
       come = tt;

@@ -1,0 +1,22 @@
+-- A new node rests.
+use Rattle.std.proofs.Common.{refl, subst}
+use Rattle.vm_desc.specs.declared.description.Description.{Description}
+use Rattle.node_invariant.specs.Keeps.{reading}
+use Rattle.mate_journal.specs.Pace.{no_pace}
+use Rattle.open_node.specs.Start.{AreNewParts}
+use Rattle.open_node.proofs.PaceLemmas.{HasPace-from}
+use Rattle.open_node.proofs.MadeLemmas.{IsPace-idle}
+use Rattle.open_node.proofs.open_node.OpenNode.on.Goals as goal
+
+pub invariant_of-result : goal.invariant_of-result
+invariant_of-result c =
+    let P : Description → Type 0 = λ d. AreNewParts d c.in_ok-parts.parts in
+    record { rests = (subst P c.description.ensures c.in_ok-parts.ensures).rests }
+
+pub returns : goal.returns
+returns c =
+    let d = c.args.machine in
+    let s = c.in_ok-parts.parts in
+    let P : Description → Type 0 = λ x. AreNewParts x s in
+    let made : P d = subst P c.description.ensures c.in_ok-parts.ensures in
+    (refl, made.empty, HasPace-from d s made.rests.order.keeps no_pace (IsPace-idle (reading d s.log.all) s.contexts made.idle), made.gone)
