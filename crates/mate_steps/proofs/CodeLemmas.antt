@@ -9,7 +9,6 @@ use Rattle.mate_num.specs.declared.shape.Shape.{Shape}
 use Rattle.mate_code.specs.Code.{instr_bytes, code_bytes}
 use Rattle.mate_code.specs.Table.{Layout, table_of}
 use Rattle.mate_code.specs.declared.instr.Instr.TheVariants.{Halt}
-use Rattle.ts_checked.specs.Checked.{checked_tree}
 use Rattle.ts_checked.specs.Right.{is_right}
 use Rattle.ts_checked.specs.Statement.{Block}
 use Rattle.ts_meaning.specs.Laws.{RunsAsItsScript}
@@ -21,9 +20,12 @@ use Rattle.ts_compiler.specs.Compiled.{IsCompiled, Compiles, AreAccepted}
 use Rattle.ts_compiler.specs.declared.fault.CompileFault.{CompileFault}
 use Rattle.ts_fold.specs.Folded.{folded}
 use Rattle.ts_fold.specs.Laws.{RunsAs, UsesNoMore}
-use Rattle.ts_fold.proofs.StatementLemmas.{RunsAs-folded, UsesNoMore-folded}
-use Rattle.mate_steps.specs.SourceCode.{compiled_tree, IsCodeOf, HasNoCode, IsCompiledOf, MeansTree}
-use Rattle.mate_steps.specs.declared.code.CompiledScript.{CompiledScript}
+use Rattle.ts_fold.proofs.StatementLemmas.{RunsAs-folded, UsesNoMore-folded, right-folded}
+use Rattle.ts_checker.specs.Accepted.{IsAccepted}
+use Rattle.ts_checker.proofs.RightLemmas.{checked-right}
+use Rattle.vm_desc.specs.Shapes.{shape_of}
+use Rattle.vm_desc.specs.declared.description.Description.{Description}
+use Rattle.mate_steps.specs.SourceCode.{compiled_tree, IsCodeOf, HasNoCode, MeansTree}
 
 -- what the compiler promises of the code of a tree
 pub record IsCompiledAs (shape : Shape) (tree : Block) (code : ArrayVec ℕ) : Type 0 where
@@ -54,9 +56,13 @@ filled shape tree code is =
 
 -- ---- what follows of code
 
-right-compiled : (shape : Shape) (fold : Bool) (tree : Block) (c : CompiledScript) → IsCompiledOf shape fold tree c → IsTrue (is_right shape (compiled_tree fold tree))
-right-compiled shape fold tree c is =
-    subst (λ (t : Block). IsTrue (is_right shape t)) is.tree_is (subst (λ (s : Shape). IsTrue (is_right s (checked_tree c.script))) is.shape_is c.script.right)
+-- an accepted tree is right for its machine, and so is the one that is compiled
+right-accepted : (d : Description) (bytes : List ℕ) (tree : Block) → IsAccepted d bytes tree → IsTrue (is_right (shape_of d) tree)
+right-accepted d bytes tree accepted = checked-right d accepted.source (shape_of d) tree refl accepted.checks
+
+right-compiled : (shape : Shape) (fold : Bool) (tree : Block) → IsTrue (is_right shape tree) → IsTrue (is_right shape (compiled_tree fold tree))
+right-compiled shape true tree right = right-folded shape tree right
+right-compiled shape false tree right = right
 
 runs-compiled : (fold : Bool) (tree : Block) → RunsAs tree (compiled_tree fold tree)
 runs-compiled true tree = RunsAs-folded tree
@@ -66,14 +72,17 @@ uses-compiled : (shape : Shape) (fold : Bool) (tree : Block) → UsesNoMore shap
 uses-compiled shape true tree = UsesNoMore-folded shape tree
 uses-compiled shape false tree = record { reads = λ r h. h; writes = λ r h. h }
 
-pub means-tree : (shape : Shape) (fold : Bool) (tree : Block) (c : CompiledScript) → IsCompiledOf shape fold tree c → MeansTree shape fold tree
-means-tree shape fold tree c is =
+pub means-right : (shape : Shape) (fold : Bool) (tree : Block) (code : ArrayVec ℕ) → IsTrue (is_right shape tree) → IsCodeOf shape fold tree code → MeansTree shape fold tree
+means-right shape fold tree code right is =
     let new : Block = compiled_tree fold tree in
-    let right : IsTrue (is_right shape new) = right-compiled shape fold tree c is in
-    let plays : RunsAsItsScript shape new = accepted-RunsAsItsScript shape new right (IsAccepted-script_code shape new right is.code_is.compiled.need) in
+    let right_new : IsTrue (is_right shape new) = right-compiled shape fold tree right in
+    let plays : RunsAsItsScript shape new = accepted-RunsAsItsScript shape new right_new (IsAccepted-script_code shape new right_new is.compiled.need) in
     record {
       plays = plays;
       runs = λ store msg answers turns. plays store msg answers turns ∙ runs-compiled fold tree store msg answers turns;
       uses = UsesAsItsScript-script_code shape new;
       no_more = uses-compiled shape fold tree;
     }
+
+pub means-accepted : (d : Description) (fold : Bool) (bytes : List ℕ) (tree : Block) (code : ArrayVec ℕ) → IsAccepted d bytes tree → IsCodeOf (shape_of d) fold tree code → MeansTree (shape_of d) fold tree
+means-accepted d fold bytes tree code accepted is = means-right (shape_of d) fold tree code (right-accepted d bytes tree accepted) is

@@ -11,7 +11,6 @@ use Rattle.ts_checker.specs.Accepted.{IsAccepted}
 use Rattle.mate_steps.proofs.AcceptanceLemmas.{one_tree, one_refusal, apart}
 use Rattle.mate_steps.specs.SourceCode.{IsCompiledOf, HasNoCode, compiled_tree}
 use Rattle.mate_steps.specs.declared.code.CompiledScript.{CompiledScript}
-use Rattle.ts_checked.specs.Checked.{checked_tree}
 use Rattle.vm_desc.specs.Shapes.{shape_of}
 use Rattle.vm_desc.specs.declared.description.Description.{Description}
 use Rattle.mate_files.specs.Files.{Names}
@@ -44,7 +43,7 @@ compiles_once shape tree (TooLong m) (TooLong n) p q = ap TooLong (p.size_is ∙
 
 -- the same tree, with the same code
 pub record SameCompiled (a b : CompiledScript) : Type 0 where
-  pub tree : checked_tree a.script ≡ checked_tree b.script
+  pub tree : a.script.tree ≡ b.script.tree
   pub code : a.code ≡ b.code
 
 compiled_agrees : (d : Description) (fold : Bool) (name : List ℕ) (tree : Block) → AnswersAgree SameCompiled (compiled d fold name tree) (compiled d fold name tree)

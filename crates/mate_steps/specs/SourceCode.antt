@@ -5,7 +5,6 @@ use Rattle.mate_num.specs.declared.shape.Shape.{Shape}
 use Rattle.mate_num.specs.declared.store.Store.{Store}
 use Rattle.mate_code.specs.Run.{code_run}
 use Rattle.ts_checked.specs.Statement.{Block}
-use Rattle.ts_checked.specs.Checked.{checked_shape, checked_tree}
 use Rattle.ts_meaning.specs.Meaning.{run_of}
 use Rattle.ts_meaning.specs.Laws.{RunsAsItsScript, UsesAsItsScript}
 use Rattle.ts_meaning.specs.Translation.{code_of}
@@ -33,8 +32,8 @@ HasNoCode shape fold tree fault = Compiles shape (compiled_tree fold tree) (Err 
 
 -- the compiled script of an accepted tree, with its code
 pub record IsCompiledOf (shape : Shape) (fold : Bool) (tree : Block) (c : CompiledScript) : Type 0 where
-  pub shape_is : checked_shape c.script ≡ shape
-  pub tree_is : checked_tree c.script ≡ compiled_tree fold tree
+  pub shape_is : c.script.shape ≡ shape
+  pub tree_is : c.script.tree ≡ compiled_tree fold tree
   pub code_is : IsCodeOf shape fold tree c.code
 
 -- the compiled script of an accepted tree, or why there is none; only a fold takes memory
