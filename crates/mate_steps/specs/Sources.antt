@@ -25,7 +25,7 @@ tree_in (Err r) = Err r
 
 -- the compiled script of its accepted tree, folded before or not
 abbrev pub compiled : Description → Bool → List ℕ → Block → Result CompiledScript Refusal → Type 0
-compiled d fold name tree = judged (IsCompiledOf (shape_of d) fold tree) (HasNoCode (shape_of d) fold tree)
+compiled d fold name tree = judged (IsCompiledOf (shape_of d) fold tree) (HasNoCode fold tree)
     (λ why. InFile name (cause.Code why))
 
 -- that of its bytes

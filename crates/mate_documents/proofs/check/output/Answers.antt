@@ -1,5 +1,6 @@
 use Rattle.std.proofs.Common.{refl, Ok, Err}
-use Rattle.mate_steps.specs.CapsuleFiles.{capsule, parts_held}
+use Rattle.mate_steps.specs.CapsuleFiles.{capsule}
+use Rattle.mate_steps.specs.HeldCapsules.{parts_held}
 use Rattle.mate_steps.specs.Steps.{goes_on}
 use Rattle.mate_steps.proofs.Laws.{stops_by, reads-as, reads-err, reads-then}
 use Rattle.mate_documents.proofs.MachineLemmas.{at_machine}

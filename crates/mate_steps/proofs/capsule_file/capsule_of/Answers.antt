@@ -5,7 +5,8 @@ use Rattle.std.specs.declared.boxed.Box.{Box}
 use Rattle.mate_refusals.specs.declared.refusal.Refusal.{Refusal}
 use Rattle.mate_steps.specs.declared.capsule_file.VerifiedCapsule.{VerifiedCapsule}
 use Rattle.capsule_codec.specs.Image.{capsule_parts}
-use Rattle.mate_steps.specs.CapsuleFiles.{SpellsVerified, IsHeldOf, RefusesText, parts_in}
+use Rattle.mate_steps.specs.CapsuleFiles.{SpellsVerified, RefusesText}
+use Rattle.mate_steps.specs.HeldCapsules.{IsHeldOf, parts_in}
 use Rattle.mate_steps.specs.Steps.{goes_on}
 use Rattle.mate_refusals.specs.declared.cause.Cause.TheVariants as cause
 use Rattle.mate_steps.proofs.Laws.{stops_by, fails_as, told-read, reads-as, reads-err}

@@ -9,7 +9,7 @@ use Rattle.mate_code.specs.BytesVerification.{bytes_verification}
 use Rattle.mate_num.specs.declared.shape.Shape.{Shape}
 use Rattle.vm_desc.specs.Shapes.{shape_of}
 use Rattle.vm_desc.specs.declared.description.Description.{Description}
-use Rattle.mate_steps.specs.CapsuleFiles.{IsHeldOf, ReadsText}
+use Rattle.mate_steps.specs.HeldCapsules.{IsHeldOf, ReadsText}
 use Rattle.mate_steps.proofs.capsule_file.read_capsule.Goals as goal
 
 -- a capsule that was boxed is the one that the text spells

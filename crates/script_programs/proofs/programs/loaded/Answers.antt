@@ -2,7 +2,8 @@ use Rattle.std.proofs.Common.{◌≡◌, ℕ, Ok, None, refl, subst, sym}
 use Rattle.arrayvec.specs.ArrayVec.{ArrayVec}
 use Rattle.capsule_codec.specs.Image.{IsOfMachine, capsule_parts, capsule_image}
 use Rattle.mate_journal.specs.declared.program.Program.{Program}
-use Rattle.mate_steps.specs.CapsuleFiles.{capsule, parts_held}
+use Rattle.mate_steps.specs.CapsuleFiles.{capsule}
+use Rattle.mate_steps.specs.HeldCapsules.{parts_held}
 use Rattle.mate_steps.specs.declared.capsule_file.VerifiedCapsule.{VerifiedCapsule}
 use Rattle.mate_steps.specs.Parts.{Folder}
 use Rattle.mate_steps.specs.Steps.{goes_on}
