@@ -143,7 +143,7 @@ mutual
       λ i. While (expr_inj e f (ap first p) i) (block_inj a b (ap second p) i)
   stmt_inj x y p = absurd (apart (stmt_code x) (stmt_code y) p refl)
 
-  block_inj : (x y : Block) → block_code x ≡ block_code y → x ≡ y
+  pub block_inj : (x y : Block) → block_code x ≡ block_code y → x ≡ y
   block_inj no_statements no_statements p = refl
   block_inj (statement x a) (statement y b) p =
       λ i. statement (stmt_inj x y (ap first p) i) (block_inj a b (ap second p) i)
