@@ -28,11 +28,11 @@ tail (gcons g h) = h
 tail g = gnil
 
 -- the code of a node's first part, and what is behind it
-abbrev first : Gv → Gv
-first g = head (tail g)
+abbrev first_part : Gv → Gv
+first_part g = head (tail g)
 
-abbrev second : Gv → Gv
-second g = tail (tail g)
+abbrev parts_behind : Gv → Gv
+parts_behind g = tail (tail g)
 
 abbrev IsYes : Bool → Type 0
 IsYes true = Unit {0}
@@ -72,25 +72,25 @@ mutual
   expr_inj (Shared v) (Shared w) p = ap Shared (variable.the_row.coded.inj v w (ap tail p))
   expr_inj (Private i) (Private j) p = ap Private (coded_ℕ.inj i j (ap tail p))
   expr_inj (Item a e) (Item b f) p =
-      λ i. Item (buffer.the_row.coded.inj a b (ap first p) i) (expr_inj e f (ap second p) i)
+      λ i. Item (buffer.the_row.coded.inj a b (ap first_part p) i) (expr_inj e f (ap parts_behind p) i)
   expr_inj (Size a) (Size b) p = ap Size (buffer.the_row.coded.inj a b (ap tail p))
   expr_inj (MsgItem e) (MsgItem f) p = ap MsgItem (expr_inj e f (ap tail p))
   expr_inj MsgSize MsgSize p = refl
   expr_inj (Call f es) (Call g fs) p =
-      λ i. Call (function.the_row.coded.inj f g (ap first p) i) (args_inj es fs (ap second p) i)
+      λ i. Call (function.the_row.coded.inj f g (ap first_part p) i) (args_inj es fs (ap parts_behind p) i)
   expr_inj (SendBuf f a) (SendBuf g b) p =
-      λ i. SendBuf (function.the_row.coded.inj f g (ap first p) i) (buffer.the_row.coded.inj a b (ap second p) i)
+      λ i. SendBuf (function.the_row.coded.inj f g (ap first_part p) i) (buffer.the_row.coded.inj a b (ap parts_behind p) i)
   expr_inj (Neg e) (Neg f) p = ap Neg (expr_inj e f (ap tail p))
   expr_inj (Not e) (Not f) p = ap Not (expr_inj e f (ap tail p))
   expr_inj (Two o l r) (Two u m s) p =
-      λ i. Two (operator.the_row.coded.inj o u (ap first p) i) (expr_inj l m (ap (λ g. head (second g)) p) i)
-          (expr_inj r s (ap (λ g. tail (second g)) p) i)
+      λ i. Two (operator.the_row.coded.inj o u (ap first_part p) i) (expr_inj l m (ap (λ g. head (parts_behind g)) p) i)
+          (expr_inj r s (ap (λ g. tail (parts_behind g)) p) i)
   expr_inj x y p = absurd (apart (expr_code x) (expr_code y) p refl)
 
   args_inj : (x y : Arguments) → args_code x ≡ args_code y → x ≡ y
   args_inj no_arguments no_arguments p = refl
   args_inj (argument e es) (argument f fs) p =
-      λ i. argument (expr_inj e f (ap first p) i) (args_inj es fs (ap second p) i)
+      λ i. argument (expr_inj e f (ap first_part p) i) (args_inj es fs (ap parts_behind p) i)
   args_inj x y p = absurd (apart (args_code x) (args_code y) p refl)
 
 -- ---- statements
@@ -117,36 +117,36 @@ abbrev mutual
 mutual
   stmt_inj : (x y : Statement) → stmt_code x ≡ stmt_code y → x ≡ y
   stmt_inj (Set x e) (Set y f) p =
-      λ i. Set (target.the_row.coded.inj x y (ap first p) i) (expr_inj e f (ap second p) i)
+      λ i. Set (target.the_row.coded.inj x y (ap first_part p) i) (expr_inj e f (ap parts_behind p) i)
   stmt_inj (SetItem a e f) (SetItem b g h) p =
-      λ i. SetItem (buffer.the_row.coded.inj a b (ap first p) i) (expr_inj e g (ap (λ g. head (second g)) p) i)
-          (expr_inj f h (ap (λ g. tail (second g)) p) i)
+      λ i. SetItem (buffer.the_row.coded.inj a b (ap first_part p) i) (expr_inj e g (ap (λ g. head (parts_behind g)) p) i)
+          (expr_inj f h (ap (λ g. tail (parts_behind g)) p) i)
   stmt_inj (Append a e) (Append b f) p =
-      λ i. Append (buffer.the_row.coded.inj a b (ap first p) i) (expr_inj e f (ap second p) i)
+      λ i. Append (buffer.the_row.coded.inj a b (ap first_part p) i) (expr_inj e f (ap parts_behind p) i)
   stmt_inj (Take x a) (Take y b) p =
-      λ i. Take (target.the_row.coded.inj x y (ap first p) i) (buffer.the_row.coded.inj a b (ap second p) i)
+      λ i. Take (target.the_row.coded.inj x y (ap first_part p) i) (buffer.the_row.coded.inj a b (ap parts_behind p) i)
   stmt_inj (Clear a) (Clear b) p = ap Clear (buffer.the_row.coded.inj a b (ap tail p))
   stmt_inj (Do f es) (Do g fs) p =
-      λ i. Do (function.the_row.coded.inj f g (ap first p) i) (args_inj es fs (ap second p) i)
+      λ i. Do (function.the_row.coded.inj f g (ap first_part p) i) (args_inj es fs (ap parts_behind p) i)
   stmt_inj (DoSend f a) (DoSend g b) p =
-      λ i. DoSend (function.the_row.coded.inj f g (ap first p) i) (buffer.the_row.coded.inj a b (ap second p) i)
+      λ i. DoSend (function.the_row.coded.inj f g (ap first_part p) i) (buffer.the_row.coded.inj a b (ap parts_behind p) i)
   stmt_inj (If e a) (If f b) p =
-      λ i. If (expr_inj e f (ap first p) i) (block_inj a b (ap second p) i)
+      λ i. If (expr_inj e f (ap first_part p) i) (block_inj a b (ap parts_behind p) i)
   stmt_inj (IfElse e a b) (IfElse f c d) p =
-      λ i. IfElse (expr_inj e f (ap first p) i) (block_inj a c (ap (λ g. head (second g)) p) i)
-          (block_inj b d (ap (λ g. tail (second g)) p) i)
+      λ i. IfElse (expr_inj e f (ap first_part p) i) (block_inj a c (ap (λ g. head (parts_behind g)) p) i)
+          (block_inj b d (ap (λ g. tail (parts_behind g)) p) i)
   stmt_inj (For x e f n a) (For y g h m b) p =
-      λ i. For (target.the_row.coded.inj x y (ap first p) i) (expr_inj e g (ap (λ g. head (head (second g))) p) i)
-          (expr_inj f h (ap (λ g. tail (head (second g))) p) i) (coded_ℤ.inj n m (ap (λ g. head (tail (second g))) p) i)
-          (block_inj a b (ap (λ g. tail (tail (second g))) p) i)
+      λ i. For (target.the_row.coded.inj x y (ap first_part p) i) (expr_inj e g (ap (λ g. head (head (parts_behind g))) p) i)
+          (expr_inj f h (ap (λ g. tail (head (parts_behind g))) p) i) (coded_ℤ.inj n m (ap (λ g. head (tail (parts_behind g))) p) i)
+          (block_inj a b (ap (λ g. tail (tail (parts_behind g))) p) i)
   stmt_inj (While e a) (While f b) p =
-      λ i. While (expr_inj e f (ap first p) i) (block_inj a b (ap second p) i)
+      λ i. While (expr_inj e f (ap first_part p) i) (block_inj a b (ap parts_behind p) i)
   stmt_inj x y p = absurd (apart (stmt_code x) (stmt_code y) p refl)
 
   pub block_inj : (x y : Block) → block_code x ≡ block_code y → x ≡ y
   block_inj no_statements no_statements p = refl
   block_inj (statement x a) (statement y b) p =
-      λ i. statement (stmt_inj x y (ap first p) i) (block_inj a b (ap second p) i)
+      λ i. statement (stmt_inj x y (ap first_part p) i) (block_inj a b (ap parts_behind p) i)
   block_inj x y p = absurd (apart (block_code x) (block_code y) p refl)
 
 abbrev coded_block : Coded Block
