@@ -51,13 +51,13 @@ image-bytes text image is = by (not (is_hex digits)) (nat_lt 2112 (length digits
   digits : List ℕ
   digits = trimmed text
 
-  by : (b c : Bool) → (if b then Err BadHex else if c then Err TooLong else Ok (record { items = bytes_of_digits digits })) ≡ Ok image → IsBytes image.items
+  read : ArrayVec ℕ
+  read = record { items = bytes_of_digits digits }
+
+  by : (b c : Bool) → (if b then Err BadHex else if c then Err TooLong else Ok read) ≡ Ok image → IsBytes image.items
   by true c e = cc
   by false true e = cc
-  by false false e =
-      let read : ArrayVec ℕ = record { items = bytes_of_digits digits } in
-      let same : read ≡ image = cc in
-      subst (λ (i : ArrayVec ℕ). IsBytes i.items) same (decoded-bytes digits (decode_of digits) refl)
+  by false false e = let same : read ≡ image = cc in subst (λ (i : ArrayVec ℕ). IsBytes i.items) same (decoded-bytes digits (decode_of digits) refl)
 
 -- compiled code has a byte
 code-low : (shape : Shape) (fold : Bool) (tree : Block) (code : ArrayVec ℕ) → IsCodeOf shape fold tree code → 1 ≤ length code.items
