@@ -11,7 +11,7 @@ use Rattle.mate_journal.specs.declared.program.Program.{Program}
 use Rattle.script_reader.specs.Steps.{NodeScript}
 use Rattle.script_reader.specs.declared.steps.Step.{Step}
 use Rattle.script_reader.specs.declared.steps.Step.TheVariants as step
-use Rattle.node_programs.specs.ScriptSteps.{held_or_none, program_at, step_of, steps_of, IsProgramOf, AreProgramsOf}
+use Rattle.node_programs.specs.ScriptSteps.{held_or_none, program_at, step_of, steps_of, IsProgramOf}
 use Rattle.node_programs.specs.Sources.{held_as, is_held_as, meaning_by}
 use Rattle.node_programs.specs.WorldPrograms.{IsProgramOfWhat, AreProgramsOfWorld}
 use Rattle.world_script.specs.declared.world.World.{World as Script}
@@ -65,8 +65,8 @@ steps-install : (ps : List Program) (steps : List Step) → All (IsProgramOf ps)
 steps-install ps [] all = tt
 steps-install ps (s ∷ steps) all = (step-install ps s (All-head (IsProgramOf ps) s steps all), steps-install ps steps (All-tail (IsProgramOf ps) s steps all))
 
-pub script-installs : (d : Description) (script : NodeScript) (ps : List Program) → AreProgramsOf d script ps → InstallPrograms ps (steps_of script ps)
-script-installs d script ps right = steps-install ps script.steps right.each
+pub script-installs : (script : NodeScript) (ps : List Program) → All (IsProgramOf ps) script.steps → InstallPrograms ps (steps_of script ps)
+script-installs script ps each = steps-install ps script.steps each
 
 -- ---- the events of a world
 

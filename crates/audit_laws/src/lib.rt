@@ -1,14 +1,14 @@
 //! What a node and a world tell of their runs is found serial.
 #![tactic(auto)]
 
-ghost use Rattle.std.specs.Prelude.{◌≤◌, length, List, Result};
+ghost use Rattle.std.specs.Prelude.{◌≤◌, length, List, Result, All};
 ghost use Rattle.vm_desc.specs.declared.description.Description.{Description};
 ghost use Rattle.mate_journal.specs.NodeReport.{IsNodeReport};
 ghost use Rattle.mate_journal.specs.NodeScript.{Step, RunEnd};
 ghost use Rattle.mate_journal.specs.Ranges.{HasReportRanges};
 ghost use Rattle.mate_journal.specs.declared.program.Program.{Program};
 ghost use Rattle.mate_journal.specs.declared.report.Report.{Report};
-ghost use Rattle.node_programs.specs.ScriptSteps.{AreProgramsOf, steps_of};
+ghost use Rattle.node_programs.specs.ScriptSteps.{IsProgramOf, steps_of};
 ghost use Rattle.node_programs.specs.Sources.{meaning_by};
 ghost use Rattle.node_programs.specs.WorldPrograms.{AreProgramsOfWorld};
 ghost use Rattle.script_reader.specs.Steps.{NodeScript};
@@ -27,11 +27,11 @@ ghost use Rattle.audit_laws.specs.NodeInstalls.{InstallPrograms};
 ghost use Rattle.audit_laws.specs.Reading.{IsReadWith};
 
 /// What a node tells of the steps of a script is serial for the programs that the steps install, however its run ends: whole, at
-/// a full log, or cut from outside. The steps of a script install its programs.
+/// a full log, or cut from outside. The steps of a script install its programs, if each is of its line.
 pub fn node_reports_are_serial()
     ensures steps { (d : Description) (ps : List Program) (steps : List Step) (how : RunEnd) (r : Report) →
         InstallPrograms ps steps → IsNodeReport d (meaning_by d ps) steps how r → IsVerdict d ps r Serial }
-    ensures installs { (d : Description) (script : NodeScript) (ps : List Program) → AreProgramsOf d script ps
+    ensures installs { (script : NodeScript) (ps : List Program) → All (IsProgramOf ps) script.steps
         → InstallPrograms ps (steps_of script ps) }
 {}
 

@@ -6,7 +6,7 @@ use Rattle.ts_syntax.specs.Cut.{cut, cut_from, bad_byte, big_literal}
 use Rattle.ts_syntax.specs.Faults.{Spells, IsUnexpected, IsTooDeep}
 use Rattle.ts_syntax.specs.Script.{IsScript}
 use Rattle.ts_syntax.specs.Tree.{Source}
-use Rattle.ts_checked.specs.declared.checked.Checked.{Checked}
+use Rattle.ts_checked.specs.Checked.{ScriptTree}
 use Rattle.ts_syntax.specs.declared.token.Token.{Token}
 use Rattle.ts_parser.specs.Verdict.{Verdict, spelled, unexpected, too_deep, IsSo}
 use Rattle.ts_parser.specs.declared.fault.SourceFault.{SourceFault}
@@ -37,7 +37,7 @@ unmeant : (d : Description) (f : CheckFault) → IsUnmeant d (codes "@") f → I
 unmeant d check.NoMemory is = inr refl
 unmeant d f is = absurd (never_cut is.tokens is.cuts)
 
-pub told_bad : (d : Description) (result : Result Checked SourceRefusal) → TellsAcceptance d (codes "@") result
+pub told_bad : (d : Description) (result : Result ScriptTree SourceRefusal) → TellsAcceptance d (codes "@") result
     → MatchResult result (λ _. ⊥) (λ r. (r ≡ Spelling (fault.BadByte 0)) ⊎ IsForMemory r)
 told_bad d (Ok c) tells = never_cut tells.tokens tells.cuts
 told_bad d (Err (Spelling (fault.BadByte place))) tells =
@@ -71,7 +71,7 @@ module _ (one : OneVerdict) (bytes : List ℕ) (tokens : List Token) (source : S
       absurd cc
   well_spelt d fault.NoMemory is = refl
 
-  pub not_misspelt : (d : Description) (result : Result Checked SourceRefusal) → TellsAcceptance d bytes result
+  pub not_misspelt : (d : Description) (result : Result ScriptTree SourceRefusal) → TellsAcceptance d bytes result
       → IfErr result (λ r. (f : SourceFault) → r ≡ Spelling f → f ≡ fault.NoMemory)
   not_misspelt d (Ok c) tells = tt
   not_misspelt d (Err (Spelling g)) tells = λ f is. let same : g ≡ f = cc in sym same ∙ well_spelt d g tells

@@ -3,8 +3,7 @@ use Rattle.std.proofs.Common.{◌≡◌, ◌≤◌, ◌∙◌, inl, inr, ℕ, fa
 use Rattle.std.specs.Prelude.{All, IfOk, IfSome}
 use Rattle.std.proofs.lemmas.List.Elements.{All-nil, All-cons}
 use Rattle.mate_journal.specs.declared.program.Program.{Program}
-use Rattle.ts_checked.specs.Checked.{checked_tree}
-use Rattle.ts_checked.specs.declared.checked.Checked.{Checked}
+use Rattle.ts_checked.specs.Checked.{ScriptTree}
 use Rattle.ts_checker.specs.Accepted.{IsAccepted}
 use Rattle.script_reader.specs.NodeScript.{node_script_in}
 use Rattle.script_reader.specs.Steps.{NodeScript}
@@ -84,11 +83,11 @@ loaded_alone f d s name (Err r) is made = tt
 
 -- the program's source means what the bytes do
 abbrev Means : Description → List ℕ → Program → Type 0
-Means d bytes p = IfSome p.source (λ (source : Checked). IsAccepted d bytes (checked_tree source))
+Means d bytes p = IfSome p.source (λ (source : ScriptTree). IsAccepted d bytes source.tree)
 
 installed_program : (f : Folder) (d : Description) (name bytes : List ℕ) (p : Program) → HoldsFile f name (Some bytes) → installed f d false (record { 0 = 0 }) 1 name (Ok p) → Means d bytes p
 installed_program f d name bytes p h (goes_on c compiled is) =
-    subst (λ (o : Option Checked). IfSome o (λ (source : Checked). IsAccepted d bytes (checked_tree source))) (sym is.source) (keeps_tree f d name bytes c h compiled)
+    subst (λ (o : Option ScriptTree). IfSome o (λ (source : ScriptTree). IsAccepted d bytes source.tree)) (sym is.source) (keeps_tree f d name bytes c h compiled)
 installed_program f d name bytes p h (stops r refused clash) = cc
 
 installed_step : (f : Folder) (d : Description) (name bytes : List ℕ) (o : Option Program) → HoldsFile f name (Some bytes) → step_program f d false (name ∷ []) first_install (Ok o)
@@ -97,7 +96,7 @@ installed_step f d name bytes None h is = absurd is
 installed_step f d name bytes (Some p) h is = installed_program f d name bytes p h is
 
 pub installed_alone : (f : Folder) (d : Description) (s : NodeScript) (name bytes : List ℕ) (r : Result (List Program) Refusal) → s ≡ installing name → HoldsFile f name (Some bytes)
-    → script_programs f d false s r → IfOk r (λ ps. All (λ (p : Program). IfSome p.source (λ (source : Checked). IsAccepted d bytes (checked_tree source))) ps)
+    → script_programs f d false s r → IfOk r (λ ps. All (λ (p : Program). IfSome p.source (λ (source : ScriptTree). IsAccepted d bytes source.tree)) ps)
 installed_alone f d s name bytes (Ok ps) is h made =
     all_of_one f d (name ∷ []) first_install (Means d bytes) ps (λ o. installed_step f d name bytes o h) (subst (λ (x : NodeScript). script_programs f d false x (Ok ps)) is made)
 installed_alone f d s name bytes (Err r) is h made = tt

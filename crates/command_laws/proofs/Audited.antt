@@ -1,6 +1,6 @@
 -- What a run wrote is found serial.
 use Rattle.std.proofs.Common.{◌≡◌, inl, inr, ℕ, ◌+◌, ◌≤◌, ◌<◌, ◌==◌, Bool, true, false, List, [], ◌∷◌, length, Option, Some, None, Result, Ok, Err, refl, sym, ◌∙◌, subst, arith}
-use Rattle.std.specs.Prelude.{IsSomeAnd, codes, if◌then◌else◌}
+use Rattle.std.specs.Prelude.{All, IsSomeAnd, codes, if◌then◌else◌}
 use Rattle.std.specs.Global.{Vec}
 use Rattle.std.specs.List.{list_all}
 use Rattle.std.specs.Str.{bytes_eq}
@@ -32,7 +32,7 @@ use Rattle.mate_refusals.specs.declared.cause.Unread.TheVariants.{Failed, Large}
 use Rattle.mate_steps.specs.Parts.{IsUnread, file, machine}
 use Rattle.mate_steps.specs.Steps.{Then, goes_on, stops}
 use Rattle.mate_steps.proofs.OneAnswer.{machine_agrees}
-use Rattle.node_programs.specs.ScriptSteps.{steps_of}
+use Rattle.node_programs.specs.ScriptSteps.{IsProgramOf, steps_of}
 use Rattle.node_programs.specs.Sources.{meaning_by}
 use Rattle.report_reading.specs.Reads.{ReadsReport, IsBadLine}
 use Rattle.report_reading.specs.declared.fault.TextFault.{TextFault}
@@ -41,6 +41,8 @@ use Rattle.report_text.specs.Text.{text}
 use Rattle.report_text.specs.Tidy.{IsTidy}
 use Rattle.report_text.proofs.NodeLemmas.{node-tidy}
 use Rattle.run_steps.specs.Running.{IsReportOf}
+use Rattle.script_programs.proofs.EachLemmas.{are_made}
+use Rattle.script_programs.proofs.OrderLemmas.{node_script-in_order}
 use Rattle.script_programs.specs.Programs.{script_programs}
 use Rattle.script_programs.specs.SamePrograms.{SamePrograms}
 use Rattle.script_programs.specs.Scripts.{script}
@@ -231,6 +233,12 @@ named-node names d fold name s ps (goes_on bytes held is) given =
     goes_on bytes held (subst (λ (of_world : Bool). programs_by of_world (steady names) d fold bytes.items (Ok ps)) (sym (node-is d bytes.items s is)) (goes_on s is given))
 named-node names d fold name s ps (stops why step e) given = absurd (ok-err s why e)
 
+-- and each is of its line
+programs-each : (names : Names) (d : Description) (fold : Bool) (name : List ℕ) (s : NodeScript) (ps : List Program) → script (steady names) d name (Ok s) → script_programs (steady names) d fold s (Ok ps) → All (IsProgramOf ps) s.steps
+programs-each names d fold name s ps (goes_on bytes held is) given =
+    (are_made (steady names) d fold s.files [] s.steps (length s.files) ps (node_script-in_order d bytes.items s is) given).each
+programs-each names d fold name s ps (stops why step e) given = absurd (ok-err s why e)
+
 -- the programs of a world
 named-world : (names : Names) (d : Description) (fold : Bool) (name : List ℕ) (w : World) (ps : List Program) → world (steady names) d name (Ok w) → world_programs (steady names) d fold w (Ok ps)
     → programs_named (steady names) d fold name (Ok ps)
@@ -244,7 +252,7 @@ node-found names fold vm name report o full bs answer (goes_on d machine_is (goe
     let t : IsRunText d (IsReportOf d s ps) (run_end full) bs = subst (λ (x : Owed). IsOutputText full x bs) out is in
     let r : Report = t.report in
     let of : IsReportOf d s ps (run_end full) r = t.ended in
-    let serially : IsVerdict d ps r verdict.Serial = node-serial d ps (steps_of s ps) (run_end full) r (script-installs d s ps of.right) of.report in
+    let serially : IsVerdict d ps r verdict.Serial = node-serial d ps (steps_of s ps) (run_end full) r (script-installs s ps (programs-each names d fold name s ps script_is given)) of.report in
     let tidy : IsTidy d r = node-tidy d (meaning_by d ps) (steps_of s ps) (run_end full) r of.report in
     audit-found names fold vm name report d ps (named-node names d fold name s ps script_is given) machine_is
     (λ qs same. report-found names d ps qs r report bs same serially tidy of.ranges t.text_is holds small) answer audits

@@ -3,11 +3,9 @@ use Rattle.std.proofs.Common.{◌≡◌, ℕ, Bool, true, List, Option, Some, No
 use Rattle.std.specs.Prelude.{⊤, []}
 use Rattle.std.specs.Global.{Vec}
 use Rattle.arrayvec.specs.ArrayVec.{ArrayVec}
-use Rattle.capsule_codec.specs.Image.{CapsuleParts, capsule_parts}
-use Rattle.capsule_codec.specs.declared.capsule.Capsule.{Capsule}
+use Rattle.capsule_codec.specs.Image.{CapsuleParts}
 use Rattle.capsule_feed.specs.Lines.{feed_text}
 use Rattle.capsule_listing.specs.CapsuleText.{capsule_text}
-use Rattle.code_verifier.specs.Verified.{VerifiedCode}
 use Rattle.command_line.specs.Words.{Line, IsLine}
 use Rattle.mate_code.specs.Run.{Code}
 use Rattle.command_line.specs.Commands.{Task, Says, SaysNothing, task_of}
@@ -93,17 +91,17 @@ pub check_agrees : (names : Names) (vm name : List ℕ) → AnswersAgree SameTex
 check_agrees names vm name =
     then_agrees ◌≡◌ SameText _ _ _ _ (machine_agrees names vm)
     (λ a b e. subst (λ (d : Description). AnswersAgree SameText (after_machine a) (after_machine d)) e (with_machine a)) where
-      after_capsule : Description → Capsule × VerifiedCode → Result Owed Refusal → Type 0
-      after_capsule d c = writes (capsule_text d (capsule_parts c.0) c.1.code)
+      after_capsule : Description → CapsuleParts × Code → Result Owed Refusal → Type 0
+      after_capsule d c = writes (capsule_text d c.0 c.1)
 
       after_machine : Description → Result Owed Refusal → Type 0
       after_machine d = capsule (steady names) d name ▸ after_capsule d
 
-      with_capsule : (d : Description) (a b : Capsule × VerifiedCode) → SameCapsule a b → AnswersAgree SameText (after_capsule d a) (after_capsule d b)
+      with_capsule : (d : Description) (a b : CapsuleParts × Code) → SameCapsule a b → AnswersAgree SameText (after_capsule d a) (after_capsule d b)
       with_capsule d a b e =
-          subst (λ (p : CapsuleParts). AnswersAgree SameText (after_capsule d a) (writes (capsule_text d p b.1.code))) e.parts
-          (subst (λ (code : Code). AnswersAgree SameText (after_capsule d a) (writes (capsule_text d (capsule_parts a.0) code))) e.code
-          (writes_agree (capsule_text d (capsule_parts a.0) a.1.code)))
+          subst (λ (p : CapsuleParts). AnswersAgree SameText (after_capsule d a) (writes (capsule_text d p b.1))) e.parts
+          (subst (λ (code : Code). AnswersAgree SameText (after_capsule d a) (writes (capsule_text d a.0 code))) e.code
+          (writes_agree (capsule_text d a.0 a.1)))
 
       with_machine : (d : Description) → AnswersAgree SameText (after_machine d) (after_machine d)
       with_machine d = then_agrees SameCapsule SameText _ _ _ _ (capsule_agrees names d name) (with_capsule d)

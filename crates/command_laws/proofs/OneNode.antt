@@ -20,7 +20,7 @@ use Rattle.mate_steps.proofs.OneAnswer.{then_agrees, machine_agrees}
 use Rattle.node_programs.specs.ScriptSteps.{steps_of}
 use Rattle.node_programs.specs.Sources.{meaning_by}
 use Rattle.report_text.specs.Brief.{brief}
-use Rattle.run_steps.specs.Running.{IsReportOf}
+use Rattle.run_steps.specs.Running.{IsScriptReport}
 use Rattle.script_programs.specs.Programs.{script_programs}
 use Rattle.script_programs.specs.SamePrograms.{SamePrograms}
 use Rattle.script_programs.specs.Scripts.{script}
@@ -30,21 +30,21 @@ use Rattle.script_reader.specs.Steps.{NodeScript}
 use Rattle.vm_desc.specs.declared.description.Description.{Description}
 
 -- by the same programs, the report is one of the other list's steps
-by-same : (d : Description) (s : NodeScript) (ps qs : List Program) (how : RunEnd) (r : Report) → SamePrograms ps qs → IsReportOf d s qs how r → IsNodeReport d (meaning_by d ps) (steps_of s ps) how r
+by-same : (d : Description) (s : NodeScript) (ps qs : List Program) (how : RunEnd) (r : Report) → SamePrograms ps qs → IsScriptReport d s qs how r → IsNodeReport d (meaning_by d ps) (steps_of s ps) how r
 by-same d s ps qs how r same is =
     subst (λ (steps : List Step). IsNodeReport d (meaning_by d ps) steps how r) (sym (steps-same s ps qs same))
-    (subst (λ (m : Meaning). IsNodeReport d m (steps_of s qs) how r) (sym (meaning-same d ps qs same)) is.report)
+    (subst (λ (m : Meaning). IsNodeReport d m (steps_of s qs) how r) (sym (meaning-same d ps qs same)) is)
 
 module _ (d : Description) (s : NodeScript) (ps qs : List Program) (same : SamePrograms ps qs) where
-  brief_once : (how how' : RunEnd) (r r' : Report) → EndsByItself how → EndsByItself how' → IsReportOf d s ps how r → IsReportOf d s qs how' r' → brief d r ≡ brief d r'
+  brief_once : (how how' : RunEnd) (r r' : Report) → EndsByItself how → EndsByItself how' → IsScriptReport d s ps how r → IsScriptReport d s qs how' r' → brief d r ≡ brief d r'
   brief_once how how' r r' itself itself' is is' =
-      brief-once d (meaning_by d ps) (steps_of s ps) how how' r r' itself itself' is.report (by-same d s ps qs how' r' same is')
+      brief-once d (meaning_by d ps) (steps_of s ps) how how' r r' itself itself' is (by-same d s ps qs how' r' same is')
 
   run_same : IsSameNodeRun d d s s ps qs
   run_same = record { machine = refl; steps = steps-same s ps qs same; meaning = meaning-same d ps qs same }
 
   outputs_agree : (short : Bool) → AnswersAgree SameText (run_output short d s ps) (run_output short d s qs)
-  outputs_agree short = output_agrees d (IsReportOf d s ps) (IsReportOf d s qs) (run.Script d s ps) (run.Script d s qs) brief_once run_same short
+  outputs_agree short = output_agrees d (IsScriptReport d s ps) (IsScriptReport d s qs) (run.Script d s ps) (run.Script d s qs) brief_once run_same short
 
 pub node_agrees : (names : Names) (fold short : Bool) (vm name : List ℕ) → AnswersAgree SameText (node (steady names) fold short vm name) (node (steady names) fold short vm name)
 node_agrees names fold short vm name =

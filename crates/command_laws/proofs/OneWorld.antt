@@ -2,7 +2,6 @@
 use Rattle.std.proofs.Common.{◌≡◌, ℕ, suc, ◌<◌, Bool, List, [], ◌∷◌, ◌++◌, length, Option, Some, Ok, Result, refl, sym, ◌∙◌, ap, subst, arith}
 use Rattle.std.specs.Prelude.{slice_get, IsSomeAnd}
 use Rattle.std.specs.Global.{Vec}
-use Rattle.arrayvec.specs.ArrayVec.{ArrayVec}
 use Rattle.command_laws.specs.SameText.{SameText, IsSameWorld}
 use Rattle.command_laws.proofs.OneOutput.{output_agrees}
 use Rattle.command_laws.proofs.OneText.{WorldsHaveOneReport}
@@ -22,6 +21,7 @@ use Rattle.mate_steps.specs.OneAnswer.{AnswersAgree, steady}
 use Rattle.mate_steps.specs.SourceCode.{IsCompiledOf}
 use Rattle.mate_steps.specs.Steps.{◌▸◌}
 use Rattle.mate_steps.proofs.AcceptanceLemmas.{one_tree}
+use Rattle.mate_steps.proofs.CodeLemmas.{one-code}
 use Rattle.mate_steps.proofs.OneAnswer.{then_agrees, judged_agrees, machine_agrees, SameBytes, file_agrees}
 use Rattle.mate_steps.proofs.OneSource.{SameCompiled}
 use Rattle.node_programs.specs.ScriptSteps.{program_at}
@@ -114,7 +114,7 @@ made_same d fold h version bytes p q a b = installed_same d h version a.script b
   same : SameCompiled a.script b.script
   same = record {
     tree = a.compiled.tree_is ∙ sym of.tree_is;
-    code = ap (λ (bs : List ℕ). let v : ArrayVec ℕ = record { items = bs } in v) (a.compiled.code_is.compiled.code ∙ sym of.code_is.compiled.code);
+    code = one-code (shape_of d) fold a.tree a.script.code b.script.code a.compiled.code_is of.code_is;
   }
 
 lists_same : (ps qs : List Program) → length ps ≡ length qs → ((k : ℕ) → k < length ps → (p q : Program) → slice_get ps k ≡ Some p → slice_get qs k ≡ Some q → SameProgram p q) → SamePrograms ps qs

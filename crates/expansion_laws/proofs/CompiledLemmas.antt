@@ -18,7 +18,7 @@ use Rattle.mate_steps.specs.SourceCode.{compiled_tree, IsCompiledOf, MeansTree}
 use Rattle.mate_steps.specs.Sources.{compiled_bytes}
 use Rattle.mate_steps.specs.Steps.{goes_on, stops}
 use Rattle.mate_steps.specs.declared.code.CompiledScript.{CompiledScript}
-use Rattle.mate_steps.proofs.CodeLemmas.{means-tree}
+use Rattle.mate_steps.proofs.CodeLemmas.{means-accepted}
 use Rattle.expansion_laws.specs.CompiledText.{CompilesAsSource}
 use Rattle.expansion_laws.specs.ExpansionText.{expansion_text, TextMeansIt}
 
@@ -48,7 +48,7 @@ compiles_as_source law machine fold from to bytes plain c expands compiles =
     let t : IsCompiledTree machine fold (script_line (source_seen plain)) c = compiled_of machine fold to (script_line (source_seen plain)) c compiles in
     let accepted : IsAccepted machine (expansion_text (written_of e.script)) t.tree =
     subst (λ (bs : List ℕ). IsAccepted machine bs t.tree) (ap script_line e.expands.is) t.accepted in
-    let means : MeansTree (shape_of machine) fold t.tree = means-tree (shape_of machine) fold t.tree c t.compiled in
+    let means : MeansTree (shape_of machine) fold t.tree = means-accepted machine fold (script_line (source_seen plain)) t.tree c.code t.accepted t.compiled.code_is in
     let frames : RunsWithFrames machine (written_of e.script) t.tree = law bytes e.script e.text machine t.tree accepted in
     record {
       source = written_of e.script;

@@ -2,7 +2,7 @@
 use Rattle.std.specs.Prelude.{ℕ, Bool, List, Result}
 use Rattle.mate_cli.specs.Runs.{output_of}
 use Rattle.mate_journal.specs.declared.program.Program.{Program}
-use Rattle.run_steps.specs.Running.{IsReportOf}
+use Rattle.run_steps.specs.Running.{IsScriptReport}
 use Rattle.script_programs.specs.Programs.{script_programs}
 use Rattle.script_programs.specs.Scripts.{script}
 use Rattle.script_reader.specs.Steps.{NodeScript}
@@ -15,7 +15,7 @@ use Rattle.mate_refusals.specs.declared.refusal.Refusal.{Refusal}
 
 -- what is written of the run
 abbrev pub run_output : Bool → Description → NodeScript → List Program → Result Owed Refusal → Type 0
-run_output brief d s ps = output_of brief d (IsReportOf d s ps) (run.Script d s ps)
+run_output brief d s ps = output_of brief d (IsScriptReport d s ps) (run.Script d s ps)
 
 -- what is written of the run of a script's file on a machine
 abbrev pub run_of_script : Folder → (fold brief : Bool) → Description → (name : List ℕ) → Result Owed Refusal → Type 0

@@ -1,6 +1,5 @@
 -- The command `check`: the text of the capsule that a file has in hexadecimal digits.
 use Rattle.std.specs.Prelude.{ℕ, List, Result}
-use Rattle.capsule_codec.specs.Image.{capsule_parts}
 use Rattle.capsule_listing.specs.CapsuleText.{capsule_text}
 use Rattle.mate_steps.specs.CapsuleFiles.{capsule}
 use Rattle.mate_documents.specs.Owed.{Owed, writes}
@@ -9,4 +8,4 @@ use Rattle.mate_steps.specs.Steps.{◌▸◌}
 use Rattle.mate_refusals.specs.declared.refusal.Refusal.{Refusal}
 
 abbrev pub check : Folder → (vm name : List ℕ) → Result Owed Refusal → Type 0
-check f vm name = machine f vm ▸ λ d. capsule f d name ▸ λ c. writes (capsule_text d (capsule_parts c.0) c.1.code)
+check f vm name = machine f vm ▸ λ d. capsule f d name ▸ λ c. writes (capsule_text d c.0 c.1)

@@ -15,13 +15,12 @@ pub struct SharedScript {
 }
 
 impl Model for SharedScript {
-    ghost use Rattle.std.specs.Coded.{codes};
-    ghost use Rattle.ts_checked.specs.contracts.checked_stmt.CStmt as stmt;
-    ghost use Rattle.ts_checked.specs.declared.checked.Checked.{Checked as Source};
+    ghost use Rattle.ts_checked.specs.Checked.{ScriptTree};
+    ghost use Rattle.ts_checked.specs.TreeCode.{coded_script};
 
-    ghost Value = { Source };
+    ghost Value = { ScriptTree };
 
-    ghost coded = { Prim.hlevel (codes, stmt.the_row.coded) };
+    ghost coded = { coded_script };
 
     ghost view = { λ s. s.script.value };
 }

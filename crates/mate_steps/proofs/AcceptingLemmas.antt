@@ -7,7 +7,7 @@ use Rattle.ts_syntax.specs.Faults.{Spells}
 use Rattle.ts_syntax.specs.Seen.{source_seen}
 use Rattle.ts_checked.specs.Statement.{Block}
 use Rattle.ts_syntax.specs.Tree.{Source}
-use Rattle.ts_checked.specs.declared.checked.Checked.{Checked}
+use Rattle.ts_checked.specs.Checked.{ScriptTree}
 use Rattle.ts_syntax.specs.declared.script.Script.{Script}
 use Rattle.ts_syntax.specs.declared.token.Token.{Token}
 use Rattle.ts_parser.specs.Cutting.{CutsScript}
@@ -25,11 +25,11 @@ use Rattle.mate_steps.specs.declared.refusal.SourceRefusal.{SourceRefusal}
 use Rattle.mate_steps.specs.declared.refusal.SourceRefusal.TheVariants.{Spelling}
 
 -- a fault of the spelling is handed on
-handed_on : (d : Description) (bytes : List ℕ) (f : SourceFault) → IsMisspelt d bytes f → (r : Result Checked SourceRefusal) → IsErrAnd r (λ x. x ≡ Spelling f) → TellsAcceptance d bytes r
+handed_on : (d : Description) (bytes : List ℕ) (f : SourceFault) → IsMisspelt d bytes f → (r : Result ScriptTree SourceRefusal) → IsErrAnd r (λ x. x ≡ Spelling f) → TellsAcceptance d bytes r
 handed_on d bytes f h (Ok c) i = absurd i
 handed_on d bytes f h (Err r) i = subst (IsRefused d bytes) (sym i) h
 
-bytes_refused : (d : Description) (bytes : List ℕ) (f : SourceFault) → CutsScript bytes (Err f) → (r : Result Checked SourceRefusal) → IsErrAnd r (λ x. x ≡ Spelling f) → TellsAcceptance d bytes r
+bytes_refused : (d : Description) (bytes : List ℕ) (f : SourceFault) → CutsScript bytes (Err f) → (r : Result ScriptTree SourceRefusal) → IsErrAnd r (λ x. x ≡ Spelling f) → TellsAcceptance d bytes r
 bytes_refused d bytes f h = handed_on d bytes f (told f h)
   where
     told : (f : SourceFault) → CutsScript bytes (Err f) → IsMisspelt d bytes f
@@ -40,7 +40,7 @@ bytes_refused d bytes f h = handed_on d bytes f (told f h)
     told fault.NoMemory h = tt
 
 tokens_refused : (d : Description) (bytes : List ℕ) (tokens : List Token) (f : SourceFault) → cut bytes ≡ Ok tokens → Answers tokens (length bytes) (Err f)
-    → (r : Result Checked SourceRefusal) → IsErrAnd r (λ x. x ≡ Spelling f) → TellsAcceptance d bytes r
+    → (r : Result ScriptTree SourceRefusal) → IsErrAnd r (λ x. x ≡ Spelling f) → TellsAcceptance d bytes r
 tokens_refused d bytes tokens f is_cut h = handed_on d bytes f (told f h)
   where
     told : (f : SourceFault) → Answers tokens (length bytes) (Err f) → IsMisspelt d bytes f
@@ -50,7 +50,7 @@ tokens_refused d bytes tokens f is_cut h = handed_on d bytes f (told f h)
     told (fault.TooDeep place) h = record { tokens = tokens; cuts = is_cut; deep = h }
     told fault.NoMemory h = tt
 
-pub text_refused : (d : Description) (bytes : List ℕ) (f : SourceFault) → ReadsScript bytes (Err f) → (r : Result Checked SourceRefusal) → IsErrAnd r (λ x. x ≡ Spelling f) → TellsAcceptance d bytes r
+pub text_refused : (d : Description) (bytes : List ℕ) (f : SourceFault) → ReadsScript bytes (Err f) → (r : Result ScriptTree SourceRefusal) → IsErrAnd r (λ x. x ≡ Spelling f) → TellsAcceptance d bytes r
 text_refused d bytes f (cuts tokens c a) r i = tokens_refused d bytes tokens f c a r i
 text_refused d bytes f (fails g h e) r i =
     let is : g ≡ f = cc in bytes_refused d bytes f (subst (λ z. CutsScript bytes (Err z)) is h) r i

@@ -3,16 +3,15 @@ use Rattle.std.proofs.Common.{◌≡◌, ℕ, List, Result, Ok, Err, refl, sym, 
 use Rattle.std.specs.Global.{Vec}
 use Rattle.arrayvec.specs.ArrayVec.{ArrayVec}
 use Rattle.capsule_codec.specs.HexText.{image_in}
-use Rattle.capsule_codec.specs.Image.{CapsuleParts, capsule_parts}
+use Rattle.capsule_codec.specs.Image.{CapsuleParts}
 use Rattle.capsule_codec.specs.Reading.{capsule_in}
-use Rattle.capsule_codec.specs.declared.capsule.Capsule.{Capsule}
 use Rattle.capsule_codec.specs.declared.decoding.CapsuleFault.{CapsuleFault}
 use Rattle.capsule_codec.specs.declared.hex_text.HexFault.{HexFault}
 use Rattle.code_verifier.specs.Faults.{refusal_of}
-use Rattle.code_verifier.specs.Verified.{VerifiedCode, marks_of}
 use Rattle.code_verifier.specs.declared.fault.VerifyFault.{VerifyFault}
 use Rattle.code_verifier.specs.declared.fault.VerifyFault.TheVariants as verify
 use Rattle.mate_code.specs.BytesVerification.{bytes_verification}
+use Rattle.mate_code.specs.Run.{Code}
 use Rattle.mate_code.specs.Verification as refusal
 use Rattle.mate_num.specs.declared.shape.Shape.{Shape}
 use Rattle.mate_files.specs.Files.{Names}
@@ -27,9 +26,9 @@ use Rattle.mate_steps.specs.OneAnswer.{AnswersAgree, steady}
 use Rattle.mate_steps.proofs.OneAnswer.{then_agrees, judged_agrees, SameBytes, file_agrees}
 
 -- the same capsule, with the same verified code
-pub record SameCapsule (a b : Capsule × VerifiedCode) : Type 0 where
-  pub parts : capsule_parts a.0 ≡ capsule_parts b.0
-  pub code : a.1.code ≡ b.1.code
+pub record SameCapsule (a b : CapsuleParts × Code) : Type 0 where
+  pub parts : a.0 ≡ b.0
+  pub code : a.1 ≡ b.1
 
 -- ---- verification
 
@@ -88,21 +87,21 @@ one_fault d text f g p q =
 
 -- ---- the step
 
-one : (d : Description) (bytes : List ℕ) (a b : Capsule × VerifiedCode) → SpellsVerified d bytes (capsule_parts a.0) a.1 → SpellsVerified d bytes (capsule_parts b.0) b.1 → SameCapsule a b
+one : (d : Description) (bytes : List ℕ) (a b : CapsuleParts × Code) → SpellsVerified d bytes a.0 a.1 → SpellsVerified d bytes b.0 b.1 → SameCapsule a b
 one d bytes a b p q =
-    let same = one_capsule d bytes (capsule_parts a.0) (capsule_parts b.0) p.spells q.spells in
-    let y = subst (λ (c : CapsuleParts). bytes_verification (shape_of d) c.code ≡ Ok (b.1.code, marks_of b.1)) (sym same) q.accepted in record {
+    let same = one_capsule d bytes a.0 b.0 p.spells q.spells in
+    let y = subst (λ (c : CapsuleParts). bytes_verification (shape_of d) c.code ≡ Ok (b.1, q.marks)) (sym same) q.accepted in record {
       parts = same;
-      code = first_same a.1.code b.1.code (marks_of a.1) (marks_of b.1) _ p.accepted y;
+      code = first_same a.1 b.1 p.marks q.marks _ p.accepted y;
     }
 
-not_refused : (d : Description) (bytes : List ℕ) (a : Capsule × VerifiedCode) (e : CapsuleCause) → SpellsVerified d bytes (capsule_parts a.0) a.1 → RefusesText d bytes e → ⊥
+not_refused : (d : Description) (bytes : List ℕ) (a : CapsuleParts × Code) (e : CapsuleCause) → SpellsVerified d bytes a.0 a.1 → RefusesText d bytes e → ⊥
 not_refused d bytes a (Digits f) p q = let e : Ok p.spells.image ≡ Err f = sym p.spells.spelled ∙ q in cc
-not_refused d bytes a (Image f) p q = no_capsule d bytes (capsule_parts a.0) f p.spells q
+not_refused d bytes a (Image f) p q = no_capsule d bytes a.0 f p.spells q
 not_refused d bytes a (BadCode f) p q =
-    let same = one_capsule d bytes (capsule_parts a.0) q.capsule p.spells q.spells in
+    let same = one_capsule d bytes a.0 q.capsule p.spells q.spells in
     let y = subst (λ (c : CapsuleParts). bytes_verification (shape_of d) c.code ≡ Err (refusal_of f)) (sym same) q.refused in
-    not_both (a.1.code, marks_of a.1) (refusal_of f) _ p.accepted y
+    not_both (a.1, p.marks) (refusal_of f) _ p.accepted y
 
 no_image : {A : Type 0} (text : List ℕ) (a : ArrayVec ℕ) (f : HexFault) → image_in text ≡ Ok a → image_in text ≡ Err f → A
 no_image text a f p q = let e : Ok a ≡ Err f = sym p ∙ q in absurd cc

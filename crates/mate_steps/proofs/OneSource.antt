@@ -1,17 +1,17 @@
 -- A source has one answer.
-use Rattle.std.proofs.Common.{◌≡◌, ℕ, Bool, List, Err, sym, ◌∙◌, ap, subst, arith}
+use Rattle.std.proofs.Common.{◌≡◌, ℕ, Bool, List, sym, ◌∙◌, ap, subst, arith}
 use Rattle.std.specs.Global.{Vec}
 use Rattle.arrayvec.specs.ArrayVec.{ArrayVec}
 use Rattle.mate_num.specs.declared.shape.Shape.{Shape}
 use Rattle.ts_checked.specs.Statement.{Block}
-use Rattle.ts_compiler.specs.Compiled.{IsCompiled, Compiles}
+use Rattle.ts_compiler.specs.Compiled.{IsUncompiled}
 use Rattle.ts_compiler.specs.declared.fault.CompileFault.{CompileFault}
 use Rattle.ts_compiler.specs.declared.fault.CompileFault.TheVariants.{StackDepth, TooLong}
 use Rattle.ts_checker.specs.Accepted.{IsAccepted}
+use Rattle.mate_steps.proofs.CodeLemmas.{one-code}
 use Rattle.mate_steps.proofs.AcceptanceLemmas.{one_tree, one_refusal, apart}
-use Rattle.mate_steps.specs.SourceCode.{IsCompiledOf, HasNoCode, compiled_tree}
+use Rattle.mate_steps.specs.SourceCode.{IsCodeOf, IsCompiledOf, HasNoCode, compiled_tree}
 use Rattle.mate_steps.specs.declared.code.CompiledScript.{CompiledScript}
-use Rattle.ts_checked.specs.Checked.{checked_tree}
 use Rattle.vm_desc.specs.Shapes.{shape_of}
 use Rattle.vm_desc.specs.declared.description.Description.{Description}
 use Rattle.mate_files.specs.Files.{Names}
@@ -32,19 +32,19 @@ accepted_agrees d name bytes = judged_agrees ◌≡◌ _ _ _ (one_tree d bytes) 
 
 -- ---- code
 
-compiles_apart : (shape : Shape) (tree : Block) (code : ArrayVec ℕ) (e : CompileFault) → IsCompiled shape tree code → Compiles shape tree (Err e) → ⊥
-compiles_apart shape tree code (StackDepth need) p q = omega (arith, p.need, q.over)
-compiles_apart shape tree code (TooLong size) p q = omega (arith, p.size, q.over)
+compiles_apart : (shape : Shape) (fold : Bool) (tree : Block) (code : ArrayVec ℕ) (e : CompileFault) → IsCodeOf shape fold tree code → HasNoCode fold tree e → ⊥
+compiles_apart shape fold tree code (StackDepth need) p q = omega (arith, p.need, q.over)
+compiles_apart shape fold tree code (TooLong size) p q = omega (arith, p.size, q.over)
 
-compiles_once : (shape : Shape) (tree : Block) (e h : CompileFault) → Compiles shape tree (Err e) → Compiles shape tree (Err h) → e ≡ h
-compiles_once shape tree (StackDepth m) (StackDepth n) p q = ap StackDepth (p.need_is ∙ sym q.need_is)
-compiles_once shape tree (StackDepth m) (TooLong n) p q = absurd (omega (arith, p.over, q.fits))
-compiles_once shape tree (TooLong m) (StackDepth n) p q = absurd (omega (arith, p.fits, q.over))
-compiles_once shape tree (TooLong m) (TooLong n) p q = ap TooLong (p.size_is ∙ sym q.size_is)
+compiles_once : (tree : Block) (e h : CompileFault) → IsUncompiled tree e → IsUncompiled tree h → e ≡ h
+compiles_once tree (StackDepth m) (StackDepth n) p q = ap StackDepth (p.need_is ∙ sym q.need_is)
+compiles_once tree (StackDepth m) (TooLong n) p q = absurd (omega (arith, p.over, q.fits))
+compiles_once tree (TooLong m) (StackDepth n) p q = absurd (omega (arith, p.fits, q.over))
+compiles_once tree (TooLong m) (TooLong n) p q = ap TooLong (p.size_is ∙ sym q.size_is)
 
 -- the same tree, with the same code
 pub record SameCompiled (a b : CompiledScript) : Type 0 where
-  pub tree : checked_tree a.script ≡ checked_tree b.script
+  pub tree : a.script.tree ≡ b.script.tree
   pub code : a.code ≡ b.code
 
 compiled_agrees : (d : Description) (fold : Bool) (name : List ℕ) (tree : Block) → AnswersAgree SameCompiled (compiled d fold name tree) (compiled d fold name tree)
@@ -52,14 +52,14 @@ compiled_agrees d fold name tree = judged_agrees SameCompiled _ _ _ one not same
   one : (a b : CompiledScript) → IsCompiledOf (shape_of d) fold tree a → IsCompiledOf (shape_of d) fold tree b → SameCompiled a b
   one a b p q = record {
     tree = p.tree_is ∙ sym q.tree_is;
-    code = ap (λ (bytes : List ℕ). let v : ArrayVec ℕ = record { items = bytes } in v) (p.code_is.compiled.code ∙ sym q.code_is.compiled.code);
+    code = one-code (shape_of d) fold tree a.code b.code p.code_is q.code_is;
   }
 
-  not : (a : CompiledScript) (e : CompileFault) → IsCompiledOf (shape_of d) fold tree a → HasNoCode (shape_of d) fold tree e → ⊥
-  not a e p q = compiles_apart (shape_of d) (compiled_tree fold tree) a.code e p.code_is.compiled q
+  not : (a : CompiledScript) (e : CompileFault) → IsCompiledOf (shape_of d) fold tree a → HasNoCode fold tree e → ⊥
+  not a e p q = compiles_apart (shape_of d) fold tree a.code e p.code_is q
 
-  same : (e h : CompileFault) → HasNoCode (shape_of d) fold tree e → HasNoCode (shape_of d) fold tree h → e ≡ h
-  same e h p q = compiles_once (shape_of d) (compiled_tree fold tree) e h p q
+  same : (e h : CompileFault) → HasNoCode fold tree e → HasNoCode fold tree h → e ≡ h
+  same e h p q = compiles_once (compiled_tree fold tree) e h p q
 
 compiled_bytes_agrees : (d : Description) (fold : Bool) (name bytes : List ℕ) → AnswersAgree SameCompiled (compiled_bytes d fold name bytes) (compiled_bytes d fold name bytes)
 compiled_bytes_agrees d fold name bytes =

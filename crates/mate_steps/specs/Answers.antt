@@ -1,9 +1,8 @@
 -- What a source's bytes are for a machine, as an answer of the program.
 use Rattle.std.specs.Prelude.{ℕ, List, Result, Ok, Err}
 use Rattle.vm_desc.specs.declared.description.Description.{Description}
-use Rattle.ts_checked.specs.Checked.{checked_tree}
+use Rattle.ts_checked.specs.Checked.{ScriptTree}
 use Rattle.ts_syntax.specs.Cut.{bad_byte, big_literal}
-use Rattle.ts_checked.specs.declared.checked.Checked.{Checked}
 use Rattle.ts_parser.specs.declared.fault.SourceFault.{SourceFault}
 use Rattle.ts_parser.specs.declared.fault.SourceFault.TheVariants as fault
 use Rattle.ts_checker.specs.Accepted.{IsAccepted, IsRefusedBy, by_bytes, unexpected, too_deep, by_check}
@@ -30,6 +29,6 @@ IsRefused d bytes (Spelling f) = IsMisspelt d bytes f
 IsRefused d bytes (Meaning f) = IsUnmeant d bytes f
 
 -- the bytes are accepted, with the tree that they mean, or this is the first refusal of them
-abbrev pub TellsAcceptance : Description → List ℕ → Result Checked SourceRefusal → Type 0
-TellsAcceptance d bytes (Ok c) = IsAccepted d bytes (checked_tree c)
+abbrev pub TellsAcceptance : Description → List ℕ → Result ScriptTree SourceRefusal → Type 0
+TellsAcceptance d bytes (Ok c) = IsAccepted d bytes c.tree
 TellsAcceptance d bytes (Err r) = IsRefused d bytes r

@@ -1,29 +1,25 @@
 -- What a file is that should hold a capsule in hexadecimal digits: a capsule of the machine with code that the verifier takes, or the
 -- first refusal.
-use Rattle.std.specs.Prelude.{◌≡◌, ℕ, List, Option, Some, None, Result, Ok, Err, ⊤}
-use Rattle.std.specs.declared.alloc.Global.{Global}
-use Rattle.std.specs.declared.boxed.Box.{Box}
+use Rattle.std.specs.Prelude.{◌≡◌, ℕ, List, Result, Ok, Err}
 use Rattle.arrayvec.specs.ArrayVec.{ArrayVec}
-use Rattle.capsule_codec.specs.Image.{CapsuleParts, capsule_parts, capsule_image, IsOfMachine}
+use Rattle.capsule_codec.specs.Image.{CapsuleParts, capsule_image}
 use Rattle.capsule_codec.specs.Reading.{capsule_in}
 use Rattle.capsule_codec.specs.HexText.{image_in}
-use Rattle.capsule_codec.specs.declared.capsule.Capsule.{Capsule}
 use Rattle.capsule_codec.specs.declared.decoding.CapsuleFault.{CapsuleFault}
-use Rattle.capsule_listing.specs.CapsuleText.{IsVerifiedFor}
 use Rattle.code_verifier.specs.Faults.{refusal_of}
-use Rattle.code_verifier.specs.Verified.{VerifiedCode, marks_of}
 use Rattle.code_verifier.specs.declared.fault.VerifyFault.{VerifyFault}
 use Rattle.mate_code.specs.BytesVerification.{bytes_verification}
+use Rattle.mate_code.specs.Run.{Code}
+use Rattle.mate_code.specs.Verification.{Marks}
 use Rattle.vm_desc.specs.Shapes.{shape_of}
 use Rattle.vm_desc.specs.declared.description.Description.{Description}
 use Rattle.mate_refusals.specs.declared.cause.Cause.TheVariants as cause
 use Rattle.mate_refusals.specs.declared.refusal.Refusal.{Refusal}
 use Rattle.mate_refusals.specs.declared.refusal.Refusal.TheVariants.{InFile}
-use Rattle.mate_steps.specs.declared.capsule_file.VerifiedCapsule.{VerifiedCapsule}
 use Rattle.mate_steps.specs.Parts.{Folder, file}
 use Rattle.mate_steps.specs.Steps.{judged, ◌▸◌}
 use Rattle.mate_refusals.specs.declared.capsule_cause.CapsuleCause.{CapsuleCause}
-use Rattle.mate_refusals.specs.declared.capsule_cause.CapsuleCause.TheVariants.{Digits, Image, Code}
+use Rattle.mate_refusals.specs.declared.capsule_cause.CapsuleCause.TheVariants.{Digits, Image, Code as BadCode}
 
 -- ---- texts
 
@@ -34,11 +30,11 @@ pub record SpellsCapsule (d : Description) (text : List ℕ) (c : CapsuleParts) 
   pub decoded : capsule_in d image.items ≡ Ok c
   pub image_is : image.items ≡ capsule_image c
 
--- the text spells a capsule of the machine, and the verifier takes its code
-pub record SpellsVerified (d : Description) (text : List ℕ) (c : CapsuleParts) (v : VerifiedCode) : Type 0 where
+-- the text spells a capsule of the machine, and the verifier takes its bytes as this code
+pub record SpellsVerified (d : Description) (text : List ℕ) (c : CapsuleParts) (code : Code) : Type 0 where
   pub spells : SpellsCapsule d text c
-  pub is_for : IsVerifiedFor d c v
-  pub accepted : bytes_verification (shape_of d) c.code ≡ Ok (v.code, marks_of v)
+  pub marks : Marks
+  pub accepted : bytes_verification (shape_of d) c.code ≡ Ok (code, marks)
 
 -- the text spells an image that is no capsule of the machine, with the first fault
 pub record SpellsNoCapsule (d : Description) (text : List ℕ) (fault : CapsuleFault) : Type 0 where
@@ -56,31 +52,15 @@ pub record SpellsUnverified (d : Description) (text : List ℕ) (fault : VerifyF
 abbrev pub RefusesText : Description → List ℕ → CapsuleCause → Type 0
 RefusesText d text (Digits fault) = image_in text ≡ Err fault
 RefusesText d text (Image fault) = SpellsNoCapsule d text fault
-RefusesText d text (Code fault) = SpellsUnverified d text fault
-
--- the capsule that a text spells, before its code is verified, or why there is none
-abbrev pub ReadsCapsule : Description → List ℕ → Result Capsule CapsuleCause → Type 0
-ReadsCapsule d text (Ok c) = SpellsCapsule d text (capsule_parts c) × IsOfMachine d (capsule_parts c)
-ReadsCapsule d text (Err r) = RefusesText d text r
-
--- the capsule that a text spells with its verified code, or why there is none; or memory runs out
-abbrev pub ReadsText : Description → List ℕ → Result (Option (Box VerifiedCapsule Global)) CapsuleCause → Type 0
-ReadsText d text (Ok (Some c)) = SpellsVerified d text (capsule_parts c.value.capsule) c.value.code
-ReadsText d text (Ok None) = ⊤
-ReadsText d text (Err r) = RefusesText d text r
-
--- what the program holds of a capsule with its verified code
-abbrev pub held_pair : Result (Box VerifiedCapsule Global) Refusal → Result (Capsule × VerifiedCode) Refusal
-held_pair (Ok c) = Ok (c.value.capsule, c.value.code)
-held_pair (Err r) = Err r
+RefusesText d text (BadCode fault) = SpellsUnverified d text fault
 
 -- ---- steps
 
--- the capsule that a text spells, with its verified code
-abbrev pub spelled_capsule : Description → List ℕ → List ℕ → Result (Capsule × VerifiedCode) Refusal → Type 0
+-- the capsule that a text spells, with its code
+abbrev pub spelled_capsule : Description → List ℕ → List ℕ → Result (CapsuleParts × Code) Refusal → Type 0
 spelled_capsule d name bytes =
-    judged (λ c. SpellsVerified d bytes (capsule_parts c.0) c.1) (RefusesText d bytes) (λ why. InFile name (cause.Capsule why))
+    judged (λ c. SpellsVerified d bytes c.0 c.1) (RefusesText d bytes) (λ why. InFile name (cause.Capsule why))
 
 -- the capsule of a file
-abbrev pub capsule : Folder → Description → List ℕ → Result (Capsule × VerifiedCode) Refusal → Type 0
+abbrev pub capsule : Folder → Description → List ℕ → Result (CapsuleParts × Code) Refusal → Type 0
 capsule f d name = file f name ▸ λ bytes. spelled_capsule d name bytes.items

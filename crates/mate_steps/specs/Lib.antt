@@ -2,6 +2,7 @@ pub mod Steps
 pub mod Parts
 pub mod Sources
 pub mod CapsuleFiles
+pub mod HeldCapsules
 pub mod Expansions
 pub mod OneAnswer
 pub mod Answers

@@ -1,15 +1,16 @@
 -- The code of an accepted tree, which is folded before it is compiled or isn't.
-use Rattle.std.specs.Prelude.{◌≡◌, ℕ, ℤ, Bool, true, false, List, Result, Ok, Err}
+use Rattle.std.specs.Prelude.{◌≡◌, ◌≤◌, ℕ, ℤ, Bool, true, false, List, Result, Ok, Err}
 use Rattle.arrayvec.specs.ArrayVec.{ArrayVec}
+use Rattle.mate_num.specs.declared.bounds.TheConstants.{CODE_MAX, STACK_MAX}
 use Rattle.mate_num.specs.declared.shape.Shape.{Shape}
 use Rattle.mate_num.specs.declared.store.Store.{Store}
+use Rattle.mate_code.specs.Code.{AreBytes}
 use Rattle.mate_code.specs.Run.{code_run}
 use Rattle.ts_checked.specs.Statement.{Block}
-use Rattle.ts_checked.specs.Checked.{checked_shape, checked_tree}
 use Rattle.ts_meaning.specs.Meaning.{run_of}
 use Rattle.ts_meaning.specs.Laws.{RunsAsItsScript, UsesAsItsScript}
-use Rattle.ts_meaning.specs.Translation.{code_of}
-use Rattle.ts_compiler.specs.Compiled.{IsCompiled, Compiles, AreAccepted}
+use Rattle.ts_meaning.specs.Translation.{code_of, script_need, script_size}
+use Rattle.ts_compiler.specs.Compiled.{IsUncompiled, AreAccepted}
 use Rattle.ts_compiler.specs.declared.fault.CompileFault.{CompileFault}
 use Rattle.ts_fold.specs.Folded.{folded}
 use Rattle.ts_fold.specs.Laws.{UsesNoMore}
@@ -22,25 +23,28 @@ abbrev pub compiled_tree : Bool → Block → Block
 compiled_tree true tree = folded tree
 compiled_tree false tree = tree
 
--- Code of an accepted tree: the bytes of the compiled tree's code, which the verifier takes.
+-- Code of an accepted tree: the compiled tree needs a stack of at most 16 values, its code has room, and these are the bytes as which
+-- the verifier takes it. It takes no other bytes as this code (`one-code` of `proofs/CodeLemmas`).
 pub record IsCodeOf (shape : Shape) (fold : Bool) (tree : Block) (code : ArrayVec ℕ) : Type 0 where
-  pub compiled : IsCompiled shape (compiled_tree fold tree) code
+  pub need : script_need (compiled_tree fold tree) ≤ STACK_MAX
+  pub size : script_size (compiled_tree fold tree) ≤ CODE_MAX
+  pub bytes : AreBytes code.items
   pub verified : AreAccepted shape (compiled_tree fold tree) code
 
 -- the compiled tree has no code, for this reason
-abbrev pub HasNoCode : Shape → Bool → Block → CompileFault → Type 0
-HasNoCode shape fold tree fault = Compiles shape (compiled_tree fold tree) (Err fault)
+abbrev pub HasNoCode : Bool → Block → CompileFault → Type 0
+HasNoCode fold tree fault = IsUncompiled (compiled_tree fold tree) fault
 
 -- the compiled script of an accepted tree, with its code
 pub record IsCompiledOf (shape : Shape) (fold : Bool) (tree : Block) (c : CompiledScript) : Type 0 where
-  pub shape_is : checked_shape c.script ≡ shape
-  pub tree_is : checked_tree c.script ≡ compiled_tree fold tree
+  pub shape_is : c.script.shape ≡ shape
+  pub tree_is : c.script.tree ≡ compiled_tree fold tree
   pub code_is : IsCodeOf shape fold tree c.code
 
 -- the compiled script of an accepted tree, or why there is none; only a fold takes memory
 abbrev pub GivesCode : Shape → Bool → Block → Result CompiledScript CodeFault → Type 0
 GivesCode shape fold tree (Ok c) = IsCompiledOf shape fold tree c
-GivesCode shape fold tree (Err (Uncompiled fault)) = HasNoCode shape fold tree fault
+GivesCode shape fold tree (Err (Uncompiled fault)) = HasNoCode fold tree fault
 GivesCode shape fold tree (Err NoMemory) = fold ≡ true
 
 -- ---- what follows of it

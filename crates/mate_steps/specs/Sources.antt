@@ -1,8 +1,7 @@
 -- The compiled script of a source in a file, with its code.
 use Rattle.std.specs.Prelude.{ℕ, Bool, List, Result, Ok, Err}
 use Rattle.ts_checked.specs.Statement.{Block}
-use Rattle.ts_checked.specs.Checked.{checked_tree}
-use Rattle.ts_checked.specs.declared.checked.Checked.{Checked}
+use Rattle.ts_checked.specs.Checked.{ScriptTree}
 use Rattle.ts_checker.specs.Accepted.{IsAccepted}
 use Rattle.mate_steps.specs.SourceCode.{IsCompiledOf, HasNoCode}
 use Rattle.mate_steps.specs.declared.code.CompiledScript.{CompiledScript}
@@ -20,13 +19,13 @@ abbrev pub accepted : Description → List ℕ → List ℕ → Result Block Ref
 accepted d name bytes = judged (IsAccepted d bytes) (IsBadSource d bytes) (λ why. InFile name (cause.Source why))
 
 -- what the program holds of a tree
-abbrev pub tree_in : Result Checked Refusal → Result Block Refusal
-tree_in (Ok script) = Ok (checked_tree script)
+abbrev pub tree_in : Result ScriptTree Refusal → Result Block Refusal
+tree_in (Ok script) = Ok script.tree
 tree_in (Err r) = Err r
 
 -- the compiled script of its accepted tree, folded before or not
 abbrev pub compiled : Description → Bool → List ℕ → Block → Result CompiledScript Refusal → Type 0
-compiled d fold name tree = judged (IsCompiledOf (shape_of d) fold tree) (HasNoCode (shape_of d) fold tree)
+compiled d fold name tree = judged (IsCompiledOf (shape_of d) fold tree) (HasNoCode fold tree)
     (λ why. InFile name (cause.Code why))
 
 -- that of its bytes

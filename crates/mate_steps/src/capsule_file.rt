@@ -1,7 +1,10 @@
 //! From the text of a file to the capsule that it spells, with its verified code.
 
-ghost use Rattle.std.specs.Prelude.{◌≡◌, IfSome};
-ghost use Rattle.mate_steps.specs.CapsuleFiles.{ReadsCapsule, ReadsText, capsule, held_pair};
+ghost use Rattle.std.specs.Prelude.{◌≡◌, IfOk, IfSome};
+ghost use Rattle.capsule_codec.specs.Image.{capsule_parts};
+ghost use Rattle.capsule_listing.specs.CapsuleText.{IsVerifiedFor};
+ghost use Rattle.mate_steps.specs.CapsuleFiles.{capsule};
+ghost use Rattle.mate_steps.specs.HeldCapsules.{ReadsCapsule, ReadsText, parts_in};
 ghost use Rattle.mate_steps.specs.Parts.{ReadsFiles};
 
 use crate::parts::read_file;
@@ -27,7 +30,8 @@ pub fn capsule_of<F: Files>(
     desc: &Description,
     name: &str,
 ) -> Result<Box<VerifiedCapsule>, Refusal>
-    ensures does { capsule (record { told = F.contents files.old; steady = F.steady files.old }) desc.now name.now (held_pair result) }
+    ensures does { capsule (record { told = F.contents files.old; steady = F.steady files.old }) desc.now name.now (parts_in result) }
+    ensures verified { IfOk result (λ c. IsVerifiedFor desc.now (capsule_parts c.value.capsule) c.value.code) }
     ensures reads { ReadsFiles (F.contents files.old) (F.steady files.old) (F.faults files.old) (F.contents files.new)
         (F.steady files.new) (F.faults files.new) result }
 {

@@ -1,6 +1,7 @@
 //! From an accepted script to its code.
 
 ghost use Rattle.std.specs.Prelude.{◌≡◌, ◌≤◌, true, false, length, IfOk};
+ghost use Rattle.mate_code.specs.Code.{AreBytes};
 ghost use Rattle.ts_checked.specs.Checked.{checked_tree, checked_shape as shape_of_script};
 ghost use Rattle.vm_desc.specs.Shapes.{shape_of};
 ghost use Rattle.mate_steps.specs.SourceCode.{GivesCode};
@@ -57,7 +58,10 @@ fn plain_code(desc: &Description, script: Checked) -> Result<CompiledScript, Cod
     ensures filled { IfOk result (λ c. 1 ≤ length c.code.items) }
 {
     match compile(&table(desc), &script) {
-        Ok(code) => Ok(CompiledScript { script, code }),
+        Ok(code) => {
+            bytes_are_in_range(code.as_slice());
+            Ok(CompiledScript { script, code })
+        }
         Err(fault) => Err(CodeFault::Uncompiled(fault)),
     }
 }
@@ -75,7 +79,17 @@ fn folded_code(
         return Err(CodeFault::NoMemory);
     };
     match compile(&table(desc), &script) {
-        Ok(code) => Ok(CompiledScript { script, code }),
+        Ok(code) => {
+            bytes_are_in_range(code.as_slice());
+            Ok(CompiledScript { script, code })
+        }
         Err(fault) => Err(CodeFault::Uncompiled(fault)),
     }
+}
+
+/// The numbers of bytes are in the range of their type.
+fn bytes_are_in_range(bytes: &[u8])
+    ensures { AreBytes bytes.now }
+{
+    let _bytes = bytes;
 }

@@ -6,7 +6,7 @@ use Rattle.std.proofs.lemmas.Slice.Eq.{bytes_eq-Decides}
 use Rattle.std.proofs.lemmas.List.Elements.{All-head, All-tail}
 use Rattle.arrayvec.specs.ArrayVec.{ArrayVec}
 use Rattle.mate_num.specs.declared.store.Store.{Store}
-use Rattle.ts_checked.specs.declared.checked.Checked.{Checked}
+use Rattle.ts_checked.specs.Checked.{ScriptTree}
 use Rattle.vm_desc.specs.Shapes.{shape_of}
 use Rattle.vm_desc.specs.declared.description.Description.{Description}
 use Rattle.mate_journal.specs.Machine.{HeldProgram}
@@ -30,7 +30,7 @@ IfSome-at P None x is h = cc
 IfSome-at P (Some y) x is h = let same : y ≡ x = cc in subst P same h
 
 -- the source of a held program is that of its image's code
-source-right : (d : Description) (ps : List Program) (h : HeldProgram) (s : Checked) → AreRightPrograms d ps → source_in ps h ≡ Some s → IsSourceOf (shape_of d) (image_code (shape_of d) h.image) s
+source-right : (d : Description) (ps : List Program) (h : HeldProgram) (s : ScriptTree) → AreRightPrograms d ps → source_in ps h ≡ Some s → IsSourceOf (shape_of d) (image_code (shape_of d) h.image) s
 source-right d [] h s right is = cc
 source-right d (p ∷ ps) h s right is = by (is_held_as h p) refl is (source-right d ps h s (All-tail (IsRightProgram d) p ps right)) where
   by : (b : Bool) → is_held_as h p ≡ b → (if b then p.source else source_in ps h) ≡ Some s → (source_in ps h ≡ Some s → IsSourceOf (shape_of d) (image_code (shape_of d) h.image) s)
@@ -43,13 +43,13 @@ source-right d (p ∷ ps) h s right is = by (is_held_as h p) refl is (source-rig
 run-same : (d : Description) (ps : List Program) → AreRightPrograms d ps → (h : HeldProgram) (store : Store) (payload : ArrayVec ℤ) (answers : List ℤ) (turns : ℕ)
     → (meaning_by d ps).run h store payload answers turns ≡ (meaning_of (shape_of d)).run h store payload answers turns
 run-same d ps right h store payload answers turns = by (source_in ps h) refl where
-  by : (o : Option Checked) → source_in ps h ≡ o → run_from (shape_of d) o h store payload answers turns ≡ (meaning_of (shape_of d)).run h store payload answers turns
+  by : (o : Option ScriptTree) → source_in ps h ≡ o → run_from (shape_of d) o h store payload answers turns ≡ (meaning_of (shape_of d)).run h store payload answers turns
   by None is = refl
   by (Some s) is = sym ((source-right d ps h s right is).runs store payload answers turns)
 
 uses-same : (d : Description) (ps : List Program) → AreRightPrograms d ps → (h : HeldProgram) → (meaning_by d ps).uses h ≡ (meaning_of (shape_of d)).uses h
 uses-same d ps right h = by (source_in ps h) refl where
-  by : (o : Option Checked) → source_in ps h ≡ o → uses_from (shape_of d) o h ≡ (meaning_of (shape_of d)).uses h
+  by : (o : Option ScriptTree) → source_in ps h ≡ o → uses_from (shape_of d) o h ≡ (meaning_of (shape_of d)).uses h
   by None is = refl
   by (Some s) is = sym (source-right d ps h s right is).uses
 

@@ -7,8 +7,7 @@ use Rattle.mate_code.specs.BytesVerification.{bytes_verification}
 use Rattle.mate_code.specs.CodeUses.{uses_of as code_uses}
 use Rattle.mate_code.specs.Run.{Code, code_run}
 use Rattle.capsule_codec.specs.Image.{CapsuleParts, capsule_image, IsCapsule, IsOfMachine}
-use Rattle.ts_checked.specs.Checked.{checked_shape as shape_in, checked_tree}
-use Rattle.ts_checked.specs.declared.checked.Checked.{Checked}
+use Rattle.ts_checked.specs.Checked.{ScriptTree}
 use Rattle.ts_meaning.specs.Meaning.{run_of}
 use Rattle.ts_meaning.specs.Uses.{script_uses}
 use Rattle.vm_desc.specs.Shapes.{shape_of}
@@ -17,11 +16,11 @@ use Rattle.mate_journal.specs.declared.program.Program.{Program}
 use Rattle.node_invariant.specs.Meaning.{image_code}
 
 -- the source has the machine's shape, and the code has its run, its reads and its writes
-pub record IsSourceOf (shape : Shape) (code : Code) (source : Checked) : Type 0 where
-  pub shape_is : shape_in source ≡ shape
+pub record IsSourceOf (shape : Shape) (code : Code) (source : ScriptTree) : Type 0 where
+  pub shape_is : source.shape ≡ shape
   pub runs : (store : Store) (msg : ArrayVec ℤ) (answers : List ℤ) (turns : ℕ)
-      → code_run shape code store msg answers turns ≡ run_of (checked_tree source) store msg answers turns
-  pub uses : code_uses shape code ≡ script_uses shape (checked_tree source)
+      → code_run shape code store msg answers turns ≡ run_of source.tree store msg answers turns
+  pub uses : code_uses shape code ≡ script_uses shape source.tree
 
 -- the image is the encoding of a capsule of this machine with the program's handler and version; its code is verified by
 -- the description's shape; and a source is that of the code

@@ -291,7 +291,6 @@ reported d script ps how list v events steps right description keeps run ranges 
     subst (λ (meaning : Meaning). IsNodeReport d meaning (steps_of script ps) how r) (sym (meaning_by-right d ps right.programs))
     (subst (λ (ss : List Step). IsNodeReport d (meaning_of (shape_of d)) (map (step_of ps) ss) how r) steps by_code) in
     record {
-      right = right;
       report = by_sources;
       ranges = subst HasReportRanges (sym is) (record { nodes = All-cons HasLogRanges v.log [] ranges (All-nil HasLogRanges); air = All-nil HasAiredRanges; events = few });
     }

@@ -22,15 +22,17 @@ use Rattle.node_invariant.specs.Keeps.{IsTimely}
 use Rattle.open_node.specs.View.{NodeView, heard_of, HasPace}
 use Rattle.journal_laws.specs.InRange.{IsInRange}
 use Rattle.node_programs.specs.Sources.{meaning_by}
-use Rattle.node_programs.specs.ScriptSteps.{AreProgramsOf, step_of, steps_of}
+use Rattle.node_programs.specs.ScriptSteps.{step_of, steps_of}
 
 -- ---- what a run gives
 
--- The report of the script with its programs, which are right, by their sources; turns are counted in instructions of the installed
--- code. Its numbers are in the ranges of their types, so that its text is read back.
+-- a report of the script with its programs, by their sources; turns are counted in instructions of the installed code
+abbrev pub IsScriptReport : Description → NodeScript → List Program → RunEnd → Report → Type 0
+IsScriptReport d script ps how r = IsNodeReport d (meaning_by d ps) (steps_of script ps) how r
+
+-- such a report whose numbers are in the ranges of their types, so that its text is read back
 pub record IsReportOf (d : Description) (script : NodeScript) (ps : List Program) (how : RunEnd) (r : Report) : Type 0 where
-  pub right : AreProgramsOf d script ps
-  pub report : IsNodeReport d (meaning_by d ps) (steps_of script ps) how r
+  pub report : IsScriptReport d script ps how r
   pub ranges : HasReportRanges r
 
 -- a whole report, or one whose log is full before a step

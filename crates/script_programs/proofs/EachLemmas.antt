@@ -4,9 +4,9 @@ use Rattle.std.specs.Prelude.{All, IsSome, IsNone, IsSomeAnd, slice_get}
 use Rattle.std.proofs.lemmas.List.{append-nil, append_assoc, length_push}
 use Rattle.std.proofs.lemmas.List.Elements.{All-nil, All-cons}
 use Rattle.ts_checked.specs.Statement.{Block}
-use Rattle.capsule_codec.specs.Image.{capsule_parts}
-use Rattle.capsule_codec.specs.declared.capsule.Capsule.{Capsule}
-use Rattle.code_verifier.specs.Verified.{VerifiedCode}
+use Rattle.ts_checker.specs.Accepted.{IsAccepted}
+use Rattle.capsule_codec.specs.Image.{CapsuleParts}
+use Rattle.mate_code.specs.Run.{Code}
 use Rattle.mate_steps.specs.SourceCode.{IsCompiledOf}
 use Rattle.mate_steps.specs.declared.code.CompiledScript.{CompiledScript}
 use Rattle.vm_desc.specs.Shapes.{shape_of}
@@ -24,14 +24,20 @@ use Rattle.script_reader.specs.declared.steps.Step.TheVariants as step
 
 -- ---- what a file gives
 
--- a source that has code has a tree
-pub source-tree : (f : Folder) (d : Description) (fold : Bool) (name : List ℕ) (c : CompiledScript) → source f d fold name (Ok c) → (tree : Block) × IsCompiledOf (shape_of d) fold tree c
-source-tree f d fold name c (goes_on bytes read (goes_on tree is_tree is)) = (tree, is)
+-- a source that has code has a tree, which its bytes mean
+pub record HasTree (d : Description) (fold : Bool) (c : CompiledScript) : Type 0 where
+  pub bytes : List ℕ
+  pub tree : Block
+  pub accepted : IsAccepted d bytes tree
+  pub compiled : IsCompiledOf (shape_of d) fold tree c
+
+pub source-tree : (f : Folder) (d : Description) (fold : Bool) (name : List ℕ) (c : CompiledScript) → source f d fold name (Ok c) → HasTree d fold c
+source-tree f d fold name c (goes_on bytes read (goes_on tree accepted is)) = record { bytes = bytes.items; tree = tree; accepted = accepted; compiled = is }
 source-tree f d fold name c (goes_on bytes read (stops r is_refused is)) = cc
 source-tree f d fold name c (stops r unread is) = cc
 
 -- a capsule stands in a text
-pub capsule-text : (f : Folder) (d : Description) (name : List ℕ) (x : Capsule × VerifiedCode) → capsule f d name (Ok x) → (text : List ℕ) × SpellsVerified d text (capsule_parts x.0) x.1
+pub capsule-text : (f : Folder) (d : Description) (name : List ℕ) (x : CapsuleParts × Code) → capsule f d name (Ok x) → (text : List ℕ) × SpellsVerified d text x.0 x.1
 capsule-text f d name x (goes_on bytes read is) = (bytes.items, is)
 capsule-text f d name x (stops r unread is) = cc
 

@@ -3,6 +3,7 @@ pub mod ReadLemmas
 pub mod OrderLemmas
 pub mod RightLemmas
 pub mod EachLemmas
+pub mod GivenLemmas
 pub mod OnePrograms
 pub mod SameMeaning
 pub mod KnownLemmas

@@ -6,12 +6,10 @@ use Rattle.std.proofs.lemmas.List.{append-nil}
 use Rattle.arrayvec.specs.ArrayVec.{ArrayVec}
 use Rattle.mate_num.specs.declared.id.HandlerId.{HandlerId}
 use Rattle.capsule_codec.specs.Image.{CapsuleParts, capsule_image}
-use Rattle.capsule_codec.specs.declared.capsule.Capsule.{Capsule}
-use Rattle.code_verifier.specs.Verified.{VerifiedCode}
+use Rattle.mate_code.specs.Run.{Code}
 use Rattle.mate_files.specs.Files.{Names}
 use Rattle.mate_journal.specs.declared.program.Program.{Program}
-use Rattle.ts_checked.specs.Checked.{checked_tree}
-use Rattle.ts_checked.specs.declared.checked.Checked.{Checked}
+use Rattle.ts_checked.specs.Checked.{ScriptTree}
 use Rattle.script_reader.specs.NodeScript.{node_script_in}
 use Rattle.script_reader.specs.Steps.{NodeScript}
 use Rattle.script_reader.specs.declared.fault.Cause.{Cause}
@@ -64,11 +62,11 @@ obtained_agrees R P Q alike (Err r) (Err t) p q = inr (inl p)
 same_image : (a b : ArrayVec ℕ) → a.items ≡ b.items → a ≡ b
 same_image a b is = ap (λ (xs : List ℕ). let v : ArrayVec ℕ = record { items = xs } in v) is
 
-source_same : (a b : Option Checked) (c e : Checked) → a ≡ Some c → b ≡ Some e → checked_tree c ≡ checked_tree e → SameSource a b
-source_same a b c e is is' same = subst (λ (x : Option Checked). SameSource x b) (sym is) (subst (λ (x : Option Checked). SameSource (Some c) x) (sym is') same)
+source_same : (a b : Option ScriptTree) (c e : ScriptTree) → a ≡ Some c → b ≡ Some e → c.tree ≡ e.tree → SameSource a b
+source_same a b c e is is' same = subst (λ (x : Option ScriptTree). SameSource x b) (sym is) (subst (λ (x : Option ScriptTree). SameSource (Some c) x) (sym is') same)
 
-source_none : (a b : Option Checked) → a ≡ None → b ≡ None → SameSource a b
-source_none a b is is' = subst (λ (x : Option Checked). SameSource x b) (sym is) (subst (λ (x : Option Checked). SameSource None x) (sym is') tt)
+source_none : (a b : Option ScriptTree) → a ≡ None → b ≡ None → SameSource a b
+source_none a b is is' = subst (λ (x : Option ScriptTree). SameSource x b) (sym is) (subst (λ (x : Option ScriptTree). SameSource None x) (sym is') tt)
 
 pub installed_same : (d : Description) (h : HandlerId) (version : ℕ) (c e : CompiledScript) → SameCompiled c e → (p q : Program) → IsInstalled d h version c p → IsInstalled d h version e q → SameProgram p q
 installed_same d h version c e same p q a b = record {
@@ -82,9 +80,9 @@ installed_agrees : (names : Names) (d : Description) (fold : Bool) (h : HandlerI
 installed_agrees names d fold h version name =
     then_agrees SameCompiled SameProgram _ _ _ _ (source_agrees names d fold name) (λ c e same. obtained_agrees SameProgram (IsInstalled d h version c) (IsInstalled d h version e) (installed_same d h version c e same))
 
-loaded_same : (c e : Capsule × VerifiedCode) → SameCapsule c e → (p q : Program) → IsLoaded c.0 p → IsLoaded e.0 q → SameProgram p q
+loaded_same : (c e : CapsuleParts × Code) → SameCapsule c e → (p q : Program) → IsLoaded c.0 p → IsLoaded e.0 q → SameProgram p q
 loaded_same c e same p q a b = record {
-  handler = a.handler ∙ ap (λ (parts : CapsuleParts). let h : HandlerId = record { 0 = parts.handler } in h) same.parts ∙ sym b.handler;
+  handler = ap (λ (n : ℕ). let h : HandlerId = record { 0 = n } in h) (a.handler ∙ ap (λ (parts : CapsuleParts). parts.handler) same.parts ∙ sym b.handler);
   version = a.version_is ∙ ap (λ (parts : CapsuleParts). parts.version) same.parts ∙ sym b.version_is;
   image = same_image p.image q.image (a.image ∙ ap capsule_image same.parts ∙ sym b.image);
   source = source_none p.source q.source a.source b.source;

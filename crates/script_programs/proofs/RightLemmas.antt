@@ -13,14 +13,14 @@ use Rattle.mate_code.specs.Run.{Code, code_run}
 use Rattle.mate_code.specs.Table.{table_of}
 use Rattle.mate_code.specs.Verification.{Marks, Refusal, TooLong, verification}
 use Rattle.ts_checked.specs.Statement.{Block}
+use Rattle.ts_checker.specs.Accepted.{IsAccepted}
 use Rattle.ts_meaning.specs.Meaning.{run_of}
 use Rattle.ts_meaning.specs.Uses.{script_uses}
 use Rattle.ts_meaning.specs.Translation as translation
 use Rattle.capsule_codec.specs.Image.{CapsuleParts, capsule_image, IsCapsule, IsOfMachine}
-use Rattle.code_verifier.specs.Verified.{VerifiedCode, marks_of}
 use Rattle.mate_steps.specs.SourceCode.{IsCompiledOf, MeansTree, compiled_tree}
 use Rattle.mate_steps.specs.declared.code.CompiledScript.{CompiledScript}
-use Rattle.mate_steps.proofs.CodeLemmas.{means-tree}
+use Rattle.mate_steps.proofs.CodeLemmas.{means-accepted}
 use Rattle.vm_desc.specs.Shapes.{shape_of}
 use Rattle.vm_desc.specs.declared.description.Description.{Description}
 use Rattle.mate_journal.specs.declared.program.Program.{Program}
@@ -53,12 +53,11 @@ IsOk-by : {A E : Type 0} (r : Result A E) (a : A) → r ≡ Ok a → IsOk r
 IsOk-by {A} {E} r a is = subst (λ (x : Result A E). IsOk x) (sym is) refl
 
 -- the compiled script is the source of its code
-source-of_code : (shape : Shape) (fold : Bool) (tree : Block) (x : CompiledScript) (c : CapsuleParts) (image : ArrayVec ℕ) → IsCompiledOf shape fold tree x → c.code ≡ x.code.items → image.items ≡ capsule_image c
+source-of_code : (shape : Shape) (fold : Bool) (tree : Block) (x : CompiledScript) (c : CapsuleParts) (image : ArrayVec ℕ) → MeansTree shape fold tree → IsCompiledOf shape fold tree x → c.code ≡ x.code.items → image.items ≡ capsule_image c
     → IsSourceOf shape (image_code shape image) x.script
-source-of_code shape fold tree x c image is bytes image_is =
+source-of_code shape fold tree x c image means is bytes image_is =
     let verified : bytes_verification shape c.code ≡ Ok (translation.code_of (compiled_tree fold tree), is.code_is.verified.0) = ap (bytes_verification shape) bytes ∙ is.code_is.verified.1 in
     let code_is : image_code shape image ≡ translation.code_of (compiled_tree fold tree) = image-code shape c image (translation.code_of (compiled_tree fold tree)) is.code_is.verified.0 image_is verified in
-    let means : MeansTree shape fold tree = means-tree shape fold tree x is in
     let R : Code → Type 0 = λ code. (store : _) (msg : _) (answers : _) (turns : _) → code_run shape code store msg answers turns ≡ run_of (compiled_tree fold tree) store msg answers turns in
     record {
       shape_is = is.shape_is;
@@ -68,29 +67,30 @@ source-of_code shape fold tree x c image is bytes image_is =
     }
 
 -- the program of a compiled script
-pub IsRightProgram-compiled : (d : Description) (fold : Bool) (tree : Block) (x : CompiledScript) (c : CapsuleParts) (p : Program) → IsCompiledOf (shape_of d) fold tree x → IsCapsule c → IsOfMachine d c → c.code ≡ x.code.items
+pub IsRightProgram-compiled : (d : Description) (fold : Bool) (bytes : List ℕ) (tree : Block) (x : CompiledScript) (c : CapsuleParts) (p : Program) → IsAccepted d bytes tree → IsCompiledOf (shape_of d) fold tree x → IsCapsule c → IsOfMachine d c → c.code ≡ x.code.items
     → c.handler ≡ p.handler.0 → c.version ≡ p.version → p.source ≡ Option.Some x.script → p.image.items ≡ capsule_image c → IsRightProgram d p
-IsRightProgram-compiled d fold tree x c p is capsule machine bytes handler version source image = record {
+IsRightProgram-compiled d fold bytes tree x c p accepted is capsule machine code_is handler version source image = record {
   capsule = c;
   is_capsule = capsule;
   of_machine = machine;
   handler = handler;
   version = version;
   image = image;
-  verified = IsOk-by (bytes_verification (shape_of d) c.code) _ (ap (bytes_verification (shape_of d)) bytes ∙ is.code_is.verified.1);
-  source = subst (λ (o : _). IfSome o (IsSourceOf (shape_of d) (image_code (shape_of d) p.image))) (sym source) (source-of_code (shape_of d) fold tree x c p.image is bytes image);
+  verified = IsOk-by (bytes_verification (shape_of d) c.code) _ (ap (bytes_verification (shape_of d)) code_is ∙ is.code_is.verified.1);
+  source = subst (λ (o : _). IfSome o (IsSourceOf (shape_of d) (image_code (shape_of d) p.image))) (sym source) 
+      (source-of_code (shape_of d) fold tree x c p.image (means-accepted d fold bytes tree x.code accepted is.code_is) is code_is image);
 }
 
 -- the program of a capsule that the verifier takes
-pub IsRightProgram-loaded : (d : Description) (v : VerifiedCode) (c : CapsuleParts) (p : Program) → bytes_verification (shape_of d) c.code ≡ Ok (v.code, marks_of v) → IsCapsule c → IsOfMachine d c
+pub IsRightProgram-loaded : (d : Description) (code : Code) (marks : Marks) (c : CapsuleParts) (p : Program) → bytes_verification (shape_of d) c.code ≡ Ok (code, marks) → IsCapsule c → IsOfMachine d c
     → c.handler ≡ p.handler.0 → c.version ≡ p.version → p.source ≡ None → p.image.items ≡ capsule_image c → IsRightProgram d p
-IsRightProgram-loaded d v c p accepted capsule machine handler version source image = record {
+IsRightProgram-loaded d code marks c p accepted capsule machine handler version source image = record {
   capsule = c;
   is_capsule = capsule;
   of_machine = machine;
   handler = handler;
   version = version;
   image = image;
-  verified = IsOk-by (bytes_verification (shape_of d) c.code) (v.code, marks_of v) accepted;
+  verified = IsOk-by (bytes_verification (shape_of d) c.code) (code, marks) accepted;
   source = subst (λ (o : _). IfSome o (IsSourceOf (shape_of d) (image_code (shape_of d) p.image))) (sym source) tt;
 }

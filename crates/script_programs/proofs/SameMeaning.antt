@@ -9,7 +9,7 @@ use Rattle.mate_num.specs.declared.store.Store.{Store}
 use Rattle.ts_meaning.specs.Meaning.{run_of}
 use Rattle.ts_meaning.specs.Uses.{script_uses}
 use Rattle.ts_checked.specs.Statement.{Block}
-use Rattle.ts_checked.specs.declared.checked.Checked.{Checked}
+use Rattle.ts_checked.specs.Checked.{ScriptTree}
 use Rattle.mate_journal.specs.Machine.{HeldProgram}
 use Rattle.mate_journal.specs.declared.program.Program.{Program}
 use Rattle.node_programs.specs.Sources.{held_as, is_held_as, source_in, run_from, uses_from, meaning_by}
@@ -78,13 +78,13 @@ source-same (p ∷ ps) (q ∷ qs) same h = by (is_held_as h p) (is_held_as h q) 
   by false true is later = cc
   by false false is later = later
 
-run-same : (shape : Shape) (a b : Option Checked) → SameSource a b → (h : HeldProgram) (store : Store) (payload : ArrayVec ℤ) (answers : List ℤ) (turns : ℕ) → run_from shape a h store payload answers turns ≡ run_from shape b h store payload answers turns
+run-same : (shape : Shape) (a b : Option ScriptTree) → SameSource a b → (h : HeldProgram) (store : Store) (payload : ArrayVec ℤ) (answers : List ℤ) (turns : ℕ) → run_from shape a h store payload answers turns ≡ run_from shape b h store payload answers turns
 run-same shape None None same h store payload answers turns = refl
 run-same shape None (Some b) same h store payload answers turns = absurd same
 run-same shape (Some a) None same h store payload answers turns = absurd same
 run-same shape (Some a) (Some b) same h store payload answers turns = ap (λ (tree : Block). run_of tree store payload answers turns) same
 
-uses-same : (shape : Shape) (a b : Option Checked) → SameSource a b → (h : HeldProgram) → uses_from shape a h ≡ uses_from shape b h
+uses-same : (shape : Shape) (a b : Option ScriptTree) → SameSource a b → (h : HeldProgram) → uses_from shape a h ≡ uses_from shape b h
 uses-same shape None None same h = refl
 uses-same shape None (Some b) same h = absurd same
 uses-same shape (Some a) None same h = absurd same

@@ -2,8 +2,7 @@
 use Rattle.std.specs.Prelude.{◌≡◌, ℕ, Bool, true, false, List, [], ◌∷◌, ◌++◌, slice_index_or, Option, Some, None, option_to_list, Result}
 use Rattle.std.specs.Prelude.{Ok, Err, ⊤}
 use Rattle.mate_num.specs.declared.id.HandlerId.{HandlerId}
-use Rattle.capsule_codec.specs.Image.{capsule_parts, capsule_image}
-use Rattle.capsule_codec.specs.declared.capsule.Capsule.{Capsule}
+use Rattle.capsule_codec.specs.Image.{CapsuleParts, capsule_image}
 use Rattle.mate_journal.specs.declared.program.Program.{Program}
 use Rattle.script_reader.specs.Steps.{NodeScript}
 use Rattle.script_reader.specs.declared.steps.Step.{Step}
@@ -25,11 +24,11 @@ pub record IsInstalled (d : Description) (h : HandlerId) (version : ℕ) (c : Co
   pub image : p.image.items ≡ capsule_image (record { vm_id = d.vm_id; handler = h.0; version = version; code = c.code.items })
 
 -- the program of a capsule in a file
-pub record IsLoaded (c : Capsule) (p : Program) : Type 0 where
-  pub handler : p.handler ≡ c.handler
+pub record IsLoaded (c : CapsuleParts) (p : Program) : Type 0 where
+  pub handler : p.handler.0 ≡ c.handler
   pub version_is : p.version ≡ c.version
   pub source : p.source ≡ None
-  pub image : p.image.items ≡ capsule_image (capsule_parts c)
+  pub image : p.image.items ≡ capsule_image c
 
 abbrev pub installed : Folder → Description → Bool → HandlerId → ℕ → List ℕ → Result Program Refusal → Type 0
 installed f d fold h version name = source f d fold name ▸ λ c. obtained (IsInstalled d h version c)

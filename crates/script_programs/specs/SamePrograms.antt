@@ -1,13 +1,12 @@
 -- Programs that mean the same and install the same.
 use Rattle.std.specs.Prelude.{◌≡◌, List, [], ◌∷◌, Option, Some, None, ⊤}
 use Rattle.mate_journal.specs.declared.program.Program.{Program}
-use Rattle.ts_checked.specs.Checked.{checked_tree}
-use Rattle.ts_checked.specs.declared.checked.Checked.{Checked}
+use Rattle.ts_checked.specs.Checked.{ScriptTree}
 
 -- the same tree, or none
-abbrev pub SameSource : Option Checked → Option Checked → Type 0
+abbrev pub SameSource : Option ScriptTree → Option ScriptTree → Type 0
 SameSource None None = ⊤
-SameSource (Some a) (Some b) = checked_tree a ≡ checked_tree b
+SameSource (Some a) (Some b) = a.tree ≡ b.tree
 SameSource _ _ = ⊥
 
 pub record SameProgram (a b : Program) : Type 0 where

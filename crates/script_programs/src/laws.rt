@@ -1,15 +1,18 @@
-//! Completeness: a file has one script, and the files that a script names have one list of programs, unless memory runs out.
+//! Laws of scripts and their programs: a file has one script, and the files that a script names have one list of programs, which are
+//! right, unless memory runs out.
 
-ghost use Rattle.std.specs.Prelude.{◌≡◌, Bool, List, ℕ};
+ghost use Rattle.std.specs.Prelude.{◌≡◌, Bool, List, ℕ, Ok};
 ghost use Rattle.mate_files.specs.Files.{Names};
 ghost use Rattle.mate_journal.specs.declared.program.Program.{Program};
 ghost use Rattle.mate_steps.specs.OneAnswer.{AnswersAgree, steady};
-ghost use Rattle.node_programs.specs.ScriptSteps.{steps_of};
+ghost use Rattle.mate_steps.specs.Parts.{Folder};
+ghost use Rattle.node_programs.specs.ScriptSteps.{AreProgramsOf, steps_of};
 ghost use Rattle.node_programs.specs.Sources.{meaning_by};
+ghost use Rattle.script_programs.specs.Numbers.{NamesInOrder};
 ghost use Rattle.script_programs.specs.Programs.{script_programs};
 ghost use Rattle.script_programs.specs.SamePrograms.{SamePrograms};
 ghost use Rattle.script_programs.specs.Scripts.{script};
-ghost use Rattle.script_reader.specs.Steps.{NodeScript};
+ghost use Rattle.script_reader.specs.Steps.{NodeScript, IsRightSteps};
 ghost use Rattle.vm_desc.specs.declared.description.Description.{Description};
 
 /// A steady file has one script, or one refusal.
@@ -22,6 +25,12 @@ pub fn file_has_one_script()
 pub fn files_have_one_list()
     ensures { (names : Names) (d : Description) (fold : Bool) (s : NodeScript)
         → AnswersAgree SamePrograms (script_programs (steady names) d fold s) (script_programs (steady names) d fold s) }
+{}
+
+/// The programs that the files of a right script give are right, and each is of its line.
+pub fn files_give_right_programs()
+    ensures { (f : Folder) (d : Description) (fold : Bool) (s : NodeScript) (ps : List Program) → IsRightSteps d s → NamesInOrder s
+        → script_programs f d fold s (Ok ps) → AreProgramsOf d s ps }
 {}
 
 /// The same programs make the same steps of a script.

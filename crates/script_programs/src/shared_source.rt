@@ -1,11 +1,12 @@
 //! A compiled source that several programs share.
 
-ghost use Rattle.std.specs.Prelude.{◌≡◌, ◌≤◌, ◌<◌, Bool, length, IfOk};
+ghost use Rattle.std.specs.Prelude.{◌≡◌, ◌≤◌, ◌<◌, ℕ, Bool, List, length, IfOk};
 ghost use Rattle.mate_steps.specs.SourceCode.{IsCompiledOf};
 ghost use Rattle.mate_steps.specs.Steps.{obtained};
 ghost use Rattle.node_programs.specs.Right.{IsRightProgram};
 ghost use Rattle.script_programs.specs.Programs.{IsInstalled};
 ghost use Rattle.ts_checked.specs.Statement.{Block};
+ghost use Rattle.ts_checker.specs.Accepted.{IsAccepted};
 ghost use Rattle.vm_desc.specs.Shapes.{shape_of};
 
 use crate::image::stored_image;
@@ -28,12 +29,12 @@ pub struct SharedSource {
 
 impl Model for SharedSource {
     ghost use Rattle.std.specs.Coded.{codes};
-    ghost use Rattle.ts_checked.specs.contracts.checked_stmt.CStmt as stmt;
+    ghost use Rattle.ts_checked.specs.TreeCode.{coded_script};
     ghost use Rattle.mate_steps.specs.declared.code.CompiledScript.{CompiledScript as Compiled};
 
     ghost Value = { Compiled };
 
-    ghost coded = { Prim.hlevel (codes, stmt.the_row.coded) };
+    ghost coded = { Prim.hlevel (codes, coded_script) };
 
     ghost view = { λ s. record { script = s.script; code = s.code.value } };
 }
@@ -89,8 +90,8 @@ impl SharedSource {
         requires version { 1 ≤ version }
         requires filled { 1 ≤ length self.code.items }
         ensures installed { obtained (IsInstalled desc.now handler version self) result }
-        ensures right { (fold : Bool) (tree : Block) → IsCompiledOf (shape_of desc.now) fold tree self
-            → IfOk result (IsRightProgram desc.now) }
+        ensures right { (fold : Bool) (bytes : List ℕ) (tree : Block) → IsAccepted desc.now bytes tree
+            → IsCompiledOf (shape_of desc.now) fold tree self → IfOk result (IsRightProgram desc.now) }
     {
         let SharedSource { script, code } = self;
         let capsule = Capsule {

@@ -1,13 +1,14 @@
 -- What a checked script shows.
 use Rattle.mate_num.specs.declared.shape.Shape.{Shape}
 use Rattle.ts_checked.specs.Statement.{Block}
-use Rattle.ts_checked.specs.TreeOf.{block_tree}
-use Rattle.ts_checked.specs.declared.checked.Checked.{Checked}
 
--- the shape of the machine for which the script was checked
-abbrev pub checked_shape : Checked → Shape
-checked_shape c = c.shape
+-- a script that passed the checks: the shape of the machine for which it was checked, and its statements
+pub record ScriptTree : Type 0 where
+  pub shape : Shape
+  pub tree : Block
 
--- the script's statements
-abbrev pub checked_tree : Checked → Block
-checked_tree c = block_tree c.body
+abbrev pub checked_shape : ScriptTree → Shape
+checked_shape s = s.shape
+
+abbrev pub checked_tree : ScriptTree → Block
+checked_tree s = s.tree

@@ -1,19 +1,31 @@
 //! A checked script: a body, and the shape of the machine for which it is right.
 
-ghost use Rattle.std.specs.Prelude.{IsTrue};
-ghost use Rattle.ts_checked.specs.Right.{is_right};
-ghost use Rattle.ts_checked.specs.TreeOf.{block_tree};
-
 use crate::checked_stmt::CBlock;
 use mate_num::Shape;
+use std::marker::Model;
 
-/// A script that passed all checks for a machine of its shape. The type says that its body is right for the shape:
-/// each name is in range, each call has its function's arguments, no call is in the limit of a `for`, and each step
-/// is from -32767 to 32767 and not 0.
+/// A script that passed all checks for a machine of its shape. The type keeps its body right for the shape: each name
+/// is in range, each call has its function's arguments, no call is in the limit of a `for`, and each step is from
+/// -32767 to 32767 and not 0. Contracts see the shape and the body's tree.
 pub struct Checked {
     shape: Shape,
     body: CBlock,
-    pub ghost right: { IsTrue (is_right shape (block_tree body)) },
+}
+
+impl Model for Checked {
+    ghost use Rattle.std.specs.Prelude.{IsTrue};
+    ghost use Rattle.ts_checked.specs.Checked.{ScriptTree};
+    ghost use Rattle.ts_checked.specs.Right.{is_right};
+    ghost use Rattle.ts_checked.specs.TreeCode.{coded_script};
+    ghost use Rattle.ts_checked.specs.TreeOf.{block_tree};
+
+    ghost Value = { ScriptTree };
+
+    ghost coded = { coded_script };
+
+    ghost view = { λ c. record { shape = c.shape; tree = block_tree c.body } };
+
+    ghost invariant = { λ c. IsTrue (is_right c.shape (block_tree c.body)) };
 }
 
 /// All that has to be dropped is dropped in one function, so each place at which a script ends has one call.
@@ -48,7 +60,8 @@ impl Checked {
     }
 
     pub fn body(&self) -> &CBlock
-        ensures { block_tree result.now ≡ checked_tree self.now }
+        ensures tree { block_tree result.now ≡ checked_tree self.now }
+        ensures right { IsTrue (is_right (checked_shape self.now) (checked_tree self.now)) }
     {
         &self.body
     }

@@ -30,11 +30,15 @@ pub record HasLongCode (tree : Block) (size : ℕ) : Type 0 where
   pub over : CODE_MAX < script_size tree
   pub size_is : size ≡ capped (script_size tree)
 
--- which of them the result says; it says each exactly if it holds, since no two hold at once
+-- why the script has no code
+abbrev pub IsUncompiled : Block → CompileFault → Type 0
+IsUncompiled tree (StackDepth need) = NeedsDeeperStack tree need
+IsUncompiled tree (TooLong size) = HasLongCode tree size
+
+-- what the result says; it says each exactly if it holds, since no two hold at once
 abbrev pub Compiles : Shape → Block → Result (ArrayVec ℕ) CompileFault → Type 0
 Compiles shape tree (Ok code) = IsCompiled shape tree code
-Compiles shape tree (Err (StackDepth need)) = NeedsDeeperStack tree need
-Compiles shape tree (Err (TooLong size)) = HasLongCode tree size
+Compiles shape tree (Err fault) = IsUncompiled tree fault
 
 -- the bytes are verified, and spell the code of the script
 abbrev pub AreAccepted : Shape → Block → ArrayVec ℕ → Type 0

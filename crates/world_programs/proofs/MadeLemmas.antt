@@ -60,7 +60,7 @@ room-folded true tree room =
     record { need = let a = less.need in let b = room.need in omega (arith, a, b); size = let a = less.size in let b = room.size in omega (arith, a, b) }
 room-folded false tree room = room
 
-has-code : (d : Description) (fold : Bool) (tree : Block) (fault : CompileFault) → HasRoom (compiled_tree fold tree) → HasNoCode (shape_of d) fold tree fault → ⊥
+has-code : (d : Description) (fold : Bool) (tree : Block) (fault : CompileFault) → HasRoom (compiled_tree fold tree) → HasNoCode fold tree fault → ⊥
 has-code d fold tree (StackDepth need) room over = let a : 16 < script_need (compiled_tree fold tree) = over.over in let b = room.need in omega (arith, a, b)
 has-code d fold tree (TooLong size) room over = let a = over.over in let b = room.size in omega (arith, a, b)
 

@@ -1,5 +1,6 @@
 use Rattle.std.proofs.Common.{refl, Ok, Err}
 use Rattle.mate_steps.specs.CapsuleFiles.{capsule}
+use Rattle.mate_steps.specs.HeldCapsules.{parts_held}
 use Rattle.mate_steps.specs.Steps.{goes_on}
 use Rattle.mate_steps.proofs.Laws.{reads-as, reads-err, reads-then}
 use Rattle.mate_documents.proofs.OwedLemmas.{owed-stops}
@@ -21,8 +22,8 @@ pub returns-clause-does : goal.returns-clause-does
 returns-clause-does g c =
     let held = c.in_ok-capsule.capsule.value in
     goes_on c.in_ok-machine.machine c.in_ok-machine.ensures.does
-    (goes_on (held.capsule, held.code)
-    (at_machine (λ f d. capsule f d c.args.name.now (Ok (held.capsule, held.code))) c.in_ok-machine.machine c.description.result.now c.description.ensures c.in_ok-machine.ensures.reads c.in_ok-capsule.ensures.does)
+    (goes_on (parts_held held)
+    (at_machine (λ f d. capsule f d c.args.name.now (Ok (parts_held held))) c.in_ok-machine.machine c.description.result.now c.description.ensures c.in_ok-machine.ensures.reads c.in_ok-capsule.ensures.does)
     refl)
 
 pub returns-in_err-machine-clause-reads : goal.returns-in_err-machine-clause-reads

@@ -5,19 +5,20 @@ use Rattle.std.specs.declared.boxed.Box.{Box}
 use Rattle.mate_refusals.specs.declared.refusal.Refusal.{Refusal}
 use Rattle.mate_steps.specs.declared.capsule_file.VerifiedCapsule.{VerifiedCapsule}
 use Rattle.capsule_codec.specs.Image.{capsule_parts}
-use Rattle.mate_steps.specs.CapsuleFiles.{SpellsVerified, RefusesText, held_pair}
+use Rattle.mate_steps.specs.CapsuleFiles.{SpellsVerified, RefusesText}
+use Rattle.mate_steps.specs.HeldCapsules.{IsHeldOf, parts_in}
 use Rattle.mate_steps.specs.Steps.{goes_on}
 use Rattle.mate_refusals.specs.declared.cause.Cause.TheVariants as cause
 use Rattle.mate_steps.proofs.Laws.{stops_by, fails_as, told-read, reads-as, reads-err}
 use Rattle.mate_steps.proofs.capsule_file.capsule_of.Goals as goal
 
-held-refusal : (result : Result (Box VerifiedCapsule Global) Refusal) (r : Refusal) → IsErrAnd result (λ y. y ≡ r) → IsErrAnd (held_pair result) (λ y. y ≡ r)
+held-refusal : (result : Result (Box VerifiedCapsule Global) Refusal) (r : Refusal) → IsErrAnd result (λ y. y ≡ r) → IsErrAnd (parts_in result) (λ y. y ≡ r)
 held-refusal (Ok c) r is = absurd is
 held-refusal (Err e) r is = is
 
 pub returns-in_err-text-clause-does : goal.returns-in_err-text-clause-does
 returns-in_err-text-clause-does g c =
-    stops_by c.in_err-text.field-0.0 (held_pair c.from_residual.result) c.in_err-text.ensures.does (held-refusal c.from_residual.result c.in_err-text.field-0.0 c.from_residual.ensures.1)
+    stops_by c.in_err-text.field-0.0 (parts_in c.from_residual.result) c.in_err-text.ensures.does (held-refusal c.from_residual.result c.in_err-text.field-0.0 c.from_residual.ensures.1)
 
 pub returns-in-Err-clause-does : goal.returns-in-Err-clause-does
 returns-in-Err-clause-does g c =
@@ -27,9 +28,14 @@ returns-in-Err-clause-does g c =
 
 pub returns-in-Some-clause-does : goal.returns-in-Some-clause-does
 returns-in-Some-clause-does g c =
-    let read = rw c.in-Some.is at c.in-Ok.ensures in
+    let read : IsHeldOf c.args.desc.now c.as_slice.result.now c.in-Some.capsule.value = rw c.in-Some.is at c.in-Ok.ensures in
     goes_on c.in_ok-text.text c.in_ok-text.ensures.does
-    (subst (λ (bs : List ℕ). SpellsVerified c.args.desc.now bs (capsule_parts c.in-Some.capsule.value.capsule) c.in-Some.capsule.value.code) c.as_slice.ensures.value read)
+    (subst (λ (bs : List ℕ). SpellsVerified c.args.desc.now bs (capsule_parts c.in-Some.capsule.value.capsule) c.in-Some.capsule.value.code.code) c.as_slice.ensures.value read.spells)
+
+pub returns-in-Some-clause-verified : goal.returns-in-Some-clause-verified
+returns-in-Some-clause-verified g c =
+    let read : IsHeldOf c.args.desc.now c.as_slice.result.now c.in-Some.capsule.value = rw c.in-Some.is at c.in-Ok.ensures in
+    read.is_for
 
 pub returns-clause-does : goal.returns-clause-does
 returns-clause-does g c = goes_on c.in_ok-text.text c.in_ok-text.ensures.does (inr refl)

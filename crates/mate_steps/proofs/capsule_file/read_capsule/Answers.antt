@@ -9,15 +9,14 @@ use Rattle.mate_code.specs.BytesVerification.{bytes_verification}
 use Rattle.mate_num.specs.declared.shape.Shape.{Shape}
 use Rattle.vm_desc.specs.Shapes.{shape_of}
 use Rattle.vm_desc.specs.declared.description.Description.{Description}
-use Rattle.mate_steps.specs.CapsuleFiles.{SpellsVerified, ReadsText}
-use Rattle.mate_steps.specs.declared.capsule_file.VerifiedCapsule.{VerifiedCapsule}
+use Rattle.mate_steps.specs.HeldCapsules.{IsHeldOf, ReadsText}
 use Rattle.mate_steps.proofs.capsule_file.read_capsule.Goals as goal
 
 -- a capsule that was boxed is the one that the text spells
 boxed : (d : Description) (text : List ℕ) (capsule : Capsule) (code : VerifiedCode) (o : Option (Box VerifiedCapsule Global)) → IfSome o (λ c. c.value ≡ record { capsule = capsule; code = code })
-    → SpellsVerified d text (capsule_parts capsule) code → ReadsText d text (Ok o)
+    → IsHeldOf d text (record { capsule = capsule; code = code }) → ReadsText d text (Ok o)
 boxed d text capsule code None is spells = tt
-boxed d text capsule code (Some c) is spells = subst (λ (x : VerifiedCapsule). SpellsVerified d text (capsule_parts x.capsule) x.code) (sym is) spells
+boxed d text capsule code (Some c) is spells = subst (IsHeldOf d text) (sym is) spells
 
 -- verification of these bytes gives this code
 accepted : (shape : Shape) (bytes code : List ℕ) (v : VerifiedCode) → Verifies shape bytes (Ok v) → bytes ≡ code → bytes_verification shape code ≡ Ok (v.code, marks_of v)
@@ -30,9 +29,12 @@ returns-in-Ok-verify c =
     let is = c.in-Ok-verify.ensures in
     boxed c.args.desc.now c.args.text.now c.in-Ok.capsule c.in-Ok-verify.code c.boxed.result c.boxed.ensures
     record {
-      spells = c.in-Ok.ensures.0;
+      spells = record {
+        spells = c.in-Ok.ensures.0;
+        marks = marks_of c.in-Ok-verify.code;
+        accepted = accepted (shape_of c.args.desc.now) c.as_slice.result.now c.in-Ok.capsule.code.items c.in-Ok-verify.code is c.as_slice.ensures.value;
+      };
       is_for = record { of_machine = c.in-Ok.ensures.1; shape_is = is.shape_is; bytes_are = is.bytes_are ∙ c.as_slice.ensures.value };
-      accepted = accepted (shape_of c.args.desc.now) c.as_slice.result.now c.in-Ok.capsule.code.items c.in-Ok-verify.code is c.as_slice.ensures.value;
     }
 
 pub returns-in-Err-verify : goal.returns-in-Err-verify

@@ -1,4 +1,5 @@
-use Rattle.std.proofs.Common.{ap, sym, ◌∙◌}
+use Rattle.std.proofs.Common.{List, ℕ, ap, sym, ◌∙◌, subst}
+use Rattle.mate_code.specs.Code.{AreBytes}
 use Rattle.mate_code.specs.Table.{table_of}
 use Rattle.ts_checked.specs.Checked.{checked_tree, checked_shape as shape_of_script}
 use Rattle.vm_desc.specs.Shapes.{shape_of}
@@ -17,7 +18,7 @@ returns-in-Ok-compile-clause-gives c =
       shape_is = shape_is;
       tree_is = c.in-Ok.ensures.tree;
       code_is = folded_code (shape_of_script s) (shape_of c.args.desc.now) (checked_tree c.args.script.now) (checked_tree s) c.in-Ok-compile.code shape_is c.in-Ok.ensures.tree
-          record { compiled = code.gives; verified = code.verified };
+          record { compiled = code.gives; bytes = subst (λ (bytes : List ℕ). AreBytes bytes) c.as_slice.ensures.value c.bytes_are_in_range.ensures; verified = code.verified };
     }
 
 pub returns-in-Ok-compile-clause-filled : goal.returns-in-Ok-compile-clause-filled
@@ -25,6 +26,4 @@ returns-in-Ok-compile-clause-filled c = filled (shape_of_script c.in-Ok.script) 
 
 pub returns-in-Err-clause-gives : goal.returns-in-Err-clause-gives
 returns-in-Err-clause-gives c =
-    let s = c.in-Ok.script in
-    folded_no_code (shape_of_script s) (shape_of c.args.desc.now) (checked_tree c.args.script.now) (checked_tree s) c.in-Err.fault
-    (c.in-Ok.ensures.shape ∙ c.requires) c.in-Ok.ensures.tree c.in-Err.ensures.gives
+    folded_no_code (checked_tree c.args.script.now) (checked_tree c.in-Ok.script) c.in-Err.fault c.in-Ok.ensures.tree c.in-Err.ensures.gives

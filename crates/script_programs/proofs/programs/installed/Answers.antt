@@ -17,7 +17,7 @@ pub returns-clause-right : goal.returns-clause-right
 returns-clause-right g c =
     let f : Folder = record { told = g.F.Files.contents c.args.files.now; steady = g.F.Files.steady c.args.files.now } in
     let tree = source-tree f c.args.desc.now c.args.fold c.args.name.now c.in_ok-source.source c.in_ok-source.ensures.does in
-    c.program.ensures.right c.args.fold tree.0 tree.1
+    c.program.ensures.right c.args.fold tree.bytes tree.tree tree.accepted tree.compiled
 
 pub returns-in_err-source-clause-reads : goal.returns-in_err-source-clause-reads
 returns-in_err-source-clause-reads g c = reads-err c.in_err-source.field-0.0 c.from_residual.result c.in_err-source.ensures.reads c.from_residual.ensures.1

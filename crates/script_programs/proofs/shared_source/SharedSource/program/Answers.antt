@@ -10,7 +10,7 @@ use Rattle.script_programs.proofs.shared_source.SharedSource.program.Goals as go
 
 pub returns-clause-right : goal.returns-clause-right
 returns-clause-right c =
-    λ fold tree is.
+    λ fold bytes tree accepted is.
     let d = c.args.desc.now in
     let x : CompiledScript = record { script = c.self.inside.script; code = c.self.inside.code.value } in
     let view = c.self.view_is in
@@ -21,5 +21,5 @@ returns-clause-right c =
     let with_code : ArrayVec ℕ → CapsuleParts = λ code. record { vm_id = d.vm_id; handler = c.args.handler.0; version = c.args.version; code = code.items } in
     let fits : IsCapsule parts = subst (λ (code : ArrayVec ℕ). IsCapsule (with_code code)) copied c.in_ok-image.ensures.fits in
     let image : c.in_ok-image.image.items ≡ capsule_image parts = subst (λ (code : ArrayVec ℕ). c.in_ok-image.image.items ≡ capsule_image (with_code code)) copied c.in_ok-image.ensures.image in
-    IsRightProgram-compiled d fold tree x parts p (subst (λ (s : CompiledScript). IsCompiledOf (shape_of d) fold tree s) same is) fits (record { vm_id = refl; handler = c.requires.handler }) refl refl refl refl
+    IsRightProgram-compiled d fold bytes tree x parts p accepted (subst (λ (s : CompiledScript). IsCompiledOf (shape_of d) fold tree s) same is) fits (record { vm_id = refl; handler = c.requires.handler }) refl refl refl refl
     image
