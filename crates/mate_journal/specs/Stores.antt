@@ -1,5 +1,6 @@
 -- Stores seen: what a journal shows of the shared variables and buffers.
 use Rattle.std.specs.Prelude.{◌≡◌, ℕ, ℤ, Bool, true, false, IsTrue, List, [], ◌∷◌, ⊤, length, take, drop, slice_index_or, IfSome, MatchBool, is_some}
+use Rattle.mate_num.specs.Lists.{Along}
 use Rattle.mate_num.specs.declared.resource.Resource.{Resource}
 use Rattle.mate_num.specs.declared.resource.Resource.TheVariants.{Shared, Buffer, Device}
 use Rattle.mate_num.specs.declared.store.Store.{Store}
@@ -40,8 +41,7 @@ IsSeenBefore seen told = MatchBool (begins_era told) (seen ≡ true) ⊤
 
 -- a store is seen directly before each install and each reset; `just_seen` says that the last entry was one
 abbrev pub SeenBeforeEras : Bool → List TimedEntry → Type 0
-SeenBeforeEras just_seen [] = Unit {0}
-SeenBeforeEras just_seen (e ∷ es) = IsSeenBefore just_seen e.told × SeenBeforeEras (is_seen e.told) es
+SeenBeforeEras = Along (λ just_seen e. IsSeenBefore just_seen e.told) (λ just_seen e. is_seen e.told)
 
 pub record ShowsStores (m : Machine) (r : NodeState) (es : List TimedEntry) : Type 0 where
   pub shown : AtEachEntry (ShowsStore m) m r es
