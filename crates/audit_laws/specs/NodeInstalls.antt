@@ -1,5 +1,6 @@
 -- The steps of a node that install programs.
 use Rattle.std.specs.Prelude.{List, [], ◌∷◌}
+use Rattle.mate_num.specs.Lists.{Each}
 use Rattle.mate_journal.specs.NodeScript.{Step, Install, Post, StepIn, Run, Answer, Show, ResetNode}
 use Rattle.mate_journal.specs.declared.program.Program.{Program}
 use Rattle.audit_rules.specs.Laws.{IsOneOf}
@@ -15,5 +16,4 @@ IsInstallOf ps Show = Unit {0}
 IsInstallOf ps ResetNode = Unit {0}
 
 abbrev pub InstallPrograms : List Program → List Step → Type 0
-InstallPrograms ps [] = Unit {0}
-InstallPrograms ps (step ∷ steps) = IsInstallOf ps step × InstallPrograms ps steps
+InstallPrograms ps = Each (IsInstallOf ps)

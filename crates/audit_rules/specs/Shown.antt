@@ -1,6 +1,7 @@
 -- Stores seen: what a journal records of them by itself, and the same as tests by the roll and the serial store.
 use Rattle.std.specs.Prelude.{◌≡◌, ℕ, zero, suc, ◌&&◌, ◌||◌, not, Bool, true, List, [], ◌∷◌, length, IfSome}
 use Rattle.std.specs.List.{list_any, list_all}
+use Rattle.mate_num.specs.Lists.{Each}
 use Rattle.mate_num.specs.declared.resource.Resource.{Resource}
 use Rattle.mate_num.specs.declared.resource.Resource.TheVariants.{Shared, Buffer}
 use Rattle.mate_num.specs.declared.store.Store.{Store}
@@ -29,8 +30,7 @@ pub record HasLengthsOf (m : Machine) (s : Store) : Type 0 where
 
 -- each store that is seen has them
 abbrev pub SeenLengths : Machine → List TimedEntry → Type 0
-SeenLengths m [] = Unit {0}
-SeenLengths m (e ∷ es) = IfSome (store_seen e.told) (HasLengthsOf m) × SeenLengths m es
+SeenLengths m = Each (λ e. IfSome (store_seen e.told) (HasLengthsOf m))
 
 -- a run keeps them
 abbrev pub KeepsLengths : Machine → Type 0

@@ -1,6 +1,7 @@
 -- Lists of places that are kept as links: what clauses see of them, and what the links keep.
 use Rattle.std.specs.Prelude.{◌≡◌, ◌≢◌, ℕ, zero, suc, ◌+◌, ◌^◌, ◌<◌, List, [], ◌∷◌, ◌++◌, map, length, slice_index, slice_index_or}
 use Rattle.std.specs.List.{sum_by}
+use Rattle.mate_num.specs.Lists.{Each}
 use Rattle.event_queue.specs.declared.chains.Head.{Head}
 
 -- the places are the numbers below `total`, and each list has some of them
@@ -60,8 +61,7 @@ pub record AreLinks (next : List ℕ) (heads : List Head) : Type 0 where
 
 -- the place isn't in the list
 abbrev pub IsOutside : ℕ → List ℕ → Type 0
-IsOutside place [] = Unit {0}
-IsOutside place (q ∷ qs) = (q ≢ place) × IsOutside place qs
+IsOutside place = Each (λ q. q ≢ place)
 
 -- the first place of a list was taken out, and is in no list
 pub record Unlinks (next : List ℕ) (old new : List Head) (list place : ℕ) : Type 0 where

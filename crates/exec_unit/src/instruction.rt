@@ -3,7 +3,7 @@
 ghost use Rattle.std.specs.Prelude.{◌≤◌, ◌+◌, ◌-◌, IsTrue};
 ghost use Rattle.mate_code.specs.Flow.{pops_of, pushes_of, is_in_range};
 ghost use Rattle.mate_code.specs.Instr.{size_of};
-ghost use Rattle.mate_num.specs.declared.bounds.TheConstants.{CODE_MAX};
+ghost use Rattle.mate_num.specs.declared.bounds.TheConstants.{CODE_MAX, STACK_MAX};
 ghost use Rattle.exec_unit.specs.Follows.{Acts};
 ghost use Rattle.exec_unit.specs.Machine.{private_in};
 ghost use Rattle.exec_unit.specs.Step.{HasLengths};
@@ -32,7 +32,7 @@ pub fn act(
     heap: &mut Heap,
 ) -> Act
     requires operands { pops_of shape.now instr.now ≤ registers.old.depth }
-    requires room { registers.old.depth - pops_of shape.now instr.now + pushes_of instr.now ≤ 16 }
+    requires room { registers.old.depth - pops_of shape.now instr.now + pushes_of instr.now ≤ STACK_MAX }
     requires names { IsTrue (is_in_range shape.now instr.now) }
     requires lengths { HasLengths shape.now heap.old }
     requires within { registers.old.place + size_of instr.now ≤ CODE_MAX }

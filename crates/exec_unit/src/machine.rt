@@ -1,6 +1,7 @@
 //! The machine: what an invocation of a handler has of its own.
 
 ghost use Rattle.std.specs.Prelude.{◌≡◌, ◌≤◌, length, reverse};
+ghost use Rattle.mate_num.specs.declared.bounds.TheConstants.{STACK_MAX};
 ghost use Rattle.code_verifier.specs.Verified.{VerifiedCode, IsVerifiedCode, IsAtVerified};
 
 use crate::registers::{Memory, Registers};
@@ -70,7 +71,7 @@ impl Machine {
     #[tactic(auto, unfolding(crate::specs::Machine::private_in))]
     pub fn stack(&self) -> &[i16]
         ensures value { reverse result.now ≡ self.now.stack }
-        ensures fits { length result.now ≤ 16 }
+        ensures fits { length result.now ≤ STACK_MAX }
     {
         &self.memory.stack[..self.registers.depth]
     }
@@ -88,7 +89,7 @@ impl Machine {
     /// variables. The message stays.
     #[tactic(auto, unfolding(crate::specs::Machine::private_in))]
     pub fn move_to(&mut self, place: u32, turns: u32, stack: &[i16], privates: &[i16])
-        requires few { length stack.now ≤ 16 }
+        requires few { length stack.now ≤ STACK_MAX }
         requires eight { length privates.now ≡ 8 }
         ensures { self.new ≡ record { pc = place; stack = reverse stack.now; privates = privates.now; msg = self.old.msg; turns = turns } }
     {

@@ -2,6 +2,7 @@
 //! the place after it.
 
 ghost use Rattle.std.specs.Prelude.{◌≡◌, ◌<◌, ◌≤◌, length};
+ghost use Rattle.mate_num.specs.declared.bounds.TheConstants.{STACK_MAX};
 ghost use Rattle.mate_code.specs.Effect.{push, gives, or_div_zero};
 ghost use Rattle.mate_code.specs.declared.instr.Instr.TheVariants as instrs;
 ghost use Rattle.exec_unit.specs.Follows.{FollowsAlone, DoesAlone, step_end};
@@ -15,7 +16,7 @@ use mate_num::{FaultKind, Num16};
 
 // Pushes a value.
 pub fn give(registers: &mut Registers, memory: &mut Memory, value: i16) -> PlainEnd
-    requires { registers.old.depth < 16 }
+    requires { registers.old.depth < STACK_MAX }
     ensures end { result ≡ Next }
     ensures pushed { private_in registers.new memory.new ≡ push value (private_in registers.old memory.old) }
 {
@@ -29,7 +30,7 @@ pub fn give_or_fault(
     memory: &mut Memory,
     value: Result<i16, FaultKind>,
 ) -> PlainEnd
-    requires { registers.old.depth < 16 }
+    requires { registers.old.depth < STACK_MAX }
     ensures { FollowsAlone (gives value (private_in registers.old memory.old)) (step_end result) (private_in registers.new memory.new) }
 {
     match value {
@@ -91,7 +92,7 @@ pub fn divide<F: FnOnce(Num16, Num16) -> Option<Num16>>(
 
 // Pushes a quotient or a remainder, or faults if there is none.
 fn give_quotient(registers: &mut Registers, memory: &mut Memory, value: Option<Num16>) -> PlainEnd
-    requires { registers.old.depth < 16 }
+    requires { registers.old.depth < STACK_MAX }
     ensures { FollowsAlone (gives (or_div_zero value) (private_in registers.old memory.old)) (step_end result)
         (private_in registers.new memory.new) }
 {
@@ -104,7 +105,7 @@ fn give_quotient(registers: &mut Registers, memory: &mut Memory, value: Option<N
 /// Pushes a private variable, from 0 to 7.
 pub fn get_private(registers: &mut Registers, memory: &mut Memory, private: u8) -> PlainEnd
     requires known { private < 8 }
-    requires room { registers.old.depth < 16 }
+    requires room { registers.old.depth < STACK_MAX }
     ensures { DoesAlone (instrs.GetP private) (private_in registers.old memory.old) (step_end result)
         (private_in registers.new memory.new) }
 {
@@ -176,7 +177,7 @@ pub fn get_message_item(registers: &mut Registers, memory: &mut Memory) -> Plain
 
 /// Pushes the number of values of the message.
 pub fn get_message_size(registers: &mut Registers, memory: &mut Memory) -> PlainEnd
-    requires { registers.old.depth < 16 }
+    requires { registers.old.depth < STACK_MAX }
     ensures { DoesAlone instrs.MsgSize (private_in registers.old memory.old) (step_end result) (private_in registers.new memory.new) }
 {
     let size = memory.message_size();

@@ -1,6 +1,7 @@
 //! What an invocation of a handler has of its own, in two parts: what nearly every instruction changes, and the rest.
 
 ghost use Rattle.std.specs.Prelude.{◌≤◌};
+ghost use Rattle.mate_num.specs.declared.bounds.TheConstants.{STACK_MAX};
 
 use mate_num::Payload;
 
@@ -13,7 +14,7 @@ pub struct Registers {
     pub place: u32,
     pub depth: usize,
     pub turns: u32,
-    ghost fits: { depth ≤ 16 },
+    ghost fits: { depth ≤ STACK_MAX },
 }
 
 /// The stack, whose values are its first `depth` ones, the top last, the private variables, and the message.

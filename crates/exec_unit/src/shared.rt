@@ -2,6 +2,7 @@
 //! already at the place after it.
 
 ghost use Rattle.std.specs.Prelude.{◌≡◌, ◌<◌, ◌≤◌, length};
+ghost use Rattle.mate_num.specs.declared.bounds.TheConstants.{STACK_MAX};
 ghost use Rattle.mate_code.specs.declared.instr.Instr.TheVariants as instrs;
 ghost use Rattle.exec_unit.specs.Follows.{Does, ended, step_end};
 ghost use Rattle.exec_unit.specs.Machine.{private_in};
@@ -20,7 +21,7 @@ pub fn get_variable(
     variable: VarId,
 ) -> PlainEnd
     requires known { variable.0 < length heap.now.shared.items }
-    requires room { registers.old.depth < 16 }
+    requires room { registers.old.depth < STACK_MAX }
     ensures { Does (instrs.GetS variable) (private_in registers.old memory.old) heap.now (step_end result)
         (private_in registers.new memory.new) heap.now }
 {
@@ -101,7 +102,7 @@ pub fn take(
     buffer: BufId,
 ) -> PlainEnd
     requires known { buffer.0 < length heap.old.buffers.items }
-    requires room { registers.old.depth < 16 }
+    requires room { registers.old.depth < STACK_MAX }
     ensures { Does (instrs.BTake buffer) (private_in registers.old memory.old) heap.old (step_end result)
         (private_in registers.new memory.new) heap.new }
 {
@@ -116,7 +117,7 @@ pub fn get_size(
     buffer: BufId,
 ) -> PlainEnd
     requires known { buffer.0 < length heap.now.buffers.items }
-    requires room { registers.old.depth < 16 }
+    requires room { registers.old.depth < STACK_MAX }
     ensures { Does (instrs.BSize buffer) (private_in registers.old memory.old) heap.now (step_end result)
         (private_in registers.new memory.new) heap.now }
 {

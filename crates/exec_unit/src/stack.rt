@@ -3,7 +3,7 @@
 
 ghost use Rattle.std.specs.Prelude.{◌≡◌, ◌+◌, ◌-◌, ◌<◌, ◌≤◌, ◌∷◌, pos, length, drop, take, reverse, slice_index_or, slice_set};
 ghost use Rattle.mate_num.specs.Store.{item_of};
-ghost use Rattle.mate_num.specs.declared.bounds.TheConstants.{CODE_MAX};
+ghost use Rattle.mate_num.specs.declared.bounds.TheConstants.{CODE_MAX, STACK_MAX};
 ghost use Rattle.mate_code.specs.Effect.{push, with_stack, at_place, arguments};
 ghost use Rattle.exec_unit.specs.declared.registers.Memory.{Memory as AnyMemory};
 ghost use Rattle.exec_unit.specs.declared.registers.Registers.{Registers as AnyRegisters};
@@ -47,7 +47,7 @@ impl Registers {
     }
 
     pub(crate) fn push(&mut self, memory: &mut Memory, value: i16)
-        requires { self.old.depth < 16 }
+        requires { self.old.depth < STACK_MAX }
         ensures { private_in self.new memory.new ≡ push value (private_in self.old memory.old) }
     {
         put(&mut memory.stack, self.depth, value);
@@ -129,7 +129,7 @@ impl Memory {
 // The first `depth` values, with one more after them.
 #[tactic(auto, using(mate_code::proofs::StackLemmas::put_reverse))]
 fn put(stack: &mut [i16; 16], depth: usize, value: i16)
-    requires { depth < 16 }
+    requires { depth < STACK_MAX }
     ensures { reverse (take (depth + 1) stack.new) ≡ value ∷ reverse (take depth stack.old) }
 {
     stack[depth] = value;
@@ -139,7 +139,7 @@ fn put(stack: &mut [i16; 16], depth: usize, value: i16)
 #[tactic(auto, using(mate_code::proofs::StackLemmas::last_reverse))]
 fn last(stack: &[i16; 16], depth: usize) -> i16
     requires some { 1 ≤ depth }
-    requires fits { depth ≤ 16 }
+    requires fits { depth ≤ STACK_MAX }
     ensures { reverse (take depth stack.now) ≡ result ∷ reverse (take (depth - 1) stack.now) }
 {
     stack[depth - 1]
@@ -149,7 +149,7 @@ fn last(stack: &[i16; 16], depth: usize) -> i16
 #[tactic(auto, using(mate_code::proofs::StackLemmas::between_is))]
 fn between(stack: &[i16; 16], first: usize, depth: usize) -> &[i16]
     requires first { first ≤ depth }
-    requires fits { depth ≤ 16 }
+    requires fits { depth ≤ STACK_MAX }
     ensures value { result.now ≡ drop first (take depth stack.now) }
     ensures len { length (take depth stack.now) ≡ depth }
 {

@@ -2,7 +2,7 @@
 use Rattle.std.proofs.Common.{◌≡◌, ◌∙◌, sym, subst, refl, inl, inr, List, [], ◌∷◌}
 use Rattle.std.specs.Prelude.{All, ℤ}
 use Rattle.std.proofs.lemmas.List.Elements.{All-head, All-tail}
-use Rattle.std.proofs.lemmas.Bool.{cases_Bool}
+use Rattle.std.proofs.lemmas.Bool.{cases_Bool, MatchBool-at_true, MatchBool-at_false}
 use Rattle.arrayvec.specs.ArrayVec.{ArrayVec}
 use Rattle.mate_num.specs.declared.id.HandlerId.{HandlerId}
 use Rattle.mate_journal.specs.Grants.{IsStart}
@@ -69,6 +69,6 @@ occasion-none m r h payload told (inr (inr a)) = by_made told _ a.made (tt, star
 
 pub installs-rest : (m : Machine) (r : NodeState) (q : Pace) (p : HeldProgram) (told : List JournalEntry) → (is : Installs m r q p told) → NoneInstall is.rest
 installs-rest m r q p told is = elim (cases_Bool (m.runs_once p.handler)) [
-  | inl once ↦ occasion-none m (next_state m r (Installed p)) p.handler (record { items = [] }) is.rest (is.once once)
-  | inr never ↦ by_made is.rest [] (is.else never) tt
+  | inl once ↦ occasion-none m (next_state m r (Installed p)) p.handler (record { items = [] }) is.rest (MatchBool-at_true _ _ once is.follows)
+  | inr never ↦ by_made is.rest [] (MatchBool-at_false _ _ never is.follows) tt
 ]

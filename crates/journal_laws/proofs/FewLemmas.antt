@@ -1,8 +1,8 @@
 -- The run of a node script tells few entries: each that comes from outside is followed by two of the running of invocations at
 -- most, and each step brings three from outside at most.
 use Rattle.std.proofs.Common.{◌≡◌, ◌≢◌, ◌<◌, ◌≤◌, ◌⊎◌, ℕ, zero, suc, ◌+◌, ◌*◌, Bool, true, false, IsTrue, List, [], ◌∷◌, ◌++◌, length, refl, sym, ◌∙◌, ap, arith, inl, inr}
-use Rattle.std.specs.Prelude.{ℤ, All, if◌then◌else◌}
-use Rattle.std.proofs.lemmas.Bool.{cases_lt}
+use Rattle.std.specs.Prelude.{ℤ, All, if◌then◌else◌, MatchBool}
+use Rattle.std.proofs.lemmas.Bool.{cases_lt, MatchBool-at_true, MatchBool-at_false}
 use Rattle.std.proofs.lemmas.Bool.Decides.{eqb_tells}
 use Rattle.std.proofs.lemmas.List.Elements.{All-head, All-tail}
 use Rattle.arrayvec.specs.ArrayVec.{ArrayVec}
@@ -187,15 +187,15 @@ occasion-one m r h payload told (inl x) = let e = ap outside x.made in omega (ar
 occasion-one m r h payload told (inr (inl x)) = let e = ap outside x.made in omega (arith, e)
 occasion-one m r h payload told (inr (inr x)) = let e = ap outside x.made in let starts = starts-inside x.starts x.are_starts in omega (arith, e, starts)
 
-install-few : (m : Machine) (r : NodeState) (x : HeldProgram) (rest : List JournalEntry) (b : Bool) → m.runs_once x.handler ≡ b → (IsTrue (m.runs_once x.handler) → Occasion m (next_state m r (Installed x)) x.handler (record { items = [] }) rest)
-    → ((m.runs_once x.handler ≡ false) → rest ≡ []) → outside rest ≤ 1
-install-few m r x rest true is once else_ = occasion-one m (next_state m r (Installed x)) x.handler (record { items = [] }) rest (once is)
-install-few m r x rest false is once else_ = let e = ap outside (else_ is) in omega (arith, e)
+install-few : (m : Machine) (r : NodeState) (x : HeldProgram) (rest : List JournalEntry) (b : Bool) → m.runs_once x.handler ≡ b
+    → MatchBool (m.runs_once x.handler) (Occasion m (next_state m r (Installed x)) x.handler (record { items = [] }) rest) (rest ≡ []) → outside rest ≤ 1
+install-few m r x rest true is follows = occasion-one m (next_state m r (Installed x)) x.handler (record { items = [] }) rest (MatchBool-at_true _ _ is follows)
+install-few m r x rest false is follows = let e = ap outside (MatchBool-at_false _ _ is follows) in omega (arith, e)
 
 makes-few : (m : Machine) (r : NodeState) (p : Pace) (step : Step) (told : List JournalEntry) (q : Pace) → Makes m r p step told q → outside told ≤ 3
 makes-few m r p (Install x) told q made = by made.0 where
   by : Installs m r p x told ⊎ IsNotNewer r x told → outside told ≤ 3
-  by (inl i) = let rest = install-few m r x i.rest (m.runs_once x.handler) refl i.once i.else in let e = ap outside i.made in omega (arith, e, rest)
+  by (inl i) = let rest = install-few m r x i.rest (m.runs_once x.handler) refl i.follows in let e = ap outside i.made in omega (arith, e, rest)
   by (inr n) = let e = ap outside n.made in omega (arith, e)
 makes-few m r p (Post h payload) told q made = let one = occasion-one m r h payload told made.0 in omega (arith, one)
 makes-few m r p (StepIn c n) told q (inl t) = let e = turn-inside m r p n (record { invocation = t.invocation; told = told }) t.turn in omega (arith, e)

@@ -1,6 +1,7 @@
 -- A journal as it grows: its last entry, and the rules of its entries apart from what holds at its end.
 use Rattle.std.specs.Prelude.{◌≡◌, ◌<◌, ℕ, Bool, List, [], ◌∷◌, ◌++◌, length}
 use Rattle.arrayvec.specs.ArrayVec.{ArrayVec}
+use Rattle.mate_num.specs.Lists.{Each}
 use Rattle.mate_num.specs.declared.call.Stamp.{Stamp}
 use Rattle.mate_num.specs.declared.store.Store.{Store}
 use Rattle.mate_journal.specs.Log.{Log}
@@ -27,8 +28,7 @@ IsNamedBelow images stores (entry.Seen store) = store < stores
 IsNamedBelow images stores _ = Unit {0}
 
 abbrev pub AreNamedBelow : ℕ → ℕ → List Stamped → Type 0
-AreNamedBelow images stores [] = Unit {0}
-AreNamedBelow images stores (s ∷ entries) = IsNamedBelow images stores s.entry × AreNamedBelow images stores entries
+AreNamedBelow images stores = Each (λ s. IsNamedBelow images stores s.entry)
 
 -- each image and store that an entry names is in the log
 pub record NamesInLog (l : Log) : Type 0 where

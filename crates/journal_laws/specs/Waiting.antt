@@ -1,5 +1,6 @@
 -- Which invocations wait for the answers to their calls, and how long they do.
 use Rattle.std.specs.Prelude.{◌≡◌, ℕ, ◌<◌, ◌≤◌, ◌==◌, Bool, false, List, [], ◌∷◌, length, Option, Some, None}
+use Rattle.mate_num.specs.Lists.{Along, Each}
 use Rattle.mate_num.specs.declared.bounds.TheConstants.{CONTEXTS_MAX}
 use Rattle.mate_num.specs.declared.id.ContextId.{ContextId}
 use Rattle.mate_num.specs.declared.id.FunId.{FunId}
@@ -34,13 +35,11 @@ IsAwaitedBy r None = Unit {0}
 IsAwaitedBy r (Some a) = WaitsWithin r a.0
 
 abbrev pub AreAwaited : NodeState → List JournalEntry → Type 0
-AreAwaited r [] = Unit {0}
-AreAwaited r (t ∷ told) = IsAwaitedBy r (asked_of t) × AreAwaited r told
+AreAwaited r = Each (λ t. IsAwaitedBy r (asked_of t))
 
 -- each of the entries may follow the state before it
 abbrev pub AreFollowing : Machine → NodeState → List JournalEntry → Type 0
-AreFollowing m r [] = Unit {0}
-AreFollowing m r (t ∷ told) = MayFollow m r t × AreFollowing m (next_state m r t) told
+AreFollowing m = Along (MayFollow m) (next_state m)
 
 -- the entry ends the invocation's wait: it answers it, or begins an era
 abbrev pub ends_wait : ℕ → JournalEntry → Bool
@@ -48,8 +47,7 @@ ends_wait n (Answered k value) = k == n
 ends_wait n t = begins_era t
 
 abbrev pub NoneEndsWait : ℕ → List JournalEntry → Type 0
-NoneEndsWait n [] = Unit {0}
-NoneEndsWait n (t ∷ told) = (ends_wait n t ≡ false) × NoneEndsWait n told
+NoneEndsWait n = Each (λ t. ends_wait n t ≡ false)
 
 -- the contexts of the machine are no more than a machine may have
 abbrev pub HasFewContexts : Machine → Type 0

@@ -2,6 +2,7 @@
 use Rattle.std.proofs.Common.{◌≡◌, ℕ, suc, ◌+◌, ◌<◌, ◌≤◌, Bool, true, false, IsTrue, List, [], ◌∷◌, ◌++◌, Option, Some, None, All, refl, sym, ◌∙◌, ap, subst, inl, inr, ◌⊎◌, arith}
 use Rattle.std.specs.Prelude.{ℤ, IsSome, IsNone}
 use Rattle.std.proofs.lemmas.Bool.Decides.{leb_tells}
+use Rattle.std.proofs.lemmas.Bool.{MatchBool-at_true, MatchBool-at_false}
 use Rattle.arrayvec.specs.ArrayVec.{ArrayVec}
 use Rattle.mate_num.specs.declared.id.HandlerId.{HandlerId}
 use Rattle.mate_num.specs.declared.id.ContextId.{ContextId}
@@ -93,8 +94,8 @@ module _ (m : Machine) (r : NodeState) (p : Pace) (last : ℕ) where
         keeps-b = subst (λ (ts : List JournalEntry). KeepsRules m r last (ts ++ rest')) b.made keeps'
 
         by : (once : Bool) → m.runs_once x.handler ≡ once → a.rest ≡ b.rest
-        by true is = occasion-once m (next_state m r (Installed x)) 0 x.handler (record { items = [] }) a.rest rest b.rest rest' (a.once is) (b.once is) keeps-a.3.3 keeps-b.3.3 other other'
-        by false is = a.else is ∙ sym (b.else is)
+        by true is = occasion-once m (next_state m r (Installed x)) 0 x.handler (record { items = [] }) a.rest rest b.rest rest' (MatchBool-at_true _ _ is a.follows) (MatchBool-at_true _ _ is b.follows) keeps-a.3.3 keeps-b.3.3 other other'
+        by false is = MatchBool-at_false _ _ is a.follows ∙ sym (MatchBool-at_false _ _ is b.follows)
 
   install-once : (x : HeldProgram) (xs rest ys rest' : List JournalEntry) → Installs m r p x xs ⊎ IsNotNewer r x xs → Installs m r p x ys ⊎ IsNotNewer r x ys → KeepsRules m r last (xs ++ rest) → KeepsRules m r last (ys ++ rest')
       → BeginsOtherwise rest → BeginsOtherwise rest' → xs ≡ ys

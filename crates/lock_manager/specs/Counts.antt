@@ -1,5 +1,6 @@
 -- The number that is kept with each waiter.
 use Rattle.std.specs.Prelude.{◌≡◌, ℕ, Option, option_map, find, List, [], ◌∷◌, ◌++◌, ◌-◌, map, if◌then◌else◌}
+use Rattle.mate_num.specs.Lists.{Along}
 use Rattle.mate_num.specs.declared.id.ContextId.{ContextId}
 use Rattle.mate_num.specs.declared.lock_set.LockSet.{LockSet}
 use Rattle.lock_manager.specs.declared.claim.Claim.{Claim}
@@ -13,8 +14,7 @@ claims_of waiters = map (λ w. w.claim) waiters
 
 -- each number is how many claims ahead conflict with the waiter's: those given, and the earlier waiters'
 abbrev pub AreCounts : List Claim → List Waiter → Type 0
-AreCounts ahead [] = Unit {0}
-AreCounts ahead (w ∷ ws) = (w.blocked ≡ against w.claim.set ahead) × AreCounts (ahead ++ w.claim ∷ []) ws
+AreCounts = Along (λ ahead w. w.blocked ≡ against w.claim.set ahead) (λ ahead w. ahead ++ w.claim ∷ [])
 
 -- the waiter when a claim on the set has gone from those ahead of it
 abbrev pub lowered : LockSet → Waiter → Waiter

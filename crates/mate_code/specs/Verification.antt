@@ -1,6 +1,7 @@
 -- Verification: one pass over code, with a depth of the stack at each place, and the first refusal.
 use Rattle.std.specs.Prelude.{◌≡◌, ℕ, ◌+◌, ◌-◌, ◌<◌, ◌≤◌, Bool, true, false, not, IsTrue, ℤ, [], ◌∷◌, length, Option, None, Some, is_some}
 use Rattle.std.specs.Prelude.{Result, Ok, Err, nat_lt, nat_le, ◌==◌, if◌then◌else◌, ⊤}
+use Rattle.mate_num.specs.Lists.{Along}
 use Rattle.mate_num.specs.declared.bounds.TheConstants.{STACK_MAX}
 use Rattle.mate_num.specs.declared.shape.Shape.{Shape}
 use Rattle.mate_code.specs.declared.instr.Instr.{Instr}
@@ -136,8 +137,7 @@ verification shape code = if_halts (halts code) (pass shape code first_marks cod
 
 -- the instructions are one after another, from this place on
 abbrev pub AreFrom : ℕ → Code → Type 0
-AreFrom place [] = ⊤
-AreFrom place (p ∷ rest) = (p.0 ≡ place) × AreFrom (place + size_of p.1) rest
+AreFrom = Along (λ place p. p.0 ≡ place) (λ place p. place + size_of p.1)
 
 -- the code is verified, with these marks
 pub record IsVerified (shape : Shape) (code : Code) (marks : Marks) : Type 0 where

@@ -2,6 +2,7 @@
 use Rattle.std.proofs.Common.{zero, ◌++◌, suc, ◌+◌, ◌≡◌, ◌≤◌, ◌<◌, ℕ, Bool, false, IsTrue, List, [], ◌∷◌, ℤ, length, map, refl, sym, ap, subst, arith, inl, inr, ◌≢◌, lit<, lit≤}
 use Rattle.std.proofs.lemmas.Bool.Decides.{eqb_tells}
 use Rattle.std.proofs.lemmas.List.Elements.{All-from_recursion}
+use Rattle.std.specs.Prelude.{MatchBool}
 use Rattle.arrayvec.specs.ArrayVec.{ArrayVec}
 use Rattle.mate_num.specs.declared.call.Call.{Call}
 use Rattle.mate_num.specs.declared.call.End.{End}
@@ -261,8 +262,7 @@ module _ (m : Machine) (version : ℕ) (image : ArrayVec ℕ) where
       shown = none_ready (first_state m) (λ n. refl);
       newer = h.version;
       made = refl;
-      once = λ once. absurd (untrue (m.runs_once main) once h.not_once);
-      else = λ _. refl;
+      follows = subst (λ (b : Bool). MatchBool b (Occasion m (next_state m (first_state m) (Installed p)) main empty []) ([] ≡ [])) (sym h.not_once) refl;
     }
 
     posts : Posts m installed main empty (Posted 1 main first empty ∷ Started 1 ∷ [])

@@ -2,6 +2,7 @@
 use Rattle.std.specs.Prelude.{ℕ, ◌==◌, Bool, true, false, List, [], ◌∷◌, ◌++◌, map, ℤ, Option, Some, None, unwrap_or, slice_index_or, if◌then◌else◌}
 use Rattle.std.specs.Option.{option_map_or}
 use Rattle.arrayvec.specs.ArrayVec.{ArrayVec}
+use Rattle.mate_num.specs.Lists.{Along}
 use Rattle.mate_num.specs.declared.call.Call.{Call}
 use Rattle.mate_num.specs.declared.call.End.{End}
 use Rattle.mate_num.specs.declared.call.End.TheVariants as end
@@ -199,8 +200,7 @@ state_after_entries m r (t ∷ ts) = state_after_entries m (next_state m r t) ts
 
 -- a rule for each entry, at the state before it
 abbrev pub AtEachEntry : (NodeState → JournalEntry → Type 0) → Machine → NodeState → List TimedEntry → Type 0
-AtEachEntry Rule m r [] = Unit {0}
-AtEachEntry Rule m r (e ∷ es) = Rule r e.told × AtEachEntry Rule m (next_state m r e.told) es
+AtEachEntry Rule m = Along (λ r e. Rule r e.told) (λ r e. next_state m r e.told)
 
 -- a fact at each place of the journal, and at its end
 abbrev pub AtEachPlace : (NodeState → Type 0) → Machine → NodeState → List TimedEntry → Type 0

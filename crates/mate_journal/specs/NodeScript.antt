@@ -1,5 +1,5 @@
 -- Events and posts of a node script: which entries each step of the script makes, and the pace after it.
-use Rattle.std.specs.Prelude.{◌≡◌, ◌≢◌, ◌≤◌, ◌<◌, ℕ, suc, ◌+◌, false, IsTrue, List, [], ◌∷◌, ◌++◌, ℤ, length, map, All, IsSome, IsNone, ◌⊎◌}
+use Rattle.std.specs.Prelude.{◌≡◌, ◌≢◌, ◌≤◌, ◌<◌, ℕ, suc, ◌+◌, List, [], ◌∷◌, ◌++◌, ℤ, length, map, All, IsSome, IsNone, ◌⊎◌, MatchBool}
 use Rattle.arrayvec.specs.ArrayVec.{ArrayVec}
 use Rattle.mate_num.specs.declared.id.HandlerId.{HandlerId}
 use Rattle.mate_num.specs.declared.id.ContextId.{ContextId}
@@ -64,8 +64,8 @@ pub record Installs (m : Machine) (r : NodeState) (p : Pace) (x : HeldProgram) (
   pub shown : ShowsReady m r p seen
   pub newer : held r x.handler < x.version
   pub made : entries ≡ Seen seen ∷ Installed x ∷ rest
-  pub once : IsTrue (m.runs_once x.handler) → Occasion m (next_state m r (Installed x)) x.handler (record { items = [] }) rest
-  pub else : (m.runs_once x.handler ≡ false) → rest ≡ []
+  -- a handler that runs once is posted then
+  pub follows : MatchBool (m.runs_once x.handler) (Occasion m (next_state m r (Installed x)) x.handler (record { items = [] }) rest) (rest ≡ [])
 
 -- an older one, or the same, is not
 pub record IsNotNewer (r : NodeState) (x : HeldProgram) (entries : List JournalEntry) : Type 0 where

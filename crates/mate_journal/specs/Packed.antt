@@ -1,6 +1,7 @@
 -- Lists of images and of stores, with the room after them; a store as the list of its parts.
 use Rattle.std.specs.Prelude.{◌≤◌, ℕ, ℤ, List, [], ◌∷◌, length, map, drop, slice_index_or, All}
 use Rattle.arrayvec.specs.ArrayVec.{ArrayVec}
+use Rattle.mate_num.specs.declared.bounds.TheConstants.{BUFFERS_MAX, PAYLOAD_MAX, SHARED_MAX}
 use Rattle.mate_num.specs.declared.store.Store.{Store}
 
 -- a list, and how many more items it takes without memory
@@ -26,6 +27,6 @@ unpacked_store parts = record { shared = in_vec (slice_index_or parts 0 []); buf
 -- the parts are those of a store
 pub record AreParts (parts : List (List ℤ)) : Type 0 where
   pub some : 1 ≤ length parts
-  pub shared : length (slice_index_or parts 0 []) ≤ 16
-  pub count : length (drop 1 parts) ≤ 8
-  pub buffers : All (λ (b : List ℤ). length b ≤ 10) (drop 1 parts)
+  pub shared : length (slice_index_or parts 0 []) ≤ SHARED_MAX
+  pub count : length (drop 1 parts) ≤ BUFFERS_MAX
+  pub buffers : All (λ (b : List ℤ). length b ≤ PAYLOAD_MAX) (drop 1 parts)

@@ -1,5 +1,6 @@
 -- Positions in a list of events, counted from 0, and the parts of a journal in which no era begins.
 use Rattle.std.specs.Prelude.{◌≡◌, ℕ, zero, suc, List, [], ◌∷◌, ⊤, MatchBool}
+use Rattle.mate_num.specs.Lists.{Each}
 use Rattle.mate_num.specs.declared.call.End.{End}
 use Rattle.mate_journal.specs.Journal.{JournalEntry, Ended, begins_era, TimedEntry}
 
@@ -20,5 +21,4 @@ StaysInEra told = MatchBool (begins_era told) ⊥ ⊤
 
 -- the events are of one era: none begins another
 abbrev pub AreOfOneEra : List TimedEntry → Type 0
-AreOfOneEra [] = Unit {0}
-AreOfOneEra (e ∷ es) = StaysInEra e.told × AreOfOneEra es
+AreOfOneEra = Each (λ e. StaysInEra e.told)

@@ -2,7 +2,7 @@
 use Rattle.std.specs.Prelude.{◌<◌, ◌≤◌, ◌^◌, ℕ, ℤ, List, length, All, FitsSigned, ⊤}
 use Rattle.std.specs.Int.{w16}
 use Rattle.arrayvec.specs.ArrayVec.{ArrayVec}
-use Rattle.mate_num.specs.declared.bounds.TheConstants.{IMAGE_MAX}
+use Rattle.mate_num.specs.declared.bounds.TheConstants.{IMAGE_MAX, PACKET_MAX, PAYLOAD_MAX}
 use Rattle.mate_num.specs.declared.call.Stamp.{Stamp}
 use Rattle.mate_num.specs.declared.store.Store.{Store}
 use Rattle.mate_journal.specs.Log.{Log}
@@ -21,7 +21,7 @@ IsByteList bytes = All (λ b. b < 256) bytes
 
 -- at most ten values of 16 bits
 abbrev pub AreValues : List ℤ → Type 0
-AreValues vs = (length vs ≤ 10) × All (λ v. FitsSigned w16 v) vs
+AreValues vs = (length vs ≤ PAYLOAD_MAX) × All (λ v. FitsSigned w16 v) vs
 
 pub record HasStampRange (at : Stamp) : Type 0 where
   pub event : at.event < 2 ^ 64
@@ -46,10 +46,10 @@ HasEntryRanges _ = ⊤
 abbrev pub HasAirRanges : Air → Type 0
 HasAirRanges (air.Interval length) = length < 2 ^ 32
 HasAirRanges air.Keep = ⊤
-HasAirRanges (air.Sent n bytes) = (n < 2 ^ 32) × (length bytes.items ≤ 64) × IsByteList bytes.items
+HasAirRanges (air.Sent n bytes) = (n < 2 ^ 32) × (length bytes.items ≤ PACKET_MAX) × IsByteList bytes.items
 HasAirRanges (air.Lost n to) = n < 2 ^ 32
 HasAirRanges (air.Got n from) = n < 2 ^ 32
-HasAirRanges (air.Noise bytes) = (length bytes.items ≤ 64) × IsByteList bytes.items
+HasAirRanges (air.Noise bytes) = (length bytes.items ≤ PACKET_MAX) × IsByteList bytes.items
 
 abbrev pub HasImageRanges : ArrayVec ℕ → Type 0
 HasImageRanges image = (length image.items ≤ IMAGE_MAX) × IsByteList image.items

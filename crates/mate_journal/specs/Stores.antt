@@ -1,5 +1,7 @@
 -- Stores seen: what a journal shows of the shared variables and buffers.
-use Rattle.std.specs.Prelude.{◌≡◌, ℕ, ℤ, Bool, true, false, IsTrue, List, [], ◌∷◌, ⊤, length, take, drop, slice_index_or, IfSome, MatchBool, is_some}
+use Rattle.std.specs.Prelude.{◌≡◌, ℕ, ℤ, Bool, true, false, IsTrue, List, [], ◌∷◌, ⊤, length, take, drop, IfSome, MatchBool, is_some}
+use Rattle.mate_num.specs.Lists.{Along}
+use Rattle.mate_num.specs.Store.{buffer_at}
 use Rattle.mate_num.specs.declared.resource.Resource.{Resource}
 use Rattle.mate_num.specs.declared.resource.Resource.TheVariants.{Shared, Buffer, Device}
 use Rattle.mate_num.specs.declared.store.Store.{Store}
@@ -10,7 +12,7 @@ use Rattle.mate_journal.specs.Journal.{JournalEntry, store_seen, begins_era, Tim
 -- what a store has at a resource: a variable's one value, or a buffer's values
 abbrev pub values_at : Store → Resource → List ℤ
 values_at s (Shared v) = take 1 (drop v.0 s.shared.items)
-values_at s (Buffer b) = (slice_index_or s.buffers.items b.0 (record { items = [] })).items
+values_at s (Buffer b) = buffer_at s b.0
 values_at s (Device d) = []
 
 -- the invocation is started and live, and its program writes the resource
@@ -40,8 +42,7 @@ IsSeenBefore seen told = MatchBool (begins_era told) (seen ≡ true) ⊤
 
 -- a store is seen directly before each install and each reset; `just_seen` says that the last entry was one
 abbrev pub SeenBeforeEras : Bool → List TimedEntry → Type 0
-SeenBeforeEras just_seen [] = Unit {0}
-SeenBeforeEras just_seen (e ∷ es) = IsSeenBefore just_seen e.told × SeenBeforeEras (is_seen e.told) es
+SeenBeforeEras = Along (λ just_seen e. IsSeenBefore just_seen e.told) (λ just_seen e. is_seen e.told)
 
 pub record ShowsStores (m : Machine) (r : NodeState) (es : List TimedEntry) : Type 0 where
   pub shown : AtEachEntry (ShowsStore m) m r es

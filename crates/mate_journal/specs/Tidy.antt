@@ -1,6 +1,7 @@
 -- Tidy logs: what a text takes for granted of a node's log.
 use Rattle.std.specs.Prelude.{◌≡◌, ◌≤◌, ◌<◌, ℕ, zero, suc, List, [], ◌∷◌, ◌++◌, length, All, Option, Some, None, flat_map, option_to_list, ⊤}
 use Rattle.arrayvec.specs.ArrayVec.{ArrayVec}
+use Rattle.mate_num.specs.Lists.{Along}
 use Rattle.mate_num.specs.declared.store.Store.{Store}
 use Rattle.vm_desc.specs.Whole.{context_count}
 use Rattle.vm_desc.specs.declared.description.Description.{Description}
@@ -43,8 +44,7 @@ pub record IsStoreOf (d : Description) (s : Store) : Type 0 where
 
 -- event numbers don't fall along a list, and none is below `low`; `event` gives an item's
 abbrev pub EventsRise : {A : Type 0} → (A → ℕ) → ℕ → List A → Type 0
-EventsRise event low [] = ⊤
-EventsRise event low (x ∷ xs) = (low ≤ event x) × EventsRise event (event x) xs
+EventsRise event = Along (λ low x. low ≤ event x) (λ low x. event x)
 
 -- the event of an entry
 abbrev pub entry_event : Stamped → ℕ

@@ -1,6 +1,7 @@
 -- Well-formed journals: how the entries of an invocation follow one another.
 use Rattle.std.specs.Prelude.{ℤ, ◌≡◌, ◌≤◌, ℕ, suc, List, [], ◌∷◌, IsTrue, IsSome}
 use Rattle.arrayvec.specs.ArrayVec.{ArrayVec}
+use Rattle.mate_num.specs.Lists.{Along}
 use Rattle.mate_num.specs.declared.call.End.{End}
 use Rattle.mate_num.specs.declared.call.End.TheVariants as end
 use Rattle.mate_num.specs.declared.call.Stamp.{Stamp}
@@ -49,8 +50,7 @@ pub record NotBefore (old new : Stamp) : Type 0 where
 
 -- stamps never fall along events that follow one of this stamp
 abbrev pub IsInTime : Stamp → List TimedEntry → Type 0
-IsInTime last [] = Unit {0}
-IsInTime last (e ∷ es) = NotBefore last e.stamp × IsInTime e.stamp es
+IsInTime = Along (λ last e. NotBefore last e.stamp) (λ last e. e.stamp)
 
 -- stamps never fall along the journal, whatever its first one is
 abbrev pub StampsRise : List TimedEntry → Type 0

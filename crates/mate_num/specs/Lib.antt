@@ -6,3 +6,4 @@ pub mod Names
 pub mod Uses
 pub mod Locks
 pub mod Shapes
+pub mod Lists

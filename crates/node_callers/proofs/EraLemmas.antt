@@ -1,6 +1,7 @@
 -- What an install records, and what goes on behind it.
 use Rattle.std.proofs.Common.{◌≡◌, ◌≤◌, ℕ, true, false, List, [], ◌∷◌, Result, Ok, Err, refl, sym, ap, ◌∙◌, subst, arith, inl, inr}
 use Rattle.std.specs.Prelude.{MatchResult, OnOk, IsTrue, if◌then◌else◌, ⊤}
+use Rattle.std.proofs.lemmas.Bool.{MatchBool-at_true, MatchBool-at_false}
 use Rattle.mate_num.specs.declared.call.Stamp.{Stamp}
 use Rattle.mate_num.specs.declared.id.HandlerId.{HandlerId}
 use Rattle.vm_desc.specs.declared.description.Description.{Description}
@@ -91,7 +92,7 @@ module _ (old new : NodeView) (at : Stamp) (bytes : List ℕ) (c : CapsuleParts)
   has_event (Ok u) once gives =
       Tells-by old new at _ _ (λ p told q x.
       let i = installs p told x.0 in
-      record { store = i.seen; rest = i.rest; is = i.made; then = begins _ (capsule_handler c) i.rest (i.once (let is : IsTrue (m.runs_once (capsule_handler c)) = once in is)) }) gives
+      record { store = i.seen; rest = i.rest; is = i.made; then = begins _ (capsule_handler c) i.rest (MatchBool-at_true _ _ once i.follows) }) gives
   has_event (Err why) once gives = tt
 
   -- the entries behind which nothing is live
@@ -99,7 +100,7 @@ module _ (old new : NodeView) (at : Stamp) (bytes : List ℕ) (c : CapsuleParts)
   era_told p told never is =
       let i = installs p told is in
       subst (λ (ts : List JournalEntry). IsNoneLive (state_after_entries m r ts))
-      (sym (i.made ∙ ap (λ (ts : List JournalEntry). Seen i.seen ∷ Installed (program_by c bytes) ∷ ts) (i.else never))) (λ n. none_cut (r.invocations n).phase)
+      (sym (i.made ∙ ap (λ (ts : List JournalEntry). Seen i.seen ∷ Installed (program_by c bytes) ∷ ts) (MatchBool-at_false _ _ never i.follows))) (λ n. none_cut (r.invocations n).phase)
 
 live_as : (p q : Phase) → p ≡ q → is_live q ≡ true → IsTrue (is_live p)
 live_as p q is live = ap is_live is ∙ live

@@ -1,6 +1,6 @@
 -- An install: the program that the bytes are takes the place of what was held, and an era begins.
 use Rattle.std.proofs.Common.{◌≡◌, ◌≢◌, ◌⊎◌, ℕ, ◌+◌, ◌≤◌, ◌<◌, Bool, true, false, cond, eqb, List, [], ◌∷◌, ◌++◌, Option, Some, None, Result, Ok, Err, length, map, set, drop, ℤ, refl, sym, ◌∙◌, ap, subst, arith, inl, inr, get_or-set_same, get_or-set_other, length-set}
-use Rattle.std.specs.Prelude.{All, IsTrue, nat_lt}
+use Rattle.std.specs.Prelude.{All, IsTrue, nat_lt, MatchBool, Bool}
 use Rattle.std.specs.Option.{option_map}
 use Rattle.std.proofs.Math.Seq.{get_or-append_seam}
 use Rattle.std.proofs.lemmas.Bool.Decides.{eqb_tells}
@@ -276,21 +276,25 @@ module _ (d : Description) (old mid next : Parts) (at_ : Stamp) (bytes : List �
   heard-next : reading d next.log.all ≡ next_state m r (Installed p)
   heard-next = reading-grows d old.log.all next.log.all at_ both.adds.told both.adds.grows ∙ ap (λ (ts : List JournalEntry). state_after_all m r (map (event_at at_) ts)) both.adds.made
 
-  installs : (rest told : List JournalEntry) → told ≡ Seen old.heap ∷ Installed p ∷ rest → (IsTrue (m.runs_once i.handler) → Occasion m (next_state m r (Installed p)) i.handler (record { items = [] }) rest) → ((m.runs_once i.handler ≡ false) → rest ≡ [])
+  -- what is after the install, if the handler runs once or doesn't
+  Follows : Bool → List JournalEntry → Type 0
+  Follows b rest = MatchBool b (Occasion m (next_state m r (Installed p)) i.handler (record { items = [] }) rest) (rest ≡ [])
+
+  installs : (rest told : List JournalEntry) → told ≡ Seen old.heap ∷ Installed p ∷ rest → Follows (m.runs_once i.handler) rest
       → AtPace d old (InstallsBytes d r bytes) told
-  installs rest told made once else_ pace has =
+  installs rest told made follows pace has =
       let P : HeldProgram → Type 0 = λ x. Installs m r pace x told in
       record {
         capsule = can.capsule;
         right = can.right;
-        installs = subst P can.program (record { seen = old.heap; rest = rest; shown = seen.shown pace has; newer = newer; made = made; once = once; else = else_ });
+        installs = subst P can.program (record { seen = old.heap; rest = rest; shown = seen.shown pace has; newer = newer; made = made; follows = follows });
       }
 
   -- a handler that doesn't run once
   pub RestsAgain-once_none : m.runs_once i.handler ≡ false → RestsAgain d old next at_ (AtPace d old (InstallsBytes d r bytes))
   RestsAgain-once_none never =
       RestsAgain-as d old next at_ (λ told. told ≡ Seen old.heap ∷ Installed p ∷ []) (AtPace d old (InstallsBytes d r bytes)) both
-      (λ told made. installs [] told made (λ is. absurd (let e : false ≡ true = sym never ∙ is in cc)) (λ e. refl))
+      (λ told made. installs [] told made (subst (λ (b : Bool). Follows b []) (sym never) refl))
 
   -- one that does
   pub RestsAgain-once : (new : Parts) (payload : ArrayVec ℤ) (answer : PostAnswer) → m.runs_once i.handler ≡ true → payload.items ≡ [] → RestsAgain d next new at_ (PostGives m (reading d next.log.all) i.handler payload answer)
@@ -300,8 +304,8 @@ module _ (d : Description) (old mid next : Parts) (at_ : Stamp) (bytes : List �
       (λ xs ys e gives.
       (let Q : NodeState → Type 0 = λ q. PostGives m q i.handler payload answer ys in
       let O : List ℤ → Type 0 = λ values. Occasion m (next_state m r (Installed p)) i.handler (record { items = values }) ys in
-      installs ys (xs ++ ys) (ap (λ (l : List JournalEntry). l ++ ys) e) (λ is. subst O empty (Occasion-gives m (next_state m r (Installed p)) i.handler payload answer ys (subst Q heard-next gives)))
-      (λ never. absurd (let f : false ≡ true = sym never ∙ always in cc))))
+      installs ys (xs ++ ys) (ap (λ (l : List JournalEntry). l ++ ys) e)
+      (subst (λ (b : Bool). Follows b ys) (sym always) (subst O empty (Occasion-gives m (next_state m r (Installed p)) i.handler payload answer ys (subst Q heard-next gives))))))
 
 -- ---- refusals
 

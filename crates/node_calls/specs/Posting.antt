@@ -1,6 +1,7 @@
 -- What a post answers, and which context it takes.
 use Rattle.std.specs.Prelude.{◌≡◌, ◌<◌, ℕ, ℤ, suc, List, [], ◌∷◌, None, Some, IsSome}
 use Rattle.arrayvec.specs.ArrayVec.{ArrayVec}
+use Rattle.mate_num.specs.declared.bounds.TheConstants.{CONTEXTS_MAX}
 use Rattle.mate_num.specs.declared.id.ContextId.{ContextId}
 use Rattle.mate_num.specs.declared.id.HandlerId.{HandlerId}
 use Rattle.mate_journal.specs.Machine.{Machine, IsContextOf}
@@ -31,7 +32,7 @@ PostGives m r h payload AllBusy told = DropsAllBusy m r h told
 -- no invocation has the context, and one has each lower context of the handler
 pub record IsFirstFree (m : Machine) (contexts : Contexts) (h : HandlerId) (c : ContextId) : Type 0 where
   pub context : IsContextOf m h c
-  pub small : c.0 < 16
+  pub small : c.0 < CONTEXTS_MAX
   pub free : (at contexts c).seat ≡ None
   pub lower : (k : ContextId) → IsContextOf m h k → k.0 < c.0 → IsSome (at contexts k).seat
 

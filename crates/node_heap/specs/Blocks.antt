@@ -1,10 +1,11 @@
 -- One block of values: 16 shared variables, and then room for 10 values in each buffer.
 use Rattle.std.specs.Prelude.{ℕ, ◌+◌, ◌*◌, ℤ, List, [], ◌∷◌, take, drop, slice_index}
 use Rattle.arrayvec.specs.ArrayVec.{ArrayVec}
+use Rattle.mate_num.specs.declared.bounds.TheConstants.{PAYLOAD_MAX, SHARED_MAX}
 
 -- where the values of a buffer begin
 abbrev pub start_of : ℕ → ℕ
-start_of buf = 16 + buf * 10
+start_of buf = SHARED_MAX + buf * PAYLOAD_MAX
 
 -- the values of a buffer
 abbrev pub values_of : List ℤ → List ℕ → ℕ → List ℤ

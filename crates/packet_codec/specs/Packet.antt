@@ -11,12 +11,12 @@ abbrev pub full_len : Bool → ℕ
 full_len true = 48
 full_len false = 24
 
--- a handler of the machine, a version, and at least one of the 22 fragments that an image can have
+-- a handler of the machine, a version, and at least one of the fragments that an image can have
 pub record IsRightStatus (handlers handler version missing : ℕ) : Type 0 where
   pub handler_high : handler < handlers
   pub version_low : 1 ≤ version
   pub missing_low : 1 ≤ missing
-  pub missing_high : missing < 2 ^ 22
+  pub missing_high : missing < 2 ^ FRAGMENTS_MAX
 
 -- a handler of the machine, a version, one of 1 to 22 fragments, and a piece, which is full but for the last one
 pub record IsRightFragment (handlers handler version index count : ℕ) (large : Bool) (bytes : List ℕ) : Type 0 where

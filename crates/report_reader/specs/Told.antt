@@ -1,7 +1,7 @@
 -- What a line of a report says, and its text.
 use Rattle.std.specs.Prelude.{◌≡◌, ◌<◌, ◌≤◌, ◌^◌, ℕ, List, [], ◌∷◌, ◌++◌, codes, length, ⊤}
 use Rattle.arrayvec.specs.ArrayVec.{ArrayVec}
-use Rattle.mate_num.specs.declared.bounds.TheConstants.{IMAGE_MAX}
+use Rattle.mate_num.specs.declared.bounds.TheConstants.{IMAGE_MAX, NODES_MAX}
 use Rattle.mate_num.specs.declared.store.Store.{Store}
 use Rattle.vm_desc.specs.declared.description.Description.{Description}
 use Rattle.vm_desc.specs.Whole.{context_count}
@@ -47,11 +47,11 @@ IsRightEntry d (entry.Install h version image) = ⊥
 IsRightEntry d (entry.Seen store) = ⊥
 IsRightEntry d _ = ⊤
 
--- node numbers are below 64, and no packet is empty
+-- node numbers are those of a world, and no packet is empty
 abbrev pub IsRightAir : Air → Type 0
 IsRightAir (air.Sent n bytes) = 0 < length bytes.items
-IsRightAir (air.Lost n to) = to < 64
-IsRightAir (air.Got n from) = from < 64
+IsRightAir (air.Lost n to) = to < NODES_MAX
+IsRightAir (air.Got n from) = from < NODES_MAX
 IsRightAir (air.Noise bytes) = 0 < length bytes.items
 IsRightAir _ = ⊤
 
@@ -62,7 +62,7 @@ IsRightTold d (told.Installed h version image) = (h.0 < length d.handlers.items)
 IsRightTold d (told.Shown s) = IsStoreOf d s
 
 pub record IsRightLine (d : Description) (l : Line) : Type 0 where
-  pub node : l.node < 64
+  pub node : l.node < NODES_MAX
   pub told : IsRightTold d l.told
 
 -- ---- the numbers in a line are in the ranges of their types: every line's are

@@ -1,6 +1,7 @@
 -- What a radio holds for the rules of a world: causes as the radio's events, and packets that a node sends.
 use Rattle.std.specs.Prelude.{◌≡◌, ℕ, suc, ◌+◌, ◌*◌, ◌≤◌, ◌==◌, List, [], ◌∷◌, ◌++◌, length, map, count_by}
 use Rattle.std.specs.List.{flat_map}
+use Rattle.mate_num.specs.Lists.{Each}
 use Rattle.mate_num.specs.declared.call.Stamp.{Stamp}
 use Rattle.mate_journal.specs.declared.air.Air.{Air}
 use Rattle.mate_journal.specs.declared.air.Aired.{Aired}
@@ -75,8 +76,7 @@ pub record IsFitPacket (w : World) (p : Packet) : Type 0 where
   pub ranges : HasPacketRanges p
 
 abbrev pub AreFitPackets : World → List Packet → Type 0
-AreFitPackets w [] = Unit {0}
-AreFitPackets w (p ∷ ps) = IsFitPacket w p × AreFitPackets w ps
+AreFitPackets w = Each (IsFitPacket w)
 
 -- the packets that the node sends next, if these nodes sent before
 abbrev pub sendings_next : ℕ → List ℕ → List Packet → List Sending

@@ -1,6 +1,7 @@
 -- What an event changes on a radio, apart from packets.
 use Rattle.std.specs.Prelude.{◌≡◌, ℕ, ◌<◌, Bool, true, not, ◌&&◌, ◌==◌, if◌then◌else◌, List, [], ◌∷◌, Option, Some, None}
 use Rattle.std.specs.List.{filter}
+use Rattle.mate_num.specs.Lists.{Each}
 use Rattle.mate_journal.specs.declared.air.Air.{Air}
 use Rattle.mate_journal.specs.declared.air.Air.TheVariants as air
 use Rattle.mate_journal.specs.declared.air.Aired.{Aired}
@@ -50,8 +51,7 @@ IsNear (radio.Due k c inv value) = k < 256
 IsNear (radio.Deliver link number bytes) = Unit {0}
 
 abbrev pub AreNear : List Event → Type 0
-AreNear [] = Unit {0}
-AreNear (e ∷ es) = IsNear e × AreNear es
+AreNear = Each IsNear
 
 -- what ends is no more due, and nothing else changes
 pub record CancelsAll (node : ℕ) (ends : Ends) (old new : Ether) : Type 0 where

@@ -1,7 +1,7 @@
 -- What an event's deed makes calls nothing.
 use Rattle.std.proofs.Common.{List, [], ◌∷◌, ◌++◌, refl, sym, subst, inl, inr}
 use Rattle.std.specs.Prelude.{ℤ, All}
-use Rattle.std.proofs.lemmas.Bool.{cases_Bool}
+use Rattle.std.proofs.lemmas.Bool.{cases_Bool, MatchBool-at_true, MatchBool-at_false}
 use Rattle.std.proofs.lemmas.List.Elements.{All-head, All-tail}
 use Rattle.arrayvec.specs.ArrayVec.{ArrayVec}
 use Rattle.mate_num.specs.declared.id.HandlerId.{HandlerId}
@@ -52,8 +52,8 @@ deed-quiet m (Installing program) r p told x = subst CallNothing (sym x.made) (
   (
     refl,
     elim (cases_Bool (m.runs_once program.handler)) [
-      | inl is ↦ occasion-quiet m _ program.handler _ x.rest (x.once is)
-      | inr else ↦ subst CallNothing (sym (x.else else)) tt
+      | inl is ↦ occasion-quiet m _ program.handler _ x.rest (MatchBool-at_true _ _ is x.follows)
+      | inr never ↦ subst CallNothing (sym (MatchBool-at_false _ _ never x.follows)) tt
     ],
   ),
 )

@@ -1,5 +1,6 @@
 -- What an event records, cancels and schedules after its node's turns.
 use Rattle.std.specs.Prelude.{◌≡◌, ℕ, ◌≤◌, List, [], ◌∷◌, ◌++◌, map, None}
+use Rattle.mate_num.specs.Lists.{Each}
 use Rattle.mate_num.specs.declared.call.Stamp.{Stamp}
 use Rattle.open_node.specs.View.{heard_of}
 use Rattle.open_node.specs.Calls.{told_from}
@@ -19,8 +20,7 @@ use Rattle.sim_mote.specs.declared.mote.Mote.{Mote}
 
 -- none of these calls anything
 abbrev pub CallNothing : List JournalEntry → Type 0
-CallNothing [] = Unit {0}
-CallNothing (t ∷ told) = (asked_of t ≡ None) × CallNothing told
+CallNothing = Each (λ t. asked_of t ≡ None)
 
 -- its node did its part, which calls nothing, and had its turns; the log's entries from a position on are
 -- those that it made in these

@@ -21,7 +21,7 @@ pub record IsCompiled (shape : Shape) (tree : Block) (bytes : ArrayVec ℕ) : Ty
 
 -- it needs a deeper stack
 pub record NeedsDeeperStack (tree : Block) (need : ℕ) : Type 0 where
-  pub over : 16 < script_need tree
+  pub over : STACK_MAX < script_need tree
   pub need_is : need ≡ capped (script_need tree)
 
 -- it doesn't, but its code is too long

@@ -1,5 +1,6 @@
 -- Texts that are cut into tokens of given kinds, and texts that spell a script.
 use Rattle.std.specs.Prelude.{◌≡◌, ◌≤◌, ℕ, List, [], ◌∷◌, length, Ok}
+use Rattle.mate_num.specs.Lists.{Each}
 use Rattle.ts_syntax.specs.declared.token.Token.{Token}
 use Rattle.ts_syntax.specs.declared.token.TokenKind.{TokenKind}
 use Rattle.ts_syntax.specs.declared.token.TokenKind.TheVariants as kind
@@ -31,8 +32,7 @@ IsKind kind.Do = ⊥
 IsKind _ = Unit {0}
 
 abbrev pub AreKinds : List TokenKind → Type 0
-AreKinds [] = Unit {0}
-AreKinds (k ∷ ks) = IsKind k × AreKinds ks
+AreKinds = Each IsKind
 
 -- the bytes are cut into tokens of these kinds
 pub record IsCutInto (bytes : List ℕ) (ks : List TokenKind) : Type 0 where

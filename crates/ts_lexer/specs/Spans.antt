@@ -1,6 +1,7 @@
 -- What the first bytes of a text are.
 use Rattle.std.specs.Prelude.{◌≡◌, ℕ, ◌+◌, ◌-◌, ◌*◌, ◌==◌, Bool, true, false, not, ◌||◌, if◌then◌else◌, List, [], ◌∷◌, Option, Some, None}
 use Rattle.std.specs.Option.{option_map}
+use Rattle.mate_num.specs.Lists.{Each}
 use Rattle.ts_syntax.specs.declared.token.TokenKind.{TokenKind}
 use Rattle.ts_syntax.specs.declared.token.TokenKind.TheVariants as kind
 use Rattle.ts_syntax.specs.Cut.{is_blank, begins_name, is_digit, sign_of}
@@ -15,8 +16,7 @@ BeginsWith p bs = begins p bs ≡ true
 
 -- each byte passes the test
 abbrev pub Passes : (ℕ → Bool) → List ℕ → Type 0
-Passes p [] = Unit {0}
-Passes p (b ∷ bs) = (p b ≡ true) × Passes p bs
+Passes p = Each (λ b. p b ≡ true)
 
 -- the byte begins no blank, comment, name or literal
 abbrev pub begins_sign : ℕ → Bool

@@ -1,6 +1,7 @@
 -- Which trees the grammar derives: each operand is at a level that its place allows, and a `do` is in the dialect with
 -- procedures alone.
 use Rattle.std.specs.Prelude.{◌≡◌, ◌⊎◌, ℕ, ◌≤◌, true, List, [], ◌∷◌}
+use Rattle.mate_num.specs.Lists.{Along, Each}
 use Rattle.ts_checked.specs.declared.bin_op.BinOp.{BinOp}
 use Rattle.ts_checked.specs.declared.bin_op.BinOp.TheVariants as op
 use Rattle.ts_syntax.specs.declared.dialect.Dialect.{Dialect}
@@ -70,8 +71,7 @@ abbrev mutual
 
 -- names of one declaration, and then whole declarations
 abbrev pub NamesFollow : DeclKind → List Decl → Type 0
-NamesFollow k [] = Unit {0}
-NamesFollow k (d ∷ ds) = ((d.first ≡ true) ⊎ (d.kind ≡ k)) × NamesFollow d.kind ds
+NamesFollow = Along (λ k d. (d.first ≡ true) ⊎ (d.kind ≡ k)) (λ k d. d.kind)
 
 -- declared names: the first has its keyword, and each without a keyword is of the kind before it
 abbrev pub DeclsDerived : List Decl → Type 0
@@ -80,8 +80,7 @@ DeclsDerived (d ∷ ds) = (d.first ≡ true) × NamesFollow d.kind ds
 
 -- the statements of each procedure are derived
 abbrev pub ProceduresDerived : List Procedure → Type 0
-ProceduresDerived [] = Unit {0}
-ProceduresDerived (p ∷ ps) = ActsDerived dialect.Procedures p.body × ProceduresDerived ps
+ProceduresDerived = Each (λ p. ActsDerived dialect.Procedures p.body)
 
 -- a script that the grammar derives
 pub record IsDerived (s : Source) : Type 0 where

@@ -3,7 +3,7 @@ use Rattle.std.proofs.Common.{◌≡◌, ◌≢◌, ◌+◌, ℕ, true, false, L
 use Rattle.std.specs.Prelude.{slice_get, ◌==◌, if◌then◌else◌, All, ℤ}
 use Rattle.std.specs.Option.{option_map_or}
 use Rattle.std.proofs.lemmas.List.Elements.{All-head, All-tail}
-use Rattle.std.proofs.lemmas.Bool.{cases_Bool, cases_lt}
+use Rattle.std.proofs.lemmas.Bool.{cases_Bool, cases_lt, MatchBool-at_true, MatchBool-at_false}
 use Rattle.std.proofs.lemmas.Bool.Decides.{eqb_tells}
 use Rattle.arrayvec.specs.ArrayVec.{ArrayVec}
 use Rattle.mate_num.specs.declared.id.HandlerId.{HandlerId}
@@ -120,8 +120,8 @@ occasions-none m payload (h ∷ hs) r p told both =
 -- behind its entry an install makes an occasion at most
 pub installs-rest : (m : Machine) (r : NodeState) (q : Pace) (p : HeldProgram) (told : List JournalEntry) → (is : DeedMakes m (Installing p) r q told) → NoneInstall is.rest
 installs-rest m r q p told is = elim (cases_Bool (m.runs_once p.handler)) [
-  | inl once ↦ occasion-none m (next_state m r (Installed p)) p.handler (record { items = [] }) is.rest (is.once once)
-  | inr never ↦ by_made is.rest [] (is.else never) tt
+  | inl once ↦ occasion-none m (next_state m r (Installed p)) p.handler (record { items = [] }) is.rest (MatchBool-at_true _ _ once is.follows)
+  | inr never ↦ by_made is.rest [] (MatchBool-at_false _ _ never is.follows) tt
 ]
 
 -- what a deed's entries and its node's settling do to what is installed

@@ -113,7 +113,7 @@ first_comes = (
       front = injects.told;
       rest = [];
       made = refl;
-      by_first = record { seen = _; rest = []; shown = record { ready = λ at n writes is. (let clash : Unposted ≡ Ready = is in cc) }; newer = omega arith; made = refl; once = λ once. (let clash : false ≡ true = once in cc); else = λ never. refl };
+      by_first = record { seen = _; rest = []; shown = record { ready = λ at n writes is. (let clash : Unposted ≡ Ready = is in cc) }; newer = omega arith; made = refl; follows = refl };
       by_second = record { turns = []; are_turns = tt; made = refl; then = refl; empty = refl; settled = λ n e. (let clash : Unposted ≡ Ready = e in cc) };
     };
   },

@@ -4,7 +4,7 @@ use Rattle.std.specs.Prelude.{◌==◌, if◌then◌else◌, All, ℤ}
 use Rattle.std.specs.List.{filter_map, cons_option}
 use Rattle.std.proofs.lemmas.List.{map-append, append-nil}
 use Rattle.std.proofs.lemmas.List.Elements.{All-head, All-tail, All-nil, All-cons, All-append, filter_map-append}
-use Rattle.std.proofs.lemmas.Bool.{cases_Bool, cases_lt}
+use Rattle.std.proofs.lemmas.Bool.{cases_Bool, cases_lt, MatchBool-at_true, MatchBool-at_false}
 use Rattle.std.proofs.lemmas.Bool.Decides.{eqb_tells}
 use Rattle.arrayvec.specs.ArrayVec.{ArrayVec}
 use Rattle.mate_num.specs.declared.id.HandlerId.{HandlerId}
@@ -95,8 +95,8 @@ occasions-give m payload (h ∷ hs) r p told both =
 rest-gives : (m : Machine) (r : NodeState) (q : Pace) (p : HeldProgram) (told : List JournalEntry) (is : DeedMakes m (Installing p) r q told)
     → filter_map given_in is.rest ≡ (if m.runs_once p.handler then GivesOccasion p.handler ∷ [] else [])
 rest-gives m r q p told is = elim (cases_Bool (m.runs_once p.handler)) [
-  | inl once ↦ occasion-gives m (next_state m r (Installed p)) p.handler (record { items = [] }) is.rest (is.once once) ∙ ap (λ (b : Bool). if b then GivesOccasion p.handler ∷ [] else []) (sym once)
-  | inr never ↦ ap (filter_map given_in) (is.else never) ∙ ap (λ (b : Bool). if b then GivesOccasion p.handler ∷ [] else []) (sym never)
+  | inl once ↦ occasion-gives m (next_state m r (Installed p)) p.handler (record { items = [] }) is.rest (MatchBool-at_true _ _ once is.follows) ∙ ap (λ (b : Bool). if b then GivesOccasion p.handler ∷ [] else []) (sym once)
+  | inr never ↦ ap (filter_map given_in) (MatchBool-at_false _ _ never is.follows) ∙ ap (λ (b : Bool). if b then GivesOccasion p.handler ∷ [] else []) (sym never)
 ]
 
 deed-gives : (m : Machine) (d : Deed) (r : NodeState) (q : Pace) (told : List JournalEntry) → DeedMakes m d r q told → filter_map given_in told ≡ given_by m d
@@ -178,8 +178,8 @@ no_payload = record { items = [] }
 
 rest-payload : (m : Machine) (r : NodeState) (q : Pace) (p : HeldProgram) (told : List JournalEntry) (is : DeedMakes m (Installing p) r q told) → All (HasPayload no_payload) is.rest
 rest-payload m r q p told is = elim (cases_Bool (m.runs_once p.handler)) [
-  | inl once ↦ occasion-payload m (next_state m r (Installed p)) p.handler no_payload is.rest (is.once once)
-  | inr never ↦ made-payloads no_payload is.rest [] (is.else never) (All-nil (HasPayload no_payload))
+  | inl once ↦ occasion-payload m (next_state m r (Installed p)) p.handler no_payload is.rest (MatchBool-at_true _ _ once is.follows)
+  | inr never ↦ made-payloads no_payload is.rest [] (MatchBool-at_false _ _ never is.follows) (All-nil (HasPayload no_payload))
 ]
 
 deed-payload : (m : Machine) (d : Deed) (r : NodeState) (q : Pace) (told : List JournalEntry) → DeedMakes m d r q told → All (HasPayload (payload_given d)) told

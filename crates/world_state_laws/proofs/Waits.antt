@@ -2,7 +2,7 @@
 use Rattle.std.proofs.Common.{◌≡◌, ◌≢◌, ◌≤◌, ℕ, ◌+◌, false, List, [], ◌∷◌, ◌++◌, refl, sym, ◌∙◌, ap, subst, arith, inl, inr, ◌⊎◌}
 use Rattle.std.specs.Prelude.{ℤ, ◌==◌, if◌then◌else◌}
 use Rattle.std.proofs.lemmas.Bool.Decides.{eqb_tells}
-use Rattle.std.proofs.lemmas.Bool.{cases_Bool}
+use Rattle.std.proofs.lemmas.Bool.{cases_Bool, MatchBool-at_true, MatchBool-at_false}
 use Rattle.arrayvec.specs.ArrayVec.{ArrayVec}
 use Rattle.mate_num.specs.declared.id.HandlerId.{HandlerId}
 use Rattle.mate_num.specs.declared.id.FunId.{FunId}
@@ -196,8 +196,8 @@ deed-begins m r p (Installing x) told is = record {
   split = is.made;
   begins = (is.seen, refl);
   plain = elim (cases_Bool (m.runs_once x.handler)) [
-    | inl once ↦ occasion-plain m (next_state m r (Installed x)) x.handler (record { items = [] }) is.rest (is.once once)
-    | inr never ↦ plain-as is.rest [] (is.else never) tt
+    | inl once ↦ occasion-plain m (next_state m r (Installed x)) x.handler (record { items = [] }) is.rest (MatchBool-at_true _ _ once is.follows)
+    | inr never ↦ plain-as is.rest [] (MatchBool-at_false _ _ never is.follows) tt
   ];
 }
 

@@ -1,5 +1,6 @@
 -- The state between the events of a right world: whatever comes next finds what it needs.
 use Rattle.std.specs.Prelude.{◌≡◌, ℕ, ◌<◌, ◌≤◌, List, [], ◌∷◌, length, slice_get, IsSomeAnd, All, ⊤}
+use Rattle.mate_num.specs.Lists.{Each}
 use Rattle.vm_desc.specs.declared.description.Description.{Description}
 use Rattle.mate_journal.specs.Journal.{first_state}
 use Rattle.mate_journal.specs.WellFormed.{IsWellFormed}
@@ -31,8 +32,7 @@ pub record IsSoundNode (w : World) (n : Node) (last : ℕ) : Type 0 where
 
 -- each cause that is due is of a node of the world
 abbrev pub AreOfNodes : World → List Cause → Type 0
-AreOfNodes w [] = Unit {0}
-AreOfNodes w (c ∷ cs) = (event_node w c < w.nodes) × AreOfNodes w cs
+AreOfNodes w = Each (λ c. event_node w c < w.nodes)
 
 -- the messages of the calls that these events recorded are right for the machine
 abbrev pub HaveFitMessages : World → List Moment → Type 0
