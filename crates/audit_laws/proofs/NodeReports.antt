@@ -30,16 +30,8 @@ use Rattle.audit_laws.proofs.Told.{InstallsRight, none-right, install-right, kee
 -- ---- entries that install nothing
 
 start-none : (t : JournalEntry) → IsStart t → NoInstall t
-start-none (Started n) is = tt
-start-none (Posted n h c payload) is = tt
-start-none (Dropped h cause) is = tt
-start-none (Asked n f args) is = tt
-start-none (Answered n value) is = tt
-start-none (Ended n how) is = tt
 start-none (Installed p) is = is
-start-none Reset is = tt
-start-none (Seen store) is = tt
-start-none (Void cause) is = tt
+start-none _ is = tt
 
 starts-none : (ts : List JournalEntry) → All IsStart ts → NoneInstall ts
 starts-none [] all = tt
@@ -47,8 +39,7 @@ starts-none (t ∷ ts) all = (start-none t (All-head IsStart t ts all), starts-n
 
 mark-none : (n : ℕ) (e : End) → NoInstall (entry_at n e)
 mark-none n end.Halt = tt
-mark-none n (end.Fault kind) = tt
-mark-none n (end.Wants f args) = tt
+mark-none n _ = tt
 
 -- an occasion for one handler
 occasion-none : (m : Machine) (r : NodeState) (h : HandlerId) (payload : ArrayVec ℤ) (told : List JournalEntry) → Occasion m r h payload told → NoneInstall told

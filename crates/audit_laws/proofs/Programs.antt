@@ -54,12 +54,7 @@ program_at-one ps k P some = by (slice_get ps k) refl some where
 step-install : (ps : List Program) (s : Step) → IsProgramOf ps s → IsInstallOf ps (step_of ps s)
 step-install ps (step.Install h version program) is = program_at-one ps program _ is
 step-install ps (step.Load program) is = program_at-one ps program _ is
-step-install ps (step.Post h payload) is = tt
-step-install ps (step.Step ctx n) is = tt
-step-install ps step.Run is = tt
-step-install ps (step.Answer ctx value) is = tt
-step-install ps step.Show is = tt
-step-install ps step.Reset is = tt
+step-install ps _ is = tt
 
 steps-install : (ps : List Program) (steps : List Step) → All (IsProgramOf ps) steps → InstallPrograms ps (map (step_of ps) steps)
 steps-install ps [] all = tt

@@ -50,16 +50,8 @@ abbrev pub InstallsRight : List Program → Machine → NodeState → List Journ
 InstallsRight ps m r told = AtEachTold (InstallsProgram ps) m r told
 
 none-rule : (ps : List Program) (r : NodeState) (t : JournalEntry) → NoInstall t → InstallsProgram ps r t
-none-rule ps r (Posted n h c payload) none = tt
-none-rule ps r (Dropped h cause) none = tt
-none-rule ps r (Started n) none = tt
-none-rule ps r (Asked n f args) none = tt
-none-rule ps r (Answered n value) none = tt
-none-rule ps r (Ended n how) none = tt
 none-rule ps r (Installed p) none = absurd none
-none-rule ps r Reset none = tt
-none-rule ps r (Seen store) none = tt
-none-rule ps r (Void cause) none = tt
+none-rule ps r _ none = tt
 
 -- nothing is installed
 pub none-right : (ps : List Program) (m : Machine) (r : NodeState) (told : List JournalEntry) → NoneInstall told → InstallsRight ps m r told

@@ -56,10 +56,8 @@ asked-counts p f args [] o = refl
 asked-counts p f args (a ∷ left) o = refl
 
 own_after-counts : (how : StepEnd) (p : Private) (o : Own) → (own_after how p o).count ≡ o.count + 1
-own_after-counts Next p o = refl
 own_after-counts (Ask f args) p o = asked-counts p f args o.left o
-own_after-counts Halt p o = refl
-own_after-counts (Fault kind) p o = refl
+own_after-counts _ p o = refl
 
 -- ---- the bound
 
@@ -171,9 +169,7 @@ module _ (v : VerifiedCode) (store : Store) (msg : ArrayVec ℤ) (answers : List
 pub executed-low : (v : VerifiedCode) (store : Store) (msg : ArrayVec ℤ) (answers : List ℤ) (turns left : ℕ) (machine : Private) (heap : Store) (calls : List Call) → HasCome v store msg answers turns left machine heap calls
     → (n : ℕ) (ran : Ran) (how : StepEnd) (new : Private) (now : Store) → HasRunTo how v machine heap n ran new now → ran.instructions ≤ left
 executed-low v store msg answers turns left machine heap calls come n ran Next new now h = let low = (next-come v store msg answers turns left machine heap calls come n new now h.1).0 in omega (arith, low, h.0)
-executed-low v store msg answers turns left machine heap calls come n ran (Ask f args) new now h = stop-low v store msg answers turns left machine heap calls come n ran new now h
-executed-low v store msg answers turns left machine heap calls come n ran Halt new now h = stop-low v store msg answers turns left machine heap calls come n ran new now h
-executed-low v store msg answers turns left machine heap calls come n ran (Fault kind) new now h = stop-low v store msg answers turns left machine heap calls come n ran new now h
+executed-low v store msg answers turns left machine heap calls come n ran _ new now h = stop-low v store msg answers turns left machine heap calls come n ran new now h
 
 -- before the first instruction
 pub begins : (v : VerifiedCode) (store : Store) (msg : ArrayVec ℤ) (answers : List ℤ) (turns : ℕ) (machine : Private) → IsVerifiedCode v → HasLengths v.shape store → machine ≡ begun turns msg.items → IsAtVerified v machine

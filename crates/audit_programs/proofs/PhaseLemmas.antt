@@ -10,15 +10,12 @@ use Rattle.audit_rules.specs.declared.phase.Stage.TheVariants as stage
 
 pub queued-is : (p : Phase) → is_queued (phase_in p) ≡ stands_at stage.Queued p
 queued-is phase.Queued = refl
-queued-is phase.Ready = refl
-queued-is (phase.Waiting f args) = refl
+queued-is _ = refl
 
 pub started-is : (p : Phase) → is_started (phase_in p) ≡ not (stands_at stage.Queued p)
 started-is phase.Queued = refl
-started-is phase.Ready = refl
-started-is (phase.Waiting f args) = refl
+started-is _ = refl
 
 pub waiting-is : (p : Phase) → is_waiting (phase_in p) ≡ stands_at stage.Waiting p
 waiting-is phase.Queued = refl
-waiting-is phase.Ready = refl
-waiting-is (phase.Waiting f args) = refl
+waiting-is _ = refl

@@ -54,17 +54,8 @@ images-parts t place x within images =
 
 -- an entry that installs nothing leaves what is installed
 pub installed-kept : (l : Log) (x : told.Roll) (e : Entry) (h : HandlerId) → ((g : HandlerId) (version image : ℕ) → e ≡ entry.Install g version image → ⊥) → (rolled x (journal_entry l e)).installed h ≡ x.installed h
-installed-kept l x (entry.Post n g c payload) h other = refl
-installed-kept l x (entry.Dropped g cause) h other = refl
-installed-kept l x (entry.Start n) h other = refl
-installed-kept l x (entry.Ask n f args) h other = refl
-installed-kept l x (entry.Answer n value) h other = refl
-installed-kept l x (entry.Halt n) h other = refl
-installed-kept l x (entry.Fault n kind) h other = refl
 installed-kept l x (entry.Install g version image) h other = absurd (other g version image refl)
-installed-kept l x entry.Reset h other = refl
-installed-kept l x (entry.Seen store) h other = refl
-installed-kept l x (entry.Void cause) h other = refl
+installed-kept l x _ h other = refl
 
 same_handler : (g h : HandlerId) → g.0 ≡ h.0 → g ≡ h
 same_handler g h e = ap (λ (n : ℕ). let x : HandlerId = record { 0 = n } in x) e
@@ -207,13 +198,5 @@ named-below t place e tried within is =
 
 pub handler-below : (d : Description) (e : Entry) → length d.handlers.items ≤ 8 → IsEntryInRange d e → HasHandlerBelow 8 e
 handler-below d (entry.Post n h c payload) few within = let low = within.0 in omega (arith, few, low)
-handler-below d (entry.Dropped h cause) few within = tt
-handler-below d (entry.Start n) few within = tt
-handler-below d (entry.Ask n f args) few within = tt
-handler-below d (entry.Answer n value) few within = tt
-handler-below d (entry.Halt n) few within = tt
-handler-below d (entry.Fault n kind) few within = tt
 handler-below d (entry.Install h version image) few within = omega (arith, few, within)
-handler-below d entry.Reset few within = tt
-handler-below d (entry.Seen store) few within = tt
-handler-below d (entry.Void cause) few within = tt
+handler-below d _ few within = tt

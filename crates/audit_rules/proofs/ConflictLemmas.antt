@@ -42,16 +42,14 @@ device-named (Some f) r is = same-device f.device r is f refl
 
 -- what an instruction reads or writes, it names
 use-named : (shape : Shape) (u : Use) (r : Resource) → (reads_in u r ≡ true) ⊎ (writes_in shape u r ≡ true) → Contains (named_by shape u) r
-use-named shape Nothing r (inl is) = absurd (true≢false (sym is))
 use-named shape Nothing r (inr is) = absurd (true≢false (sym is))
 use-named shape (Gets c) r (inl is) = Contains-head c [] r (same-resource c r is)
 use-named shape (Gets c) r (inr is) = absurd (true≢false (sym is))
-use-named shape (Changes c) r (inl is) = absurd (true≢false (sym is))
 use-named shape (Changes c) r (inr is) = Contains-head c [] r (same-resource c r is)
-use-named shape (Calls f) r (inl is) = absurd (true≢false (sym is))
 use-named shape (Calls f) r (inr is) = device-named (function_shape shape f) r is
 use-named shape (Sends f b) r (inl is) = Contains-head (Buffer b) (device_cells (function_shape shape f)) r (same-resource (Buffer b) r is)
 use-named shape (Sends f b) r (inr is) = Contains-tail (Buffer b) (device_cells (function_shape shape f)) r (device-named (function_shape shape f) r is)
+use-named shape _ r (inl is) = absurd (true≢false (sym is))
 
 writes-named : (shape : Shape) (code : Code) (r : Resource) → (uses_of shape code).writes r ≡ true → Contains (named_in shape code) r
 writes-named shape [] r is = absurd (true≢false (sym is))

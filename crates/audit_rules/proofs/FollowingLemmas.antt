@@ -85,15 +85,11 @@ may_follow-Decides m r x (Posted n h c payload) right =
     (Decides-and (is_some (x.installed h)) (is_context_of m h c && not (is_taken x c))
     (subst (λ (o : Option HeldProgram). Decides (is_some o) (IsSome (r.installed h))) (sym (right.installed h)) (some-Decides (r.installed h)))
     (Decides-and (is_context_of m h c) (not (is_taken x c)) (context_of-Decides m h c) (idle-Decides r x c right))))
-may_follow-Decides m r x (Dropped h cause) right = always tt
 may_follow-Decides m r x (Started n) right = queued_at r x n right
 may_follow-Decides m r x (Asked n f args) right = ready_at r x n right
 may_follow-Decides m r x (Answered n value) right = waiting_at r x n right
 may_follow-Decides m r x (Ended n how) right = Decides-and (is_at x n is_ready) (closes how) (ready_at r x n right) (closes-Decides how)
-may_follow-Decides m r x (Installed p) right = always tt
-may_follow-Decides m r x Reset right = always tt
-may_follow-Decides m r x (Seen store) right = always tt
-may_follow-Decides m r x (Void cause) right = always tt
+may_follow-Decides m r x _ right = always tt
 
 -- ---- the journal
 

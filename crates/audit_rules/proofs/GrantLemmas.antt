@@ -105,15 +105,7 @@ granted-Decides : (m : Machine) (conflict : ConflictTest) (r : NodeState) (x : R
     → Decides (is_granted conflict x last t) (IsGranted m r last t)
 granted-Decides m conflict r x last (Started n) tells right follows =
     Decides-and (is_free_to_start conflict x n) (nat_lt last n) (may_start-Decides m conflict r x n tells right follows) (Decides-ltb last n)
-granted-Decides m conflict r x last (Posted n h c payload) tells right follows = all_held_back-Decides m conflict r x tells right
-granted-Decides m conflict r x last (Dropped h cause) tells right follows = all_held_back-Decides m conflict r x tells right
-granted-Decides m conflict r x last (Asked n f args) tells right follows = all_held_back-Decides m conflict r x tells right
-granted-Decides m conflict r x last (Answered n value) tells right follows = all_held_back-Decides m conflict r x tells right
-granted-Decides m conflict r x last (Ended n how) tells right follows = all_held_back-Decides m conflict r x tells right
-granted-Decides m conflict r x last (Installed p) tells right follows = all_held_back-Decides m conflict r x tells right
-granted-Decides m conflict r x last Reset tells right follows = all_held_back-Decides m conflict r x tells right
-granted-Decides m conflict r x last (Seen store) tells right follows = all_held_back-Decides m conflict r x tells right
-granted-Decides m conflict r x last (Void cause) tells right follows = all_held_back-Decides m conflict r x tells right
+granted-Decides m conflict r x last _ tells right follows = all_held_back-Decides m conflict r x tells right
 
 pub grants-Decides : (m : Machine) (conflict : ConflictTest) (r : NodeState) (x : Roll) (last : ℕ) (es : List TimedEntry) → TellsConflicts m.meaning conflict → IsNumbered r → IsRoll r x → AtEachEntry (MayFollow m) m r es
     → Decides (grants_in_order conflict x last es) (GrantsInOrder m r last es)

@@ -56,12 +56,10 @@ posted-LiveAreInstalled m x n h c payload follows right = record {
 
 pub LiveAreInstalled-step : (m : Machine) (x : Roll) (t : JournalEntry) → IsTrue (may_follow m x t) → LiveAreInstalled x → LiveAreInstalled (rolled x t)
 LiveAreInstalled-step m x (Posted n h c payload) follows right = posted-LiveAreInstalled m x n h c payload follows right
-LiveAreInstalled-step m x (Dropped h cause) follows right = right
 LiveAreInstalled-step m x (Started n) follows right = roll_changed-LiveAreInstalled x n (in_phase Ready) (λ i e. e) right
 LiveAreInstalled-step m x (Asked n f args) follows right = roll_changed-LiveAreInstalled x n (in_phase (Waiting f args)) (λ i e. e) right
 LiveAreInstalled-step m x (Answered n value) follows right = roll_changed-LiveAreInstalled x n (with_answer value) (λ i e. e) right
 LiveAreInstalled-step m x (Ended n how) follows right = record { programs = λ s has. right.programs s (Contains-filter_from (has_other_number n) x.seats s has).0 }
 LiveAreInstalled-step m x (Installed p) follows right = record { programs = λ s has. absurd (Contains-nil s has) }
 LiveAreInstalled-step m x Reset follows right = record { programs = λ s has. absurd (Contains-nil s has) }
-LiveAreInstalled-step m x (Seen store) follows right = right
-LiveAreInstalled-step m x (Void cause) follows right = right
+LiveAreInstalled-step m x _ follows right = right

@@ -151,15 +151,13 @@ ended-so_far m conflict r n how parts tells ready runs later k started = elim (e
 so_far-before : (m : Machine) (conflict : ConflictTest) (r : NodeState) (t : JournalEntry) → GoesByParts m.meaning → TellsConflicts m.meaning conflict → MayFollow m r t → IsNumbered r → RunsAt m r t
     → AllRunSoFar m (next_state m r t) → AllRunSoFar m r
 so_far-before m conflict r (Posted n h c payload) parts tells follows numbered runs later = posted-so_far m r n h c payload follows.0 numbered later
-so_far-before m conflict r (Dropped h cause) parts tells follows numbered runs later = later
 so_far-before m conflict r (Started n) parts tells follows numbered runs later = started-so_far m r n follows later
 so_far-before m conflict r (Asked n f args) parts tells follows numbered runs later = asked-so_far m r n f args follows later
 so_far-before m conflict r (Answered n value) parts tells follows numbered runs later = answered-so_far m r n value parts follows later
 so_far-before m conflict r (Ended n how) parts tells follows numbered runs later = ended-so_far m conflict r n how parts tells follows.0 runs later
 so_far-before m conflict r (Installed p) parts tells follows numbered runs later = runs
 so_far-before m conflict r Reset parts tells follows numbered runs later = runs
-so_far-before m conflict r (Seen store) parts tells follows numbered runs later = later
-so_far-before m conflict r (Void cause) parts tells follows numbered runs later = later
+so_far-before m conflict r _ parts tells follows numbered runs later = later
 
 -- ---- along the journal
 
@@ -188,16 +186,8 @@ so_far-along m conflict r (e ∷ es) parts tells follow numbered replays = (
 )
 
 ends-as_run : (m : Machine) (r : NodeState) (t : JournalEntry) → RunsAt m r t → EndsAsRun m r t
-ends-as_run m r (Posted n h c payload) runs = tt
-ends-as_run m r (Dropped h cause) runs = tt
-ends-as_run m r (Started n) runs = tt
-ends-as_run m r (Asked n f args) runs = tt
-ends-as_run m r (Answered n value) runs = tt
 ends-as_run m r (Ended n how) runs = (runs.0, runs.1)
-ends-as_run m r (Installed p) runs = tt
-ends-as_run m r Reset runs = tt
-ends-as_run m r (Seen store) runs = tt
-ends-as_run m r (Void cause) runs = tt
+ends-as_run m r _ runs = tt
 
 ends-along : (m : Machine) (r : NodeState) (es : List TimedEntry) → ReplaysAtEnds m r es → AtEachEntry (EndsAsRun m) m r es
 ends-along m r [] replays = tt
@@ -210,17 +200,11 @@ first_place Fact m r [] h = h
 first_place Fact m r (e ∷ es) h = h.0
 
 runs-at : (m : Machine) (r : NodeState) (t : JournalEntry) → EndsAsRun m r t → AllRunSoFar m r → AllRunSoFar m (next_state m r t) → RunsAt m r t
-runs-at m r (Posted n h c payload) ends before after = tt
-runs-at m r (Dropped h cause) ends before after = tt
-runs-at m r (Started n) ends before after = tt
-runs-at m r (Asked n f args) ends before after = tt
-runs-at m r (Answered n value) ends before after = tt
 runs-at m r (Ended n how) ends before after =
     (ends.0, ends.1, λ k other started c. (before k started, after k (ap (λ (i : Invocation). is_started i.phase) (changed-other r.invocations n (in_phase Over (r.invocations n)) k other) ∙ started)))
 runs-at m r (Installed p) ends before after = before
 runs-at m r Reset ends before after = before
-runs-at m r (Seen store) ends before after = tt
-runs-at m r (Void cause) ends before after = tt
+runs-at m r _ ends before after = tt
 
 replays-along : (m : Machine) (r : NodeState) (es : List TimedEntry) → AtEachEntry (EndsAsRun m) m r es → AtEachPlace (RunsSoFar m) m r es → ReplaysAtEnds m r es
 replays-along m r [] ends places = of-RunsSoFar m r places

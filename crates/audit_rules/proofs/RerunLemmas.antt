@@ -31,15 +31,12 @@ use Rattle.audit_rules.proofs.ReplayLemmas.{IsSoFar, told_so_far, so_far_told, e
 use Rattle.audit_rules.proofs.SameLemmas.{calls-Decides, end-Decides}
 
 wants-Decides : (phase : Phase) (e : End) → Decides (wants_as phase e) ((f : FunId) (args : ArrayVec ℤ) → phase ≡ Waiting f args → e ≡ end.Wants f args)
-wants-Decides Unposted e = always (λ f args is. cc)
-wants-Decides Queued e = always (λ f args is. cc)
-wants-Decides Ready e = always (λ f args is. cc)
 wants-Decides (Waiting g bs) e =
     Decides-like (same_end e (end.Wants g bs))
     (λ h f args is. let fun : g ≡ f = cc in let same : bs ≡ args = cc in h ∙ ap (λ (x : FunId). end.Wants x bs) fun ∙ ap (λ (x : ArrayVec ℤ). end.Wants f x) same)
     (λ h. h g bs refl)
     (end-Decides e (end.Wants g bs))
-wants-Decides Over e = always (λ f args is. cc)
+wants-Decides _ e = always (λ f args is. cc)
 
 so_far-Decides : (m : Machine) (store : Store) (i : Invocation) → Decides (is_so_far m store i) (IsSoFar m store i)
 so_far-Decides m store i =
@@ -147,16 +144,10 @@ ended-Decides m conflict r x n how tells right live = (there, back) where
 
 runs-Decides : (m : Machine) (conflict : ConflictTest) (r : NodeState) (x : Roll) (t : JournalEntry) → TellsConflicts m.meaning conflict → IsRoll r x → MayFollow m r t
     → Decides (runs_right m conflict x r.serial t) (RunsAt m r t)
-runs-Decides m conflict r x (Posted n h c payload) tells right follows = always tt
-runs-Decides m conflict r x (Dropped h cause) tells right follows = always tt
-runs-Decides m conflict r x (Started n) tells right follows = always tt
-runs-Decides m conflict r x (Asked n f args) tells right follows = always tt
-runs-Decides m conflict r x (Answered n value) tells right follows = always tt
 runs-Decides m conflict r x (Ended n how) tells right follows = ended-Decides m conflict r x n how tells right (ready_live r n follows.0)
 runs-Decides m conflict r x (Installed p) tells right follows = all-Decides m r x right
 runs-Decides m conflict r x Reset tells right follows = all-Decides m r x right
-runs-Decides m conflict r x (Seen store) tells right follows = always tt
-runs-Decides m conflict r x (Void cause) tells right follows = always tt
+runs-Decides m conflict r x _ tells right follows = always tt
 
 -- ---- the serial store
 
@@ -173,16 +164,8 @@ store_left-is m r n (s ∷ seats) each has = by (s.number == n) refl (Contains-c
   by false is (inr h) later = later h
 
 pub serial-is : (m : Machine) (r : NodeState) (x : Roll) (t : JournalEntry) → IsRoll r x → MayFollow m r t → serial_after m x r.serial t ≡ (next_state m r t).serial
-serial-is m r x (Posted n h c payload) right follows = refl
-serial-is m r x (Dropped h cause) right follows = refl
-serial-is m r x (Started n) right follows = refl
-serial-is m r x (Asked n f args) right follows = refl
-serial-is m r x (Answered n value) right follows = refl
 serial-is m r x (Ended n how) right follows = store_left-is m r n x.seats (λ s has. (right.lives s has).1) (right.seated n (ready_live r n follows.0))
-serial-is m r x (Installed p) right follows = refl
-serial-is m r x Reset right follows = refl
-serial-is m r x (Seen store) right follows = refl
-serial-is m r x (Void cause) right follows = refl
+serial-is m r x _ right follows = refl
 
 -- ---- along a journal
 

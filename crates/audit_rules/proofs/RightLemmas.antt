@@ -74,16 +74,7 @@ store_lengths d meaning s is = record {
 
 entry_lengths : (d : Description) (meaning : Meaning) (l : Log) (e : Entry) → All (IsStoreOf d) l.stores → IsNamedBelow (length l.images) (length l.stores) e → IfSome (store_seen (journal_entry l e)) (HasLengthsOf (machine_of d meaning))
 entry_lengths d meaning l (entry.Seen k) right named = store_lengths d meaning (slice_index_or l.stores k no_store) (right k no_store named)
-entry_lengths d meaning l (entry.Post n h c payload) right named = tt
-entry_lengths d meaning l (entry.Dropped h cause) right named = tt
-entry_lengths d meaning l (entry.Start n) right named = tt
-entry_lengths d meaning l (entry.Ask n f args) right named = tt
-entry_lengths d meaning l (entry.Answer n value) right named = tt
-entry_lengths d meaning l (entry.Halt n) right named = tt
-entry_lengths d meaning l (entry.Fault n kind) right named = tt
-entry_lengths d meaning l (entry.Install h version image) right named = tt
-entry_lengths d meaning l entry.Reset right named = tt
-entry_lengths d meaning l (entry.Void cause) right named = tt
+entry_lengths d meaning l _ right named = tt
 
 entries_lengths : (d : Description) (meaning : Meaning) (l : Log) (es : List Stamped) → All (IsStoreOf d) l.stores → AreNamedBelow (length l.images) (length l.stores) es
     → SeenLengths (machine_of d meaning) (map (event_of l) es)

@@ -41,38 +41,26 @@ at-Decides r x n test right live = (there, back) where
 
 pub queued-LiveTest : IsLiveTest is_queued
 queued-LiveTest Unposted is = is
-queued-LiveTest Queued is = refl
-queued-LiveTest Ready is = refl
-queued-LiveTest (Waiting f args) is = refl
 queued-LiveTest Over is = is
+queued-LiveTest _ is = refl
 
 pub ready-LiveTest : IsLiveTest is_ready
 ready-LiveTest Unposted is = is
-ready-LiveTest Queued is = refl
-ready-LiveTest Ready is = refl
-ready-LiveTest (Waiting f args) is = refl
 ready-LiveTest Over is = is
+ready-LiveTest _ is = refl
 
 pub waiting-LiveTest : IsLiveTest is_waiting
 waiting-LiveTest Unposted is = is
-waiting-LiveTest Queued is = refl
-waiting-LiveTest Ready is = refl
-waiting-LiveTest (Waiting f args) is = refl
 waiting-LiveTest Over is = is
+waiting-LiveTest _ is = refl
 
 pub queued-Decides : (phase : Phase) → Decides (is_queued phase) (phase ≡ Queued)
-queued-Decides Unposted = (λ e. cc, λ e. cc)
 queued-Decides Queued = (λ e. refl, λ e. refl)
-queued-Decides Ready = (λ e. cc, λ e. cc)
-queued-Decides (Waiting f args) = (λ e. cc, λ e. cc)
-queued-Decides Over = (λ e. cc, λ e. cc)
+queued-Decides _ = (λ e. cc, λ e. cc)
 
 pub ready-Decides : (phase : Phase) → Decides (is_ready phase) (phase ≡ Ready)
-ready-Decides Unposted = (λ e. cc, λ e. cc)
-ready-Decides Queued = (λ e. cc, λ e. cc)
 ready-Decides Ready = (λ e. refl, λ e. refl)
-ready-Decides (Waiting f args) = (λ e. cc, λ e. cc)
-ready-Decides Over = (λ e. cc, λ e. cc)
+ready-Decides _ = (λ e. cc, λ e. cc)
 
 pub waiting-Decides : (r : NodeState) (n : ℕ) → Decides (is_waiting (r.invocations n).phase) (IsWaiting r n)
 waiting-Decides r n = by (r.invocations n).phase refl where
@@ -227,7 +215,6 @@ nobody_lives r n live = cut-dead (r.invocations n) live
 
 pub IsRoll-step : (m : Machine) (r : NodeState) (x : Roll) (t : JournalEntry) → MayFollow m r t → IsNumbered r → IsRoll r x → IsRoll (next_state m r t) (rolled x t)
 IsRoll-step m r x (Posted n h c payload) follows numbered right = posted-IsRoll m r x n h c payload follows.0 numbered right
-IsRoll-step m r x (Dropped h cause) follows numbered right = right
 IsRoll-step m r x (Started n) follows numbered right =
     roll_changed-IsRoll r (next_state m r (Started n)) x n (in_phase Ready) refl (λ h. refl) (λ k. refl) (queued_live r n follows) refl right
 IsRoll-step m r x (Asked n f args) follows numbered right =
@@ -247,5 +234,4 @@ IsRoll-step m r x Reset follows numbered right = record {
   lives = λ s has. absurd (Contains-nil s has);
   seated = λ n live. absurd (nobody_lives r n live);
 }
-IsRoll-step m r x (Seen store) follows numbered right = right
-IsRoll-step m r x (Void cause) follows numbered right = right
+IsRoll-step m r x _ follows numbered right = right

@@ -28,18 +28,15 @@ any-in images t u each (s ∷ xs) = ap (λ (b : Bool). b || list_any t xs) (each
 
 queued-in : (p : Phase) → stands_at stage.Queued p ≡ told.is_queued (phase_in p)
 queued-in phase.Queued = refl
-queued-in phase.Ready = refl
-queued-in (phase.Waiting f args) = refl
+queued-in _ = refl
 
 ready-in : (p : Phase) → stands_at stage.Ready p ≡ told.is_ready (phase_in p)
 ready-in phase.Queued = refl
-ready-in phase.Ready = refl
-ready-in (phase.Waiting f args) = refl
+ready-in _ = refl
 
 waiting-in : (p : Phase) → stands_at stage.Waiting p ≡ told.is_waiting (phase_in p)
 waiting-in phase.Queued = refl
-waiting-in phase.Ready = refl
-waiting-in (phase.Waiting f args) = refl
+waiting-in _ = refl
 
 pub at_queued : (images : List (ArrayVec ℕ)) (n : ℕ) (x : Roll) → list_any (sits_at n stage.Queued) x.seats.items ≡ told.is_at (roll_in images x) n told.is_queued
 at_queued images n x = any-in images (sits_at n stage.Queued) (λ s. (s.number == n) && told.is_queued s.invocation.phase) (λ s. ap (λ (b : Bool). (s.number == n) && b) (queued-in s.phase)) x.seats.items

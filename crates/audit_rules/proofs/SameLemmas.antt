@@ -60,10 +60,7 @@ fault_of (suc (suc (suc (suc n)))) = kind.Overrun
 
 fault-again : (k : FaultKind) → fault_of (fault_number k) ≡ k
 fault-again kind.DivZero = refl
-fault-again kind.Index = refl
-fault-again kind.BufferFull = refl
-fault-again kind.BufferEmpty = refl
-fault-again kind.Overrun = refl
+fault-again _ = refl
 
 fault-Decides : (k l : FaultKind) → Decides (fault_number k == fault_number l) (k ≡ l)
 fault-Decides k l = Decides-like (fault_number k == fault_number l) (λ e. sym (fault-again k) ∙ ap fault_of e ∙ fault-again l) (λ e. ap fault_number e) (Decides-eqb (fault_number k) (fault_number l))

@@ -135,27 +135,13 @@ shown-Decides m r x seen right long serial keeps =
 shows-Decides : (m : Machine) (r : NodeState) (x : Roll) (t : JournalEntry) → IsRoll r x → SeenLengths m (record { stamp = record { event = 0; time = 0 }; told = t } ∷ []) → HasLengthsOf m r.serial → KeepsLengths m
     → Decides (shows_right m x r.serial t) (ShowsValuesAt m r t)
 shows-Decides m r x (Seen seen) right long serial keeps = shown-Decides m r x seen right long.0 serial keeps
-shows-Decides m r x (Posted n h c payload) right long serial keeps = always tt
-shows-Decides m r x (Dropped h cause) right long serial keeps = always tt
-shows-Decides m r x (Started n) right long serial keeps = always tt
-shows-Decides m r x (Asked n f args) right long serial keeps = always tt
-shows-Decides m r x (Answered n value) right long serial keeps = always tt
-shows-Decides m r x (Ended n how) right long serial keeps = always tt
-shows-Decides m r x (Installed p) right long serial keeps = always tt
-shows-Decides m r x Reset right long serial keeps = always tt
-shows-Decides m r x (Void cause) right long serial keeps = always tt
+shows-Decides m r x _ right long serial keeps = always tt
 
 serial-long : (m : Machine) (r : NodeState) (t : JournalEntry) → KeepsLengths m → HasLengthsOf m r.serial → HasLengthsOf m (next_state m r t).serial
 serial-long m r (Ended n how) keeps long = keeps r n long
 serial-long m r (Installed p) keeps long = record { shared = refl; buffers = refl }
 serial-long m r Reset keeps long = record { shared = refl; buffers = refl }
-serial-long m r (Posted n h c payload) keeps long = long
-serial-long m r (Dropped h cause) keeps long = long
-serial-long m r (Started n) keeps long = long
-serial-long m r (Asked n f args) keeps long = long
-serial-long m r (Answered n value) keeps long = long
-serial-long m r (Seen store) keeps long = long
-serial-long m r (Void cause) keeps long = long
+serial-long m r _ keeps long = long
 
 stores-Decides : (m : Machine) (r : NodeState) (x : Roll) (store : Store) (es : List TimedEntry) → KeepsLengths m → SeenLengths m es → IsNumbered r → IsRoll r x → store ≡ r.serial → HasLengthsOf m r.serial
     → AtEachEntry (MayFollow m) m r es → Decides (stores_right m x store es) (AtEachEntry (ShowsValuesAt m) m r es)

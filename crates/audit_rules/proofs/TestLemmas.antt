@@ -42,15 +42,7 @@ installs-Decides : (ps : List Program) (r : NodeState) (x : Roll) (t : JournalEn
 installs-Decides ps r x (Installed p) right =
     Decides-and (list_any (is_held_as p) ps) (nat_lt (version_installed (x.installed p.handler)) p.version) (λ e. e, λ e. e)
     (subst (λ (k : ℕ). Decides (nat_lt (version_installed (x.installed p.handler)) p.version) (k < p.version)) (held-is r x p right) (Decides-ltb (version_installed (x.installed p.handler)) p.version))
-installs-Decides ps r x (Posted n h c payload) right = always tt
-installs-Decides ps r x (Dropped h cause) right = always tt
-installs-Decides ps r x (Started n) right = always tt
-installs-Decides ps r x (Asked n f args) right = always tt
-installs-Decides ps r x (Answered n value) right = always tt
-installs-Decides ps r x (Ended n how) right = always tt
-installs-Decides ps r x Reset right = always tt
-installs-Decides ps r x (Seen store) right = always tt
-installs-Decides ps r x (Void cause) right = always tt
+installs-Decides ps r x _ right = always tt
 
 images-Decides : (ps : List Program) (m : Machine) (r : NodeState) (x : Roll) (es : List TimedEntry) → IsNumbered r → IsRoll r x → AtEachEntry (MayFollow m) m r es → Decides (images_right ps x es) (AtEachEntry (InstallsProgram ps) m r es)
 images-Decides ps m r x [] numbered right follow = always tt

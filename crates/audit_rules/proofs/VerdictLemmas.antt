@@ -31,11 +31,7 @@ law_at (suc (suc (suc (suc (suc n))))) = law.D11
 
 law-again : (a : Law) → law_at (rank_of a) ≡ a
 law-again law.D7 = refl
-law-again law.Image = refl
-law-again law.D8 = refl
-law-again law.D9 = refl
-law-again law.D10 = refl
-law-again law.D11 = refl
+law-again _ = refl
 
 pub same_rank : (a b : Law) → rank_of a ≡ rank_of b → a ≡ b
 same_rank a b e = sym (law-again a) ∙ ap law_at e ∙ law-again b

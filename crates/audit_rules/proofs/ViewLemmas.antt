@@ -36,8 +36,7 @@ come_to-in images n p s = by (s.number == n) where
 
 calls-in : (p : Phase) (value : ℤ) (s : Seat) → calls_after p value s.calls ≡ told.calls_with (phase_in p) value s.calls
 calls-in phase.Queued value s = refl
-calls-in phase.Ready value s = refl
-calls-in (phase.Waiting f args) value s = refl
+calls-in _ value s = refl
 
 pub seat_answered-in : (images : List (ArrayVec ℕ)) (n : ℕ) (value : ℤ) (s : Seat) → seat_in images (answered_at n value s) ≡ told.seat_changed n (told.with_answer value) (seat_in images s)
 seat_answered-in images n value s = by (s.number == n) where

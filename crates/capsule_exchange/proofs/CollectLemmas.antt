@@ -52,10 +52,8 @@ no_part_by true told version part other = rw (ne_eqb told version other) refl
 no_part_by false told version part other = refl
 
 no_part : (h version : ℕ) (p : Packet) → (version_in h p ≡ version → ⊥) → part_in h version p ≡ None
-no_part h version (Vector versions) other = refl
-no_part h version (Status g told missing) other = refl
 no_part h version (Fragment g told index count large bytes) other = no_part_by (eqb g.0 h) told version _ other
-no_part h version (App payload) other = refl
+no_part h version _ other = refl
 
 -- of a version over all that was heard of no fragment was heard
 below_all : (limit version n : ℕ) (ns : List ℕ) → limit < version → greatest (filter (ltb limit) (n ∷ ns)) < version → (n < version) × (greatest (filter (ltb limit) ns) < version)

@@ -37,9 +37,6 @@ later p packets q (k, within, at) = (suc k, omega arith, at)
 
 -- a packet that is a fragment of this version is that fragment
 part_is : (h version : ℕ) (p : Packet) (part : TargetFragment) → part_in h version p ≡ Some part → p ≡ packet_of h version part
-part_is h version (Vector versions) part is = absurd cc
-part_is h version (Status g told missing) part is = absurd cc
-part_is h version (App payload) part is = absurd cc
 part_is h version (Fragment g told index count large bytes) part is =
     elim (cases_Bool (eqb g.0 h && eqb told version)) [
       | inl own ↦ (
@@ -54,6 +51,7 @@ part_is h version (Fragment g told index count large bytes) part is =
           ∙ ap (packet_of h version) part_same)
       | inr other ↦ (let none : None ≡ Some part = rw other at is in absurd cc)
     ]
+part_is h version _ part is = absurd cc
 
 parts_heard : (h version : ℕ) (packets : List Packet) → All (WasHeard h version packets) (filter_map (part_in h version) packets)
 parts_heard h version [] = All-nil (WasHeard h version [])

@@ -21,14 +21,7 @@ use Rattle.capsule_feed.specs.declared.answer.Answer.TheVariants.{Installed, Not
 -- the verifier's fault of its own refusal
 pub fault_of-refusal_of : (why : VerifyFault) → verify_fault (refusal_of why) ≡ why
 fault_of-refusal_of (fault.Decode place) = refl
-fault_of-refusal_of (fault.BadTarget place) = refl
-fault_of-refusal_of (fault.BackJump place) = refl
-fault_of-refusal_of (fault.Underflow place) = refl
-fault_of-refusal_of (fault.Overflow place) = refl
-fault_of-refusal_of (fault.DepthDiffers place) = refl
-fault_of-refusal_of (fault.BadIndex place) = refl
-fault_of-refusal_of fault.NoHalt = refl
-fault_of-refusal_of (fault.TooLong len) = refl
+fault_of-refusal_of _ = refl
 
 -- what is held for each handler decides the answer
 pub same-answer : (d : Description) (f g : Held) (x : Frame) → ((h : ℕ) → f h ≡ g h) → answer_to d f x ≡ answer_to d g x
@@ -48,11 +41,7 @@ same-answer d f g BadEscape same = refl
 
 pub after-same : (f g : Held) (a : Answer) → ((h : ℕ) → f h ≡ g h) → (h : ℕ) → held_after f a h ≡ held_after g a h
 after-same f g (Installed k v) same h = ap (λ (x : ℕ). if h == k.0 then v else x) (same h)
-after-same f g (NotNewer v) same h = same h
-after-same f g (NoCapsule why) same h = same h
-after-same f g (BadCode why) same h = same h
-after-same f g Long same h = same h
-after-same f g Broken same h = same h
+after-same f g _ same h = same h
 
 -- and all later ones
 pub answers-same : (d : Description) (f g : Held) (fs : List Frame) → ((h : ℕ) → f h ≡ g h) → answers_from d f fs ≡ answers_from d g fs

@@ -13,32 +13,17 @@ use Rattle.cases_nodes.specs.Idle.{IsIdleStep, IsIdleScript}
 idle-right : (d : Description) → 1 ≤ context_count d → (s : Step) → IsIdleStep s → IsRightStep d 0 s
 idle-right d some (step.Step ctx n) is = let a = is.0 in let b = is.1 in record { context_high = omega arith; low = omega arith; high = omega arith }
 idle-right d some step.Show is = tt
-idle-right d some (step.Install h version program) is = absurd is
-idle-right d some (step.Load program) is = absurd is
-idle-right d some (step.Post h payload) is = absurd is
-idle-right d some step.Run is = absurd is
-idle-right d some (step.Answer ctx value) is = absurd is
-idle-right d some step.Reset is = absurd is
+idle-right d some _ is = absurd is
 
 idle-program : (s : Step) → IsIdleStep s → IsProgramOf [] s
 idle-program (step.Step ctx n) is = tt
 idle-program step.Show is = tt
-idle-program (step.Install h version program) is = absurd is
-idle-program (step.Load program) is = absurd is
-idle-program (step.Post h payload) is = absurd is
-idle-program step.Run is = absurd is
-idle-program (step.Answer ctx value) is = absurd is
-idle-program step.Reset is = absurd is
+idle-program _ is = absurd is
 
 idle-rises : (s : Step) → IsIdleStep s → (later : Step) → Rises s later
 idle-rises (step.Step ctx n) is later = tt
 idle-rises step.Show is later = tt
-idle-rises (step.Install h version program) is later = absurd is
-idle-rises (step.Load program) is later = absurd is
-idle-rises (step.Post h payload) is later = absurd is
-idle-rises step.Run is later = absurd is
-idle-rises (step.Answer ctx value) is later = absurd is
-idle-rises step.Reset is later = absurd is
+idle-rises _ is later = absurd is
 
 all-idle : (P : Step → Type 0) → ((s : Step) → IsIdleStep s → P s) → (steps : List Step) → All IsIdleStep steps → All P steps
 all-idle P by steps are = λ k d small. by (get_or steps k d) (are k d small)

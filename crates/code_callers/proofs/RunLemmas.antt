@@ -53,9 +53,7 @@ goes_on v k (suc more) (suc total) a s b t is (mid, store, x, last) =
 -- a step that asks or ends doesn't go on
 stops : (how : StepEnd) (a b c : Private) → own_after Next b (alone a) ≡ own_after how c (alone a) → (how ≡ Next → ⊥) → ⊥
 stops Next a b c e other = other refl
-stops (Ask f args) a b c e other = let bad : Going ≡ _ = ap (λ (o : Own). o.status) e in cc
-stops Halt a b c e other = let bad : Going ≡ _ = ap (λ (o : Own). o.status) e in cc
-stops (Fault kind) a b c e other = let bad : Going ≡ _ = ap (λ (o : Own). o.status) e in cc
+stops _ a b c e other = let bad : Going ≡ _ = ap (λ (o : Own). o.status) e in cc
 
 never_stops : (v : VerifiedCode) (a : Private) (s : Store) (n : ℕ) (ran : Ran) (new : Private) (after : Store) (b : Private) (t : Store) → GoFor v n a s b t → (ran.how ≡ Next → ⊥) → StopsAfter v a s n ran new after → ⊥
 never_stops v a s n ran new after b t goes other stop =
@@ -72,6 +70,4 @@ never_stops v a s n ran new after b t goes other stop =
 pub comes_there : (v : VerifiedCode) (a : Private) (s : Store) (n count : ℕ) (how : StepEnd) (new : Private) (after : Store) (b : Private) (t : Store) → GoFor v n a s b t
     → HasExecuted v a s n (record { instructions = count; how = how }) new after → (count ≡ n) × (new ≡ b) × (after ≡ t)
 comes_there v a s n count Next new after b t goes ran = let same = goes_once v n a s new b after t ran.1 goes in (ran.0, same.0, same.1)
-comes_there v a s n count (Ask f args) new after b t goes ran = absurd (never_stops v a s n _ new after b t goes (λ e. cc) ran)
-comes_there v a s n count Halt new after b t goes ran = absurd (never_stops v a s n _ new after b t goes (λ e. cc) ran)
-comes_there v a s n count (Fault kind) new after b t goes ran = absurd (never_stops v a s n _ new after b t goes (λ e. cc) ran)
+comes_there v a s n count _ new after b t goes ran = absurd (never_stops v a s n _ new after b t goes (λ e. cc) ran)

@@ -30,19 +30,13 @@ own_left v p s i stack result new after at step =
 -- the end of a step whose run is over
 pub faulted : (result : StepEnd) (new p : Private) (kind : FaultKind) → Over (end.Fault kind) ≡ (own_after result new (alone p)).status → result ≡ Fault kind
 faulted Next new p kind is = cc
-faulted (Ask f args) new p kind is = cc
-faulted Halt new p kind is = cc
-faulted (Fault other) new p kind is = cc
+faulted _ new p kind is = cc
 
 pub waiting : (result : StepEnd) (new p : Private) (f : FunId) (args : ArrayVec ℤ) → Over (end.Wants f args) ≡ (own_after result new (alone p)).status → result ≡ Ask f args
 waiting Next new p f args is = cc
-waiting (Ask g others) new p f args is = cc
-waiting Halt new p f args is = cc
-waiting (Fault kind) new p f args is = cc
+waiting _ new p f args is = cc
 
 -- where the run goes on, this is left of the invocation
 pub went : (result : StepEnd) (new p q : Private) → record (alone p) { own = q; count = 1 } ≡ own_after result new (alone p) → new ≡ q
 went Next new p q is = sym (ap (λ (o : Own). o.own) is)
-went (Ask f args) new p q is = let over = ap (λ (o : Own). o.status) is in cc
-went Halt new p q is = let over = ap (λ (o : Own). o.status) is in cc
-went (Fault kind) new p q is = let over = ap (λ (o : Own). o.status) is in cc
+went _ new p q is = let over = ap (λ (o : Own). o.status) is in cc

@@ -13,14 +13,7 @@ use Rattle.code_verifier.specs.declared.fault.VerifyFault.TheVariants.{Decode, B
 
 fault_of_depth : (fault : VerifyFault) (place : ℕ) → refusal_of fault ≡ refusal.DepthDiffers place → fault ≡ DepthDiffers place
 fault_of_depth (Decode at) place is = cc
-fault_of_depth (BadTarget at) place is = cc
-fault_of_depth (BackJump at) place is = cc
-fault_of_depth (Underflow at) place is = cc
-fault_of_depth (Overflow at) place is = cc
-fault_of_depth (DepthDiffers at) place is = cc
-fault_of_depth (BadIndex at) place is = cc
-fault_of_depth NoHalt place is = cc
-fault_of_depth (TooLong len) place is = cc
+fault_of_depth _ place is = cc
 
 pub refused_by_depth : (shape : Shape) (bytes : List ℕ) (place : ℕ) (result : Result VerifiedCode VerifyFault)
     → bytes_verification shape bytes ≡ Err (refusal.DepthDiffers place) → Verifies shape bytes result → result ≡ Err (DepthDiffers place)

@@ -110,26 +110,14 @@ turned d ps qs same = record { meaning = sym same.meaning; held = λ h. sym (sam
 module _ (d : Description) (ps qs : List Program) (same : CantBeToldApart d ps qs) where
   installs-too : (r : NodeState) (t : JournalEntry) → InstallsProgram ps r t → InstallsProgram qs r t
   installs-too r (Installed p) is = (subst IsTrue (same.held p) is.0, is.1)
-  installs-too r (Posted n h c payload) is = tt
-  installs-too r (Dropped h cause) is = tt
-  installs-too r (Started n) is = tt
-  installs-too r (Asked n f args) is = tt
-  installs-too r (Answered n value) is = tt
-  installs-too r (Ended n how) is = tt
-  installs-too r Reset is = tt
-  installs-too r (Seen store) is = tt
-  installs-too r (Void cause) is = tt
+  installs-too r _ is = tt
 
   by-meaning : (law : Law) (es : List TimedEntry) → KeepsLaw (machine_by d ps) ps es law → KeepsLaw (machine_by d qs) ps es law
   by-meaning law es keeps = subst (λ (m : Meaning). KeepsLaw (machine_of d m) ps es law) same.meaning keeps
 
   law-too : (law : Law) (es : List TimedEntry) → KeepsLaw (machine_by d qs) ps es law → KeepsLaw (machine_by d qs) qs es law
-  law-too law.D7 es keeps = keeps
   law-too law.Image es keeps = weaker (InstallsProgram ps) (InstallsProgram qs) (machine_by d qs) (first_state (machine_by d qs)) es installs-too keeps
-  law-too law.D8 es keeps = keeps
-  law-too law.D9 es keeps = keeps
-  law-too law.D10 es keeps = keeps
-  law-too law.D11 es keeps = keeps
+  law-too _ es keeps = keeps
 
   log-too : (l : Log) (law : Law) → LogKeeps d ps l law → LogKeeps d qs l law
   log-too l law keeps = law-too law (journal_of l) (by-meaning law (journal_of l) keeps)

@@ -96,12 +96,7 @@ module _ (f : Folder) (names : Names) (told : f.told ≡ Some names) where
   step_stays : (d : Description) (fold : Bool) (files : List (List ℕ)) (x : Step) → Stays (step_program f d fold files x) (step_program (steady names) d fold files x)
   step_stays d fold files (step.Install h version k) = gives_stays _ _ (installed_stays d fold h version (name_at files k))
   step_stays d fold files (step.Load k) = gives_stays _ _ (loaded_stays d (name_at files k))
-  step_stays d fold files (step.Post h payload) = stays _
-  step_stays d fold files (step.Step ctx n) = stays _
-  step_stays d fold files step.Run = stays _
-  step_stays d fold files (step.Answer ctx value) = stays _
-  step_stays d fold files step.Show = stays _
-  step_stays d fold files step.Reset = stays _
+  step_stays d fold files _ = stays _
 
   programs_stay : (d : Description) (fold : Bool) (files : List (List ℕ)) (ps : List Program) (left : List Step) → Stays (programs_after f d fold files ps left) (programs_after (steady names) d fold files ps left)
   programs_stay d fold files ps [] = stays _

@@ -110,18 +110,7 @@ renamed_text h few w g = by (number_hiding h w.name) (position_from-within (λ (
 
 sign_kind : (o : BinOp) → IsKind (sign o)
 sign_kind op.Or = tt
-sign_kind op.And = tt
-sign_kind op.Eq = tt
-sign_kind op.Ne = tt
-sign_kind op.Lt = tt
-sign_kind op.Gt = tt
-sign_kind op.Le = tt
-sign_kind op.Ge = tt
-sign_kind op.Add = tt
-sign_kind op.Sub = tt
-sign_kind op.Mul = tt
-sign_kind op.Div = tt
-sign_kind op.Rem = tt
+sign_kind _ = tt
 
 -- the tokens of each argument
 abbrev EachKinds : Trees → Type 0

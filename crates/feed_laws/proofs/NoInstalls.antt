@@ -12,48 +12,24 @@ use Rattle.mate_journal.specs.NodeScript.{Occasion, Installs}
 use Rattle.mate_journal.specs.Pace.{Pace}
 
 abbrev pub NoInstall : JournalEntry → Type 0
-NoInstall (Posted n h c payload) = Unit {0}
-NoInstall (Dropped h cause) = Unit {0}
-NoInstall (Started n) = Unit {0}
-NoInstall (Asked n f args) = Unit {0}
-NoInstall (Answered n value) = Unit {0}
-NoInstall (Ended n how) = Unit {0}
 NoInstall (Installed p) = ⊥
-NoInstall Reset = Unit {0}
-NoInstall (Seen store) = Unit {0}
-NoInstall (Void cause) = Unit {0}
+NoInstall _ = Unit {0}
 
 abbrev pub NoneInstall : List JournalEntry → Type 0
 NoneInstall [] = Unit {0}
 NoneInstall (t ∷ told) = NoInstall t × NoneInstall told
 
 same-one : (m : Machine) (r : NodeState) (t : JournalEntry) → NoInstall t → (next_state m r t).installed ≡ r.installed
-same-one m r (Posted n h c payload) a = refl
-same-one m r (Dropped h cause) a = refl
-same-one m r (Started n) a = refl
-same-one m r (Asked n f args) a = refl
-same-one m r (Answered n value) a = refl
-same-one m r (Ended n how) a = refl
 same-one m r (Installed p) a = absurd a
-same-one m r Reset a = refl
-same-one m r (Seen store) a = refl
-same-one m r (Void cause) a = refl
+same-one m r _ a = refl
 
 pub same-all : (m : Machine) (r : NodeState) (told : List JournalEntry) → NoneInstall told → (state_after_entries m r told).installed ≡ r.installed
 same-all m r [] a = refl
 same-all m r (t ∷ told) a = same-all m (next_state m r t) told a.1 ∙ same-one m r t a.0
 
 start-none : (t : JournalEntry) → IsStart t → NoInstall t
-start-none (Posted n h c payload) a = tt
-start-none (Dropped h cause) a = tt
-start-none (Started n) a = tt
-start-none (Asked n f args) a = tt
-start-none (Answered n value) a = tt
-start-none (Ended n how) a = tt
 start-none (Installed p) a = a
-start-none Reset a = tt
-start-none (Seen store) a = tt
-start-none (Void cause) a = tt
+start-none _ a = tt
 
 starts-none : (told : List JournalEntry) → All IsStart told → NoneInstall told
 starts-none [] all = tt

@@ -78,15 +78,13 @@ waiting_started r n w = subst (λ (phase : Phase). IsTrue (is_started phase)) (s
 
 pub numbered-step : (m : Machine) (r : NodeState) (told : JournalEntry) → MayFollow m r told → IsNumbered r → IsNumbered (next_state m r told)
 numbered-step m r (Posted n h c payload) follows right = numbered-joins r (next_state m r (Posted n h c payload)) n (posted-Joins m r n h c payload) follows.0 right
-numbered-step m r (Dropped h cause) follows right = right
 numbered-step m r (Started n) follows right = numbered-moves r (next_state m r (Started n)) n Ready (started-Moves m r n) (queued_live r n follows) right
 numbered-step m r (Asked n f args) follows right = numbered-moves r (next_state m r (Asked n f args)) n (Waiting f args) (asked-Moves m r n f args) (ready_live r n follows) right
 numbered-step m r (Answered n value) follows right = numbered-moves r (next_state m r (Answered n value)) n Ready (answered-Moves m r n value) (waiting_live r n follows) right
 numbered-step m r (Ended n how) follows right = numbered-moves r (next_state m r (Ended n how)) n Over (ended-Moves m r n how) (ready_live r n follows.0) right
 numbered-step m r (Installed p) follows right = numbered-cuts r (next_state m r (Installed p)) (record { posts = refl; each = λ n. refl }) right
 numbered-step m r Reset follows right = numbered-cuts r (next_state m r Reset) (record { posts = refl; each = λ n. refl }) right
-numbered-step m r (Seen store) follows right = right
-numbered-step m r (Void cause) follows right = right
+numbered-step m r _ follows right = right
 
 -- ---- nothing ahead conflicts
 
@@ -176,7 +174,6 @@ unhindered-cut m r s cuts j k other started ahead conflict =
 
 unhindered-step : (m : Machine) (r : NodeState) (last : ℕ) (told : JournalEntry) → MayFollow m r told → IsGranted m r last told → IsNumbered r → IsUnhindered m r → IsUnhindered m (next_state m r told)
 unhindered-step m r last (Posted n h c payload) follows granted numbered right = unhindered-join m r (next_state m r (Posted n h c payload)) n (posted-Joins m r n h c payload) follows.0 numbered right
-unhindered-step m r last (Dropped h cause) follows granted numbered right = right
 unhindered-step m r last (Started n) follows granted numbered right = unhindered-start m r (next_state m r (Started n)) n (started-Moves m r n) follows granted.0 right
 unhindered-step m r last (Asked n f args) follows granted numbered right =
     unhindered-less m r (next_state m r (Asked n f args)) (less-moves r (next_state m r (Asked n f args)) n (Waiting f args) (asked-Moves m r n f args) (ready_started r n follows) (λ e. cc)) right
@@ -186,8 +183,7 @@ unhindered-step m r last (Ended n how) follows granted numbered right =
     unhindered-less m r (next_state m r (Ended n how)) (less-moves r (next_state m r (Ended n how)) n Over (ended-Moves m r n how) (ready_started r n follows.0) (λ e. cc)) right
 unhindered-step m r last (Installed p) follows granted numbered right = unhindered-cut m r (next_state m r (Installed p)) (record { posts = refl; each = λ n. refl })
 unhindered-step m r last Reset follows granted numbered right = unhindered-cut m r (next_state m r Reset) (record { posts = refl; each = λ n. refl })
-unhindered-step m r last (Seen store) follows granted numbered right = right
-unhindered-step m r last (Void cause) follows granted numbered right = right
+unhindered-step m r last _ follows granted numbered right = right
 
 -- ---- along a journal
 

@@ -120,29 +120,15 @@ FollowsLast-later (e ∷ es) a b later last = later (last_stamp e.stamp es) last
 -- one entry in front
 SeenBeforeEras-cons : (seen : Bool) (stamp : Stamp) (told : JournalEntry) (es : List TimedEntry) → IsSeenBefore seen told → SeenBeforeEras (is_seen told) es
     → SeenBeforeEras seen (record { stamp = stamp; told = told } ∷ es)
-SeenBeforeEras-cons seen stamp (Posted n h c payload) es here then = (tt, then)
-SeenBeforeEras-cons seen stamp (Dropped h cause) es here then = (tt, then)
-SeenBeforeEras-cons seen stamp (Started n) es here then = (tt, then)
-SeenBeforeEras-cons seen stamp (Asked n f args) es here then = (tt, then)
-SeenBeforeEras-cons seen stamp (Answered n value) es here then = (tt, then)
-SeenBeforeEras-cons seen stamp (Ended n how) es here then = (tt, then)
 SeenBeforeEras-cons seen stamp (Installed p) es here then = (here, then)
 SeenBeforeEras-cons seen stamp Reset es here then = (here, then)
-SeenBeforeEras-cons seen stamp (Seen store) es here then = (tt, then)
-SeenBeforeEras-cons seen stamp (Void cause) es here then = (tt, then)
+SeenBeforeEras-cons seen stamp _ es here then = (tt, then)
 
 SeenBeforeEras-first : (seen : Bool) (stamp : Stamp) (told : JournalEntry) (es : List TimedEntry)
     → SeenBeforeEras seen (record { stamp = stamp; told = told } ∷ es) → IsSeenBefore seen told × SeenBeforeEras (is_seen told) es
-SeenBeforeEras-first seen stamp (Posted n h c payload) es all = (tt, all.1)
-SeenBeforeEras-first seen stamp (Dropped h cause) es all = (tt, all.1)
-SeenBeforeEras-first seen stamp (Started n) es all = (tt, all.1)
-SeenBeforeEras-first seen stamp (Asked n f args) es all = (tt, all.1)
-SeenBeforeEras-first seen stamp (Answered n value) es all = (tt, all.1)
-SeenBeforeEras-first seen stamp (Ended n how) es all = (tt, all.1)
 SeenBeforeEras-first seen stamp (Installed p) es all = (all.0, all.1)
 SeenBeforeEras-first seen stamp Reset es all = (all.0, all.1)
-SeenBeforeEras-first seen stamp (Seen store) es all = (tt, all.1)
-SeenBeforeEras-first seen stamp (Void cause) es all = (tt, all.1)
+SeenBeforeEras-first seen stamp _ es all = (tt, all.1)
 
 pub SeenBeforeEras-append : (seen : Bool) (es fs : List TimedEntry) → SeenBeforeEras seen es → SeenBeforeEras (last_is_seen seen es) fs → SeenBeforeEras seen (es ++ fs)
 SeenBeforeEras-append seen [] fs first then = then
@@ -245,20 +231,12 @@ at_longer : {A : Type 0} (xs ys more : List A) (d : A) (n : ℕ) → ys ≡ xs +
 at_longer {A} xs ys more d n is below = subst (λ (zs : List A). slice_index_or zs n d ≡ slice_index_or xs n d) (sym is) (get_or-append xs more d n below)
 
 told_of-longer : (l after : Log) (e : Entry) → IsLonger l after → IsNamedBelow (length l.images) (length l.stores) e → journal_entry after e ≡ journal_entry l e
-told_of-longer l after (entry.Post n h c payload) longer named = refl
-told_of-longer l after (entry.Dropped h cause) longer named = refl
-told_of-longer l after (entry.Start n) longer named = refl
-told_of-longer l after (entry.Ask n f args) longer named = refl
-told_of-longer l after (entry.Answer n value) longer named = refl
-told_of-longer l after (entry.Halt n) longer named = refl
-told_of-longer l after (entry.Fault n kind) longer named = refl
 told_of-longer l after (entry.Install h version image) longer named =
     ap (λ (i : ArrayVec ℕ). Installed (record { handler = h; version = version; image = i }))
     (at_longer l.images after.images longer.images (record { items = [] }) image longer.images_are named)
-told_of-longer l after entry.Reset longer named = refl
 told_of-longer l after (entry.Seen store) longer named =
     ap Seen (at_longer l.stores after.stores longer.stores (record { shared = record { items = [] }; buffers = record { items = [] } }) store longer.stores_are named)
-told_of-longer l after (entry.Void cause) longer named = refl
+told_of-longer l after _ longer named = refl
 
 events_of-longer : (l after : Log) (entries : List Stamped) → IsLonger l after → AreNamedBelow (length l.images) (length l.stores) entries → events_of after entries ≡ events_of l entries
 events_of-longer l after [] longer named = refl
@@ -268,19 +246,11 @@ events_of-longer l after (s ∷ entries) longer named =
 
 -- a log that has the same images and stores tells the same of each entry
 told_of-same : (l after : Log) (e : Entry) → after.images ≡ l.images → after.stores ≡ l.stores → journal_entry after e ≡ journal_entry l e
-told_of-same l after (entry.Post n h c payload) images stores = refl
-told_of-same l after (entry.Dropped h cause) images stores = refl
-told_of-same l after (entry.Start n) images stores = refl
-told_of-same l after (entry.Ask n f args) images stores = refl
-told_of-same l after (entry.Answer n value) images stores = refl
-told_of-same l after (entry.Halt n) images stores = refl
-told_of-same l after (entry.Fault n kind) images stores = refl
 told_of-same l after (entry.Install h version image) images stores =
     ap (λ (all : List (ArrayVec ℕ)). Installed (record { handler = h; version = version; image = slice_index_or all image (record { items = [] }) })) images
-told_of-same l after entry.Reset images stores = refl
 told_of-same l after (entry.Seen store) images stores =
     ap (λ (all : List Store). Seen (slice_index_or all store (record { shared = record { items = [] }; buffers = record { items = [] } }))) stores
-told_of-same l after (entry.Void cause) images stores = refl
+told_of-same l after _ images stores = refl
 
 events_of-same : (l after : Log) (entries : List Stamped) → after.images ≡ l.images → after.stores ≡ l.stores → events_of after entries ≡ events_of l entries
 events_of-same l after [] images stores = refl
@@ -336,17 +306,9 @@ event_of-seen l after store stamp adds =
 -- ---- the images and stores that are named are in the log
 
 IsNamedBelow-more : (i j k n : ℕ) (e : Entry) → i ≤ j → k ≤ n → IsNamedBelow i k e → IsNamedBelow j n e
-IsNamedBelow-more i j k n (entry.Post m h c payload) images stores named = tt
-IsNamedBelow-more i j k n (entry.Dropped h cause) images stores named = tt
-IsNamedBelow-more i j k n (entry.Start m) images stores named = tt
-IsNamedBelow-more i j k n (entry.Ask m f args) images stores named = tt
-IsNamedBelow-more i j k n (entry.Answer m value) images stores named = tt
-IsNamedBelow-more i j k n (entry.Halt m) images stores named = tt
-IsNamedBelow-more i j k n (entry.Fault m kind) images stores named = tt
 IsNamedBelow-more i j k n (entry.Install h version image) images stores named = omega arith
-IsNamedBelow-more i j k n entry.Reset images stores named = tt
 IsNamedBelow-more i j k n (entry.Seen store) images stores named = omega arith
-IsNamedBelow-more i j k n (entry.Void cause) images stores named = tt
+IsNamedBelow-more i j k n _ images stores named = tt
 
 AreNamedBelow-more : (i j k n : ℕ) (entries : List Stamped) → i ≤ j → k ≤ n → AreNamedBelow i k entries → AreNamedBelow j n entries
 AreNamedBelow-more i j k n [] images stores named = tt

@@ -63,7 +63,6 @@ writes-step m r (Posted k h c payload) n at follows stays numbered w =
     let next : k ≡ suc r.posts = follows.0 in
     let other : n ≢ k = omega arith in
     inr (writes-other m r (next_state m r (Posted k h c payload)) n at ((posted-Joins m r k h c payload).others n other) w)
-writes-step m r (Dropped h cause) n at follows stays numbered w = inr w
 writes-step m r (Started k) n at follows stays numbered w = inr (writes-moves m r (next_state m r (Started k)) k Ready n at (started-Moves m r k) refl w)
 writes-step m r (Asked k f args) n at follows stays numbered w = inr (writes-moves m r (next_state m r (Asked k f args)) k (Waiting f args) n at (asked-Moves m r k f args) refl w)
 writes-step m r (Answered k value) n at follows stays numbered w = inr (writes-moves m r (next_state m r (Answered k value)) k Ready n at (answered-Moves m r k value) refl w)
@@ -74,8 +73,7 @@ writes-step m r (Ended k how) n at follows stays numbered w =
     ]
 writes-step m r (Installed p) n at follows stays numbered w = absurd stays
 writes-step m r Reset n at follows stays numbered w = absurd stays
-writes-step m r (Seen store) n at follows stays numbered w = inr w
-writes-step m r (Void cause) n at follows stays numbered w = inr w
+writes-step m r _ n at follows stays numbered w = inr w
 
 used : (a b : Bool) → IsTrue b → IsTrue (a || b)
 used true b h = refl

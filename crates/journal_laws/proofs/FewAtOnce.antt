@@ -30,10 +30,8 @@ record ArePlaced (r : NodeState) : Type 0 where
 
 left-live : (phase : Phase) → 0 < entries_left phase → IsTrue (is_live phase)
 left-live Unposted some = absurd (omega arith)
-left-live Queued some = refl
-left-live Ready some = refl
-left-live (Waiting f args) some = refl
 left-live Over some = absurd (omega arith)
+left-live _ some = refl
 
 live-placed : (r : NodeState) → LiveApart r → LiveSmall r → ArePlaced r
 live-placed r apart small = record {

@@ -40,15 +40,7 @@ outside-append (t ∷ ts) more = let h = outside-append ts more in omega (arith,
 
 one-at_most : (t : JournalEntry) → from_outside t ≤ 1
 one-at_most (Started n) = omega arith
-one-at_most (Asked n f args) = omega arith
-one-at_most (Ended n how) = omega arith
-one-at_most (Posted n h c payload) = omega arith
-one-at_most (Dropped h cause) = omega arith
-one-at_most (Answered n value) = omega arith
-one-at_most (Installed p) = omega arith
-one-at_most Reset = omega arith
-one-at_most (Seen store) = omega arith
-one-at_most (Void cause) = omega arith
+one-at_most _ = omega arith
 
 outside-all : (ts : List JournalEntry) → outside ts ≤ length ts
 outside-all [] = omega arith
@@ -58,11 +50,9 @@ outside-all (t ∷ ts) = let h = outside-all ts in let one = one-at_most t in om
 
 -- a queued one its start and a mark, a ready one a mark
 abbrev pub entries_left : Phase → ℕ
-entries_left Unposted = 0
 entries_left Queued = 2
 entries_left Ready = 1
-entries_left (Waiting f args) = 0
-entries_left Over = 0
+entries_left _ = 0
 
 -- f 0 + .. + f (n - 1)
 abbrev total : (ℕ → ℕ) → ℕ → ℕ
@@ -116,17 +106,13 @@ owing-joins r s n joins next =
 
 cut-entries_left : (phase : Phase) → entries_left (if is_live phase then Over else phase) ≤ entries_left phase
 cut-entries_left Unposted = omega arith
-cut-entries_left Queued = omega arith
-cut-entries_left Ready = omega arith
-cut-entries_left (Waiting f args) = omega arith
-cut-entries_left Over = omega arith
+cut-entries_left _ = omega arith
 
 live : (r : NodeState) (n : ℕ) (phase : Phase) → IsNumbered r → (r.invocations n).phase ≡ phase → is_live phase ≡ true → n ≤ r.posts
 live r n phase numbered is lives = live_posted r n numbered (ap is_live is ∙ lives)
 
 owing-step : (m : Machine) (r : NodeState) (t : JournalEntry) → MayFollow m r t → IsNumbered r → 1 + owing (next_state m r t) ≤ 3 * from_outside t + owing r
 owing-step m r (Posted n h c payload) follows numbered = let e = owing-joins r (next_state m r (Posted n h c payload)) n (posted-Joins m r n h c payload) follows.0 in omega (arith, e)
-owing-step m r (Dropped h cause) follows numbered = omega arith
 owing-step m r (Started n) follows numbered =
     let e = owing-moves r (next_state m r (Started n)) n Ready Queued (started-Moves m r n) follows (live r n Queued numbered follows refl) in omega (arith, e)
 owing-step m r (Asked n f args) follows numbered =
@@ -137,8 +123,7 @@ owing-step m r (Ended n how) follows numbered =
     let e = owing-moves r (next_state m r (Ended n how)) n Over Ready (ended-Moves m r n how) follows.0 (live r n Ready numbered follows.0 refl) in omega (arith, e)
 owing-step m r (Installed p) follows numbered = let e = total-below (left_at r) (left_at (next_state m r (Installed p))) (suc r.posts) (λ k. cut-entries_left (r.invocations k).phase) in omega (arith, e)
 owing-step m r Reset follows numbered = let e = total-below (left_at r) (left_at (next_state m r Reset)) (suc r.posts) (λ k. cut-entries_left (r.invocations k).phase) in omega (arith, e)
-owing-step m r (Seen store) follows numbered = omega arith
-owing-step m r (Void cause) follows numbered = omega arith
+owing-step m r _ follows numbered = omega arith
 
 -- each entry from outside is followed by two others at most
 owing-all : (m : Machine) (r : NodeState) (es : List TimedEntry) → AtEachEntry (MayFollow m) m r es → IsNumbered r → length es ≤ 3 * outside (untimed es) + owing r
@@ -166,8 +151,7 @@ starts-inside (t ∷ ts) all = let h = starts-inside ts (All-tail IsStart t ts a
 
 entry-inside : (n : ℕ) (e : End) → from_outside (entry_at n e) ≡ 0
 entry-inside n end.Halt = refl
-entry-inside n (end.Fault kind) = refl
-entry-inside n (end.Wants f args) = refl
+entry-inside n _ = refl
 
 turn-inside : (m : Machine) (r : NodeState) (p : Pace) (instructions : ℕ) (t : Turn) → IsTurn m r p instructions t → outside t.told ≡ 0
 turn-inside m r p instructions t turn = elim (cases_lt (p.counts t.invocation + instructions) (mark_of m r t.invocation)) [

@@ -30,25 +30,20 @@ fresh-joins r s n i each none joins right = record {
 
 cut-not_queued : (phase : Phase) → (if is_live phase then Over else phase) ≡ Queued → ⊥
 cut-not_queued Unposted is = cc
-cut-not_queued Queued is = cc
-cut-not_queued Ready is = cc
-cut-not_queued (Waiting f args) is = cc
-cut-not_queued Over is = cc
+cut-not_queued _ is = cc
 
 fresh-cuts : (r s : NodeState) → Cuts r s → IsFresh s
 fresh-cuts r s cuts = record { fresh = λ k queued. absurd (cut-not_queued (r.invocations k).phase (subst (λ (i : Invocation). i.phase ≡ Queued) (cuts.each k) queued)) }
 
 pub fresh-step : (m : Machine) (r : NodeState) (told : JournalEntry) → IsFresh r → IsFresh (next_state m r told)
 fresh-step m r (Posted n h c payload) right = fresh-joins r (next_state m r (Posted n h c payload)) n _ (λ k. refl) refl (posted-Joins m r n h c payload) right
-fresh-step m r (Dropped h cause) right = right
 fresh-step m r (Started n) right = fresh-moves r (next_state m r (Started n)) n Ready (started-Moves m r n) (λ e. cc) right
 fresh-step m r (Asked n f args) right = fresh-moves r (next_state m r (Asked n f args)) n (Waiting f args) (asked-Moves m r n f args) (λ e. cc) right
 fresh-step m r (Answered n value) right = fresh-moves r (next_state m r (Answered n value)) n Ready (answered-Moves m r n value) (λ e. cc) right
 fresh-step m r (Ended n how) right = fresh-moves r (next_state m r (Ended n how)) n Over (ended-Moves m r n how) (λ e. cc) right
 fresh-step m r (Installed p) right = fresh-cuts r (next_state m r (Installed p)) (record { posts = refl; each = λ n. refl })
 fresh-step m r Reset right = fresh-cuts r (next_state m r Reset) (record { posts = refl; each = λ n. refl })
-fresh-step m r (Seen store) right = right
-fresh-step m r (Void cause) right = right
+fresh-step m r _ right = right
 
 pub fresh-after : (m : Machine) (r : NodeState) (es : List TimedEntry) → IsFresh r → IsFresh (state_after_all m r es)
 fresh-after m r [] right = right

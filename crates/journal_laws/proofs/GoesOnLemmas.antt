@@ -48,29 +48,11 @@ items-below xs d (suc n) le =
 -- an entry tells what it names
 image-of : (l : Log) (e : Entry) → option_to_list (image_told (journal_entry l e)) ≡ map (λ k. slice_index_or l.images k no_image) (option_to_list (image_named e))
 image-of l (entry.Install h version image) = refl
-image-of l (entry.Post n h c payload) = refl
-image-of l (entry.Dropped h cause) = refl
-image-of l (entry.Start n) = refl
-image-of l (entry.Ask n f args) = refl
-image-of l (entry.Answer n value) = refl
-image-of l (entry.Halt n) = refl
-image-of l (entry.Fault n kind) = refl
-image-of l entry.Reset = refl
-image-of l (entry.Seen store) = refl
-image-of l (entry.Void cause) = refl
+image-of l _ = refl
 
 store-of : (l : Log) (e : Entry) → option_to_list (store_seen (journal_entry l e)) ≡ map (λ k. slice_index_or l.stores k no_store) (option_to_list (store_named e))
 store-of l (entry.Install h version image) = refl
-store-of l (entry.Post n h c payload) = refl
-store-of l (entry.Dropped h cause) = refl
-store-of l (entry.Start n) = refl
-store-of l (entry.Ask n f args) = refl
-store-of l (entry.Answer n value) = refl
-store-of l (entry.Halt n) = refl
-store-of l (entry.Fault n kind) = refl
-store-of l entry.Reset = refl
-store-of l (entry.Seen store) = refl
-store-of l (entry.Void cause) = refl
+store-of l _ = refl
 
 told-named : {A : Type 0} (l : Log) (told : JournalEntry → Option A) (named : Entry → Option ℕ) (xs : List A) (d : A)
     → ((e : Entry) → option_to_list (told (journal_entry l e)) ≡ map (λ k. slice_index_or xs k d) (option_to_list (named e)))
@@ -109,16 +91,7 @@ entry_with image store (Void cause) = entry.Void cause
 
 entry-told : (l : Log) (e : Entry) → entry_with (image_named e) (store_named e) (journal_entry l e) ≡ e
 entry-told l (entry.Install h version image) = refl
-entry-told l (entry.Post n h c payload) = refl
-entry-told l (entry.Dropped h cause) = refl
-entry-told l (entry.Start n) = refl
-entry-told l (entry.Ask n f args) = refl
-entry-told l (entry.Answer n value) = refl
-entry-told l (entry.Halt n) = refl
-entry-told l (entry.Fault n kind) = refl
-entry-told l entry.Reset = refl
-entry-told l (entry.Seen store) = refl
-entry-told l (entry.Void cause) = refl
+entry-told l _ = refl
 
 -- one list of names begins another
 pub record Begins (first all : List ℕ) : Type 0 where
@@ -137,29 +110,11 @@ same-next (Some i) (Some j) is js both begins =
 
 names-image : (l : Log) (e : Entry) → is_some (image_named e) ≡ is_some (image_told (journal_entry l e))
 names-image l (entry.Install h version image) = refl
-names-image l (entry.Post n h c payload) = refl
-names-image l (entry.Dropped h cause) = refl
-names-image l (entry.Start n) = refl
-names-image l (entry.Ask n f args) = refl
-names-image l (entry.Answer n value) = refl
-names-image l (entry.Halt n) = refl
-names-image l (entry.Fault n kind) = refl
-names-image l entry.Reset = refl
-names-image l (entry.Seen store) = refl
-names-image l (entry.Void cause) = refl
+names-image l _ = refl
 
 names-store : (l : Log) (e : Entry) → is_some (store_named e) ≡ is_some (store_seen (journal_entry l e))
 names-store l (entry.Install h version image) = refl
-names-store l (entry.Post n h c payload) = refl
-names-store l (entry.Dropped h cause) = refl
-names-store l (entry.Start n) = refl
-names-store l (entry.Ask n f args) = refl
-names-store l (entry.Answer n value) = refl
-names-store l (entry.Halt n) = refl
-names-store l (entry.Fault n kind) = refl
-names-store l entry.Reset = refl
-names-store l (entry.Seen store) = refl
-names-store l (entry.Void cause) = refl
+names-store l _ = refl
 
 -- the entries of the first log begin those of the second
 entries-begin : (a b : Log) (es fs : List Stamped) (more : List TimedEntry) → map (event_of b) fs ≡ map (event_of a) es ++ more

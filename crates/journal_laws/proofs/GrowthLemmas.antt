@@ -54,16 +54,7 @@ goes-on P gone count old new more is here all rest =
 
 entry-behind : (images stores : ℕ) (e : Entry) → HasEntryRanges e → HasEntryRanges (entry_behind images stores e)
 entry-behind images stores (entry.Post n h c payload) has = has
-entry-behind images stores (entry.Dropped h cause) has = has
-entry-behind images stores (entry.Start n) has = has
-entry-behind images stores (entry.Ask n f args) has = has
-entry-behind images stores (entry.Answer n value) has = has
-entry-behind images stores (entry.Halt n) has = has
-entry-behind images stores (entry.Fault n kind) has = has
-entry-behind images stores (entry.Install h version image) has = has
-entry-behind images stores entry.Reset has = has
-entry-behind images stores (entry.Seen store) has = has
-entry-behind images stores (entry.Void cause) has = has
+entry-behind images stores _ has = has
 
 stamped-behind : (images stores : ℕ) (es : List Stamped) → All HasStampedRanges es → All HasStampedRanges (map (stamped_behind images stores) es)
 stamped-behind images stores [] all = All-nil HasStampedRanges

@@ -85,15 +85,9 @@ pub cut-unposted : (i : Invocation) → i.phase ≡ Unposted → (cut_at_era i).
 cut-unposted i is = subst (λ (phase : Phase). (if is_live phase then Over else phase) ≡ Unposted) (sym is) refl
 
 pub started_live : (phase : Phase) → IsTrue (is_started phase) → IsTrue (is_live phase)
-started_live Unposted h = h
 started_live Queued h = absurd (untrue false h refl)
-started_live Ready h = h
-started_live (Waiting f args) h = h
-started_live Over h = h
+started_live _ h = h
 
 pub posted_phase : (phase : Phase) → IsTrue (is_live phase) → phase ≡ Unposted → ⊥
 posted_phase Unposted h e = untrue false h refl
-posted_phase Queued h e = cc
-posted_phase Ready h e = cc
-posted_phase (Waiting f args) h e = cc
-posted_phase Over h e = cc
+posted_phase _ h e = cc

@@ -53,15 +53,13 @@ later-cuts r s cuts = record {
 
 pub later-step : (m : Machine) (r : NodeState) (told : JournalEntry) → MayFollow m r told → IsLater r (next_state m r told)
 later-step m r (Posted n h c payload) follows = later-joins r (next_state m r (Posted n h c payload)) n (posted-Joins m r n h c payload) follows.0
-later-step m r (Dropped h cause) follows = later-self r
 later-step m r (Started n) follows = later-moves r (next_state m r (Started n)) n Ready (started-Moves m r n) (queued_live r n follows)
 later-step m r (Asked n f args) follows = later-moves r (next_state m r (Asked n f args)) n (Waiting f args) (asked-Moves m r n f args) (ready_live r n follows)
 later-step m r (Answered n value) follows = later-moves r (next_state m r (Answered n value)) n Ready (answered-Moves m r n value) (waiting_live r n follows)
 later-step m r (Ended n how) follows = later-moves r (next_state m r (Ended n how)) n Over (ended-Moves m r n how) (ready_live r n follows.0)
 later-step m r (Installed p) follows = later-cuts r (next_state m r (Installed p)) (record { posts = refl; each = λ n. refl })
 later-step m r Reset follows = later-cuts r (next_state m r Reset) (record { posts = refl; each = λ n. refl })
-later-step m r (Seen store) follows = later-self r
-later-step m r (Void cause) follows = later-self r
+later-step m r _ follows = later-self r
 
 pub later-after : (m : Machine) (r : NodeState) (es : List TimedEntry) → AtEachEntry (MayFollow m) m r es → IsLater r (state_after_all m r es)
 later-after m r [] follow = later-self r

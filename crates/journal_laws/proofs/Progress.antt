@@ -14,11 +14,9 @@ abbrev IsSomeStarted : NodeState → Type 0
 IsSomeStarted r = IsSomeReady r ⊎ IsSomeWaiting r
 
 started_found : (r : NodeState) (n : ℕ) (phase : Phase) → (r.invocations n).phase ≡ phase → IsTrue (is_started phase) → IsSomeStarted r
-started_found r n Unposted is started = absurd (untrue false started refl)
-started_found r n Queued is started = absurd (untrue false started refl)
 started_found r n Ready is started = inl (record { invocation = n; ready = is })
 started_found r n (Waiting f args) is started = inr (record { invocation = n; waits = record { fun = f; args = args; waits = is } })
-started_found r n Over is started = absurd (untrue false started refl)
+started_found r n _ is started = absurd (untrue false started refl)
 
 -- a queued invocation is held back by a started one, or by a queued one with a lower number
 queued_found : (m : Machine) (r : NodeState) (most n : ℕ) → AllHeldBack m r → n < most → (r.invocations n).phase ≡ Queued → IsSomeStarted r
@@ -60,16 +58,8 @@ goes_forward m r numbered held = by (search_below m r (suc r.posts) held) where
 
 -- before an entry that is no start all queued invocations are held back
 pub held-back : (m : Machine) (r : NodeState) (last : ℕ) (told : JournalEntry) → IsGranted m r last told → (IsStart told → ⊥) → AllHeldBack m r
-held-back m r last (Posted n h c payload) granted other = granted
-held-back m r last (Dropped h cause) granted other = granted
 held-back m r last (Started n) granted other = absurd (other tt)
-held-back m r last (Asked n f args) granted other = granted
-held-back m r last (Answered n value) granted other = granted
-held-back m r last (Ended n how) granted other = granted
-held-back m r last (Installed p) granted other = granted
-held-back m r last Reset granted other = granted
-held-back m r last (Seen store) granted other = granted
-held-back m r last (Void cause) granted other = granted
+held-back m r last _ granted other = granted
 
 pub never-stuck : (m : Machine) (r : NodeState) (last : ℕ) (es : List TimedEntry) → AtEachEntry (MayFollow m) m r es → GrantsInOrder m r last es → IsNumbered r → IsNeverStuck m r es
 never-stuck m r last [] follow granted numbered = record { between = tt; last = goes_forward m r numbered granted }

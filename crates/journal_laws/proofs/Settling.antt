@@ -42,8 +42,7 @@ starts-of_turns (t ∷ starts) all = (start-of_turn t (All-head IsStart t starts
 
 mark-of_turn : (n : ℕ) (e : End) → IsOfTurn (entry_at n e)
 mark-of_turn n end.Halt = tt
-mark-of_turn n (end.Fault kind) = tt
-mark-of_turn n (end.Wants f args) = tt
+mark-of_turn n _ = tt
 
 turn-of_turns : (m : Machine) (r : NodeState) (p : Pace) (instructions : ℕ) (t : Turn) → IsTurn m r p instructions t → AreOfTurns t.told
 turn-of_turns m r p instructions t turn = elim (cases_lt (p.counts t.invocation + instructions) (mark_of m r t.invocation)) [

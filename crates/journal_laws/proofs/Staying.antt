@@ -16,15 +16,10 @@ use Rattle.journal_laws.specs.Waiting.{AreFollowing, ends_wait, NoneEndsWait}
 -- the entry neither posts the invocation nor ends its wait
 abbrev pub Leaves : ℕ → JournalEntry → Type 0
 Leaves n (Posted k h c payload) = n ≢ k
-Leaves n (Dropped h cause) = Unit {0}
-Leaves n (Started k) = Unit {0}
-Leaves n (Asked k f args) = Unit {0}
 Leaves n (Answered k value) = n ≢ k
-Leaves n (Ended k how) = Unit {0}
 Leaves n (Installed p) = ⊥
 Leaves n Reset = ⊥
-Leaves n (Seen store) = Unit {0}
-Leaves n (Void cause) = Unit {0}
+Leaves n _ = Unit {0}
 
 abbrev pub AllLeave : ℕ → List JournalEntry → Type 0
 AllLeave n [] = Unit {0}
@@ -41,15 +36,13 @@ waits_not_ready r n k waits ready same =
 
 stays-step : (m : Machine) (r : NodeState) (n : ℕ) (t : JournalEntry) → MayFollow m r t → IsWaiting r n → Leaves n t → (next_state m r t).invocations n ≡ r.invocations n
 stays-step m r n (Posted k h c payload) follows waits leaves = changed-other r.invocations k _ n leaves
-stays-step m r n (Dropped h cause) follows waits leaves = refl
 stays-step m r n (Started k) follows waits leaves = changed-other r.invocations k _ n (waits_not_queued r n k waits follows)
 stays-step m r n (Asked k f args) follows waits leaves = changed-other r.invocations k _ n (waits_not_ready r n k waits follows)
 stays-step m r n (Answered k value) follows waits leaves = changed-other r.invocations k _ n leaves
 stays-step m r n (Ended k how) follows waits leaves = changed-other r.invocations k _ n (waits_not_ready r n k waits follows.0)
 stays-step m r n (Installed p) follows waits leaves = absurd leaves
 stays-step m r n Reset follows waits leaves = absurd leaves
-stays-step m r n (Seen store) follows waits leaves = refl
-stays-step m r n (Void cause) follows waits leaves = refl
+stays-step m r n _ follows waits leaves = refl
 
 -- whoever is as it was waits as it did
 pub waits-same : (r s : NodeState) (n : ℕ) → s.invocations n ≡ r.invocations n → IsWaiting r n → IsWaiting s n
@@ -69,15 +62,10 @@ not_posted r n k numbered waits next same = let posted = live_posted r n numbere
 
 leaves-of : (m : Machine) (r : NodeState) (n : ℕ) (t : JournalEntry) → IsNumbered r → MayFollow m r t → IsWaiting r n → ends_wait n t ≡ false → Leaves n t
 leaves-of m r n (Posted k h c payload) numbered follows waits goes_on = not_posted r n k numbered waits follows.0
-leaves-of m r n (Dropped h cause) numbered follows waits goes_on = tt
-leaves-of m r n (Started k) numbered follows waits goes_on = tt
-leaves-of m r n (Asked k f args) numbered follows waits goes_on = tt
 leaves-of m r n (Answered k value) numbered follows waits goes_on = λ same. let is : ends_wait n (Answered k value) ≡ true = eq-eqb k n (sym same) in cc
-leaves-of m r n (Ended k how) numbered follows waits goes_on = tt
 leaves-of m r n (Installed p) numbered follows waits goes_on = cc
 leaves-of m r n Reset numbered follows waits goes_on = cc
-leaves-of m r n (Seen store) numbered follows waits goes_on = tt
-leaves-of m r n (Void cause) numbered follows waits goes_on = tt
+leaves-of m r n _ numbered follows waits goes_on = tt
 
 pub goes_on-told : (m : Machine) (r : NodeState) (n : ℕ) (told : List JournalEntry) → IsNumbered r → AreFollowing m r told → IsWaiting r n → NoneEndsWait n told
     → (state_after_entries m r told).invocations n ≡ r.invocations n

@@ -58,15 +58,13 @@ who-joins m r (Posted n h c payload) follows = inr (record {
   here = ap (λ (i : Invocation). i.context) (changed-here r.invocations n _);
   others = (posted-Joins m r n h c payload).others;
 })
-who-joins m r (Dropped h cause) follows = inl (record { was = λ k now. (now, refl) })
 who-joins m r (Started n) follows = inl (record { was = one-changes r n _ (queued_live r n follows) refl })
 who-joins m r (Asked n f args) follows = inl (record { was = one-changes r n _ (ready_live r n follows) refl })
 who-joins m r (Answered n value) follows = inl (record { was = one-changes r n _ (waiting_live r n follows) refl })
 who-joins m r (Ended n how) follows = inl (record { was = one-changes r n _ (ready_live r n follows.0) refl })
 who-joins m r (Installed p) follows = inl (record { was = all-cut r })
 who-joins m r Reset follows = inl (record { was = all-cut r })
-who-joins m r (Seen store) follows = inl (record { was = λ k now. (now, refl) })
-who-joins m r (Void cause) follows = inl (record { was = λ k now. (now, refl) })
+who-joins m r _ follows = inl (record { was = λ k now. (now, refl) })
 
 -- ---- contexts of their own
 

@@ -65,10 +65,7 @@ one-joins r s n i each idle right = record { one = one } where
 
 not-live : (phase : Phase) → IsTrue (is_live (if is_live phase then Over else phase)) → ⊥
 not-live Unposted live = cc
-not-live Queued live = cc
-not-live Ready live = cc
-not-live (Waiting f args) live = cc
-not-live Over live = cc
+not-live _ live = cc
 
 one-cut : (r s : NodeState) → ((n : ℕ) → s.invocations n ≡ cut_at_era (r.invocations n)) → HasOneEach s
 one-cut r s each = record { one = λ j k live live' same. absurd (not-live (r.invocations j).phase (subst (λ (x : Invocation). IsTrue (is_live x.phase)) (each j) live)) }
@@ -78,15 +75,13 @@ live-by phase now is live = subst (λ (x : Phase). IsTrue (is_live x)) (sym is) 
 
 pub one-step : (m : Machine) (r : NodeState) (t : JournalEntry) → MayFollow m r t → HasOneEach r → HasOneEach (next_state m r t)
 one-step m r (Posted n h c payload) follow right = one-joins r (next_state m r (Posted n h c payload)) n _ (λ k. refl) follow.3 right
-one-step m r (Dropped h cause) follow right = right
 one-step m r (Started n) follow right = one-changed r (next_state m r (Started n)) n _ (λ k. refl) (live-by Queued _ follow refl) refl right
 one-step m r (Asked n f args) follow right = one-changed r (next_state m r (Asked n f args)) n _ (λ k. refl) (live-by Ready _ follow refl) refl right
 one-step m r (Answered n value) follow right = one-changed r (next_state m r (Answered n value)) n _ (λ k. refl) (live-by (Waiting follow.fun follow.args) _ follow.waits refl) refl right
 one-step m r (Ended n how) follow right = one-changed r (next_state m r (Ended n how)) n _ (λ k. refl) (live-by Ready _ follow.0 refl) refl right
 one-step m r (Installed p) follow right = one-cut r (next_state m r (Installed p)) (λ n. refl)
 one-step m r Reset follow right = one-cut r (next_state m r Reset) (λ n. refl)
-one-step m r (Seen store) follow right = right
-one-step m r (Void cause) follow right = right
+one-step m r _ follow right = right
 
 pub one-along : (m : Machine) (r : NodeState) (last : ℕ) (xs ys : List JournalEntry) → KeepsRules m r last (xs ++ ys) → HasOneEach r → HasOneEach (state_after_entries m r xs)
 one-along m r last [] ys keeps right = right

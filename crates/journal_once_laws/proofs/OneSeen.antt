@@ -15,12 +15,10 @@ use Rattle.journal_once_laws.proofs.Lists.{ints-same, ints-by_place, buffers-by_
 module _ (m : Machine) (r : NodeState) (p : Pace) (a b : Store) (shown : IsShown m r a) (shown' : IsShown m r b) (ready : ShowsReady m r p a) (ready' : ShowsReady m r p b) where
   -- what somebody writes is the same in both
   written-same : (at : Resource) (n : ℕ) → WritesResource m r n at → (phase : Phase) → (r.invocations n).phase ≡ phase → values_at a at ≡ values_at b at
-  written-same at n writes Unposted is = let h : IsTrue false = subst (λ (x : Phase). IsTrue (is_started x)) is writes.started in cc
-  written-same at n writes Queued is = let h : IsTrue false = subst (λ (x : Phase). IsTrue (is_started x)) is writes.started in cc
   written-same at n writes Ready is = ready.ready at n writes is ∙ sym (ready'.ready at n writes is)
   written-same at n writes (Waiting f args) is =
       shown.waiting at n writes (record { fun = f; args = args; waits = is }) ∙ sym (shown'.waiting at n writes (record { fun = f; args = args; waits = is }))
-  written-same at n writes Over is = let h : IsTrue false = subst (λ (x : Phase). IsTrue (is_started x)) is writes.started in cc
+  written-same at n writes _ is = let h : IsTrue false = subst (λ (x : Phase). IsTrue (is_started x)) is writes.started in cc
 
   -- and so is what nobody writes: were it not the same, nobody would write it
   values-same : (at : Resource) → values_at a at ≡ values_at b at

@@ -63,15 +63,7 @@ record StartIs (t : JournalEntry) : Type 0 where
 
 start-is : (t : JournalEntry) → IsStart t → StartIs t
 start-is (Started n) start = record { number = n; is = refl }
-start-is (Posted n h c payload) start = absurd start
-start-is (Dropped h cause) start = absurd start
-start-is (Asked n f args) start = absurd start
-start-is (Answered n value) start = absurd start
-start-is (Ended n how) start = absurd start
-start-is (Installed p) start = absurd start
-start-is Reset start = absurd start
-start-is (Seen store) start = absurd start
-start-is (Void cause) start = absurd start
+start-is _ start = absurd start
 
 -- nobody starts where the others end
 starts-end : (m : Machine) (r : NodeState) (last : ℕ) (rest : List JournalEntry) (j : ℕ) (more : List JournalEntry) → KeepsRules m r last rest → BeginsOtherwise rest → KeepsRules m r last (Started j ∷ more) → ⊥

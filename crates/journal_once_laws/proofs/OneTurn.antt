@@ -14,8 +14,7 @@ use Rattle.journal_once_laws.proofs.OneStart.{starts-once}
 -- a mark's entry starts nobody
 entry-other : (n : ℕ) (how : End) (ts : List JournalEntry) → BeginsOtherwise (entry_at n how ∷ ts)
 entry-other n end.Halt ts start = absurd start
-entry-other n (end.Fault kind) ts start = absurd start
-entry-other n (end.Wants f args) ts start = absurd start
+entry-other n _ ts start = absurd start
 
 abbrev one_turn : ℕ → List JournalEntry → Turn
 one_turn n told = record { invocation = n; told = told }

@@ -35,15 +35,7 @@ BeginsOtherwise (t ∷ ts) = IsStart t → ⊥
 pub held-here : (m : Machine) (r : NodeState) (last : ℕ) (ts : List JournalEntry) → KeepsRules m r last ts → BeginsOtherwise ts → AllHeldBack m r
 held-here m r last [] keeps other = keeps
 held-here m r last (Started n ∷ ts) keeps other = absurd (other tt)
-held-here m r last (Posted n h c payload ∷ ts) keeps other = keeps.2
-held-here m r last (Dropped h cause ∷ ts) keeps other = keeps.2
-held-here m r last (Asked n f args ∷ ts) keeps other = keeps.2
-held-here m r last (Answered n value ∷ ts) keeps other = keeps.2
-held-here m r last (Ended n how ∷ ts) keeps other = keeps.2
-held-here m r last (Installed p ∷ ts) keeps other = keeps.2
-held-here m r last (Reset ∷ ts) keeps other = keeps.2
-held-here m r last (Seen store ∷ ts) keeps other = keeps.2
-held-here m r last (Void cause ∷ ts) keeps other = keeps.2
+held-here m r last _ keeps other = keeps.2
 
 -- what is heard is what is told, whatever the stamps
 pub heard_all-told : (m : Machine) (r : NodeState) (es : List TimedEntry) → state_after_all m r es ≡ state_after_entries m r (untimed es)

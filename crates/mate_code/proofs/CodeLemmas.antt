@@ -25,9 +25,7 @@ use Rattle.mate_code.proofs.OpcodeLemmas.{kind_at-opcode_of}
 
 pub length-operand_bytes : (form : OperandForm) (n : ℕ) → length (operand_bytes form n) ≡ width_of form
 length-operand_bytes Absent n = refl
-length-operand_bytes Byte n = refl
-length-operand_bytes Word n = refl
-length-operand_bytes SignedWord n = refl
+length-operand_bytes _ n = refl
 
 pub length-instr_bytes : (t : Layout) (i : Instr) → length (instr_bytes t i) ≡ size_of i
 length-instr_bytes t i = ap suc (length-operand_bytes (row_of i).form (operand_of i)) ∙ omega arith
@@ -47,9 +45,7 @@ operand_at-operand_bytes SignedWord n rest fits = from_be_bytes-to_be_bytes_2 n 
 
 drop-operand_bytes : (form : OperandForm) (n : ℕ) (rest : List ℕ) → drop (width_of form) (operand_bytes form n ++ rest) ≡ rest
 drop-operand_bytes Absent n rest = refl
-drop-operand_bytes Byte n rest = refl
-drop-operand_bytes Word n rest = refl
-drop-operand_bytes SignedWord n rest = refl
+drop-operand_bytes _ n rest = refl
 
 with_kind-operand_bytes : (place : ℕ) (k : Kind) (n : ℕ) (rest : List ℕ) → FitsForm (form_of k) n → with_kind place (Some k) (operand_bytes (form_of k) n ++ rest) ≡ Ok (instr_of k n, rest)
 with_kind-operand_bytes place k n rest fits =

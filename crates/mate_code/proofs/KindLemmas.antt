@@ -15,41 +15,7 @@ use Rattle.mate_code.specs.Code.{operand_at, made_at, instr_at, with_kind}
 
 pub row-kind : (i : Instr) → kind_row (kind_of i) ≡ row_of i
 row-kind Halt = refl
-row-kind (PushW value) = refl
-row-kind (PushB n) = refl
-row-kind (GetS v) = refl
-row-kind (SetS v) = refl
-row-kind (GetP n) = refl
-row-kind (SetP n) = refl
-row-kind Add = refl
-row-kind Sub = refl
-row-kind Mul = refl
-row-kind Div = refl
-row-kind Mod = refl
-row-kind Neg = refl
-row-kind Not = refl
-row-kind And = refl
-row-kind Or = refl
-row-kind Eq = refl
-row-kind Ne = refl
-row-kind Lt = refl
-row-kind Gt = refl
-row-kind Le = refl
-row-kind Ge = refl
-row-kind (Jz place) = refl
-row-kind (Jmp place) = refl
-row-kind (Back place) = refl
-row-kind Drop = refl
-row-kind MsgGet = refl
-row-kind MsgSize = refl
-row-kind (BGet b) = refl
-row-kind (BSet b) = refl
-row-kind (BAdd b) = refl
-row-kind (BTake b) = refl
-row-kind (BSize b) = refl
-row-kind (BClear b) = refl
-row-kind (Fun f) = refl
-row-kind (FunBuf f b) = refl
+row-kind _ = refl
 
 pub size_of-kind : (i : Instr) → size_of i ≡ 1 + width_of (form_of (kind_of i))
 size_of-kind i = ap (λ (r : Row). 1 + width_of r.form) (sym (row-kind i))

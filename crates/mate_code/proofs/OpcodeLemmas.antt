@@ -27,34 +27,6 @@ at_function t f send e =
 
 -- a kind that is in the table stands at its opcode
 pub kind_at-opcode_of : (t : Layout) (k : Kind) → IsInTable t k → kind_at t (opcode_of t k) ≡ Some k
-kind_at-opcode_of t Halt h = refl
-kind_at-opcode_of t PushW h = refl
-kind_at-opcode_of t PushB h = refl
-kind_at-opcode_of t GetS h = refl
-kind_at-opcode_of t SetS h = refl
-kind_at-opcode_of t GetP h = refl
-kind_at-opcode_of t SetP h = refl
-kind_at-opcode_of t Add h = refl
-kind_at-opcode_of t Sub h = refl
-kind_at-opcode_of t Mul h = refl
-kind_at-opcode_of t Div h = refl
-kind_at-opcode_of t Mod h = refl
-kind_at-opcode_of t Neg h = refl
-kind_at-opcode_of t Not h = refl
-kind_at-opcode_of t And h = refl
-kind_at-opcode_of t Or h = refl
-kind_at-opcode_of t Eq h = refl
-kind_at-opcode_of t Ne h = refl
-kind_at-opcode_of t Lt h = refl
-kind_at-opcode_of t Gt h = refl
-kind_at-opcode_of t Le h = refl
-kind_at-opcode_of t Ge h = refl
-kind_at-opcode_of t Jz h = refl
-kind_at-opcode_of t Jmp h = refl
-kind_at-opcode_of t Back h = refl
-kind_at-opcode_of t Drop h = refl
-kind_at-opcode_of t MsgGet h = refl
-kind_at-opcode_of t MsgSize h = refl
 kind_at-opcode_of t BGet h = in_group t 28 BGet h refl
 kind_at-opcode_of t BSet h = in_group t 29 BSet h refl
 kind_at-opcode_of t BAdd h = in_group t 30 BAdd h refl
@@ -63,6 +35,7 @@ kind_at-opcode_of t BSize h = in_group t 32 BSize h refl
 kind_at-opcode_of t BClear h = in_group t 33 BClear h refl
 kind_at-opcode_of t (Fun f) h = at_function t f.0 false h
 kind_at-opcode_of t (FunBuf f) h = at_function t f.0 true h
+kind_at-opcode_of t _ h = refl
 
 -- an item stands at its opcode, in a list that begins at this opcode
 abbrev StandsAt : Layout → ℕ → List Kind → Type 0

@@ -56,19 +56,12 @@ unwritten shape code place i r found none =
 -- ---- a run changes nothing outside what its code writes
 
 changed-other : (shape : Shape) (u : Use) (cell : List ℤ) (s : Store) (q : Resource) → writes_in shape u q ≡ false → read (changed u cell s) q ≡ read s q
-changed-other shape Nothing cell s q apart = refl
-changed-other shape (Gets r) cell s q apart = refl
 changed-other shape (Changes r) cell s q apart = read-write_other s r q cell apart
-changed-other shape (Calls f) cell s q apart = refl
-changed-other shape (Sends f b) cell s q apart = refl
+changed-other shape _ cell s q apart = refl
 
 pub store_after-other : (shape : Shape) (e : Effect) (u : Use) (s : Store) (q : Resource) → writes_in shape u q ≡ false → read (store_after e u s) q ≡ read s q
-store_after-other shape (Goes p) u s q apart = refl
 store_after-other shape (Writes p cell) u s q apart = changed-other shape u cell s q apart
-store_after-other shape (Asks p f args) u s q apart = refl
-store_after-other shape Halts u s q apart = refl
-store_after-other shape (Faults kind) u s q apart = refl
-store_after-other shape Sticks u s q apart = refl
+store_after-other shape _ u s q apart = refl
 
 executed_at-other : (shape : Shape) (o : Option Instr) (r : Run) (q : Resource) → ((i : Instr) → o ≡ Some i → writes_in shape (use_of i) q ≡ false) → read (executed_at shape o r).store q ≡ read r.store q
 executed_at-other shape None r q apart = refl
@@ -92,19 +85,12 @@ after-other (suc n) shape code r q none = step-other shape code (after n shape c
 -- ---- the lengths of the store stay
 
 changed-AreAsLong : (u : Use) (cell : List ℤ) (s : Store) → AreAsLong (changed u cell s) s
-changed-AreAsLong Nothing cell s = record { shared = refl; buffers = refl }
-changed-AreAsLong (Gets r) cell s = record { shared = refl; buffers = refl }
 changed-AreAsLong (Changes r) cell s = write-AreAsLong s r cell
-changed-AreAsLong (Calls f) cell s = record { shared = refl; buffers = refl }
-changed-AreAsLong (Sends f b) cell s = record { shared = refl; buffers = refl }
+changed-AreAsLong _ cell s = record { shared = refl; buffers = refl }
 
 pub store_after-AreAsLong : (e : Effect) (u : Use) (s : Store) → AreAsLong (store_after e u s) s
-store_after-AreAsLong (Goes p) u s = record { shared = refl; buffers = refl }
 store_after-AreAsLong (Writes p cell) u s = changed-AreAsLong u cell s
-store_after-AreAsLong (Asks p f args) u s = record { shared = refl; buffers = refl }
-store_after-AreAsLong Halts u s = record { shared = refl; buffers = refl }
-store_after-AreAsLong (Faults kind) u s = record { shared = refl; buffers = refl }
-store_after-AreAsLong Sticks u s = record { shared = refl; buffers = refl }
+store_after-AreAsLong _ u s = record { shared = refl; buffers = refl }
 
 step_at-AreAsLong : (shape : Shape) (code : Code) (status : Status) (r : Run) → AreAsLong (step_at shape code status r).store r.store
 step_at-AreAsLong shape code Going r = by (fetch code r.own.own.pc) where
@@ -133,19 +119,12 @@ pub record Matches (test : Resource → Bool) (r s : Run) : Type 0 where
   pub stores : Agree test r.store s.store
 
 changed-Agree : (test : Resource → Bool) (u : Use) (cell : List ℤ) (s t : Store) → Agree test s t → Agree test (changed u cell s) (changed u cell t)
-changed-Agree test Nothing cell s t agree = agree
-changed-Agree test (Gets r) cell s t agree = agree
 changed-Agree test (Changes r) cell s t agree = write-Agree test s t r cell agree
-changed-Agree test (Calls f) cell s t agree = agree
-changed-Agree test (Sends f b) cell s t agree = agree
+changed-Agree test _ cell s t agree = agree
 
 pub store_after-Agree : (test : Resource → Bool) (e : Effect) (u : Use) (s t : Store) → Agree test s t → Agree test (store_after e u s) (store_after e u t)
-store_after-Agree test (Goes p) u s t agree = agree
 store_after-Agree test (Writes p cell) u s t agree = changed-Agree test u cell s t agree
-store_after-Agree test (Asks p f args) u s t agree = agree
-store_after-Agree test Halts u s t agree = agree
-store_after-Agree test (Faults kind) u s t agree = agree
-store_after-Agree test Sticks u s t agree = agree
+store_after-Agree test _ u s t agree = agree
 
 -- an instruction sees the same in the cell that it names
 pub read_cell-same : (test : Resource → Bool) (shape : Shape) (u : Use) (s t : Store) → Agree test s t → ((r : Resource) → (reads_in u r || writes_in shape u r) ≡ true → test r ≡ true) → read_cell s (cell_in u) ≡ read_cell t (cell_in u)
@@ -231,10 +210,8 @@ resumed_own f args a o =
 -- what one more answer makes of a run that was o and is o' with it
 abbrev pub IsMore : ℤ → Status → Own → Own → Type 0
 IsMore a Going o o' = o' ≡ more_own a o
-IsMore a (Over end.Halt) o o' = Unit {0}
-IsMore a (Over (end.Fault kind)) o o' = Unit {0}
 IsMore a (Over (end.Wants f args)) o o' = o' ≡ resumed_own f args a o
-IsMore a Stuck o o' = Unit {0}
+IsMore a _ o o' = Unit {0}
 
 -- the parts of a run that goes on
 abbrev going : Own → Own
@@ -248,9 +225,7 @@ own_after-IsMore : (a : ℤ) (e : Effect) (o : Own) → IsMore a (own_after_effe
 own_after-IsMore a (Goes p) o = refl
 own_after-IsMore a (Writes p cell) o = refl
 own_after-IsMore a (Asks p f args) o = asked-IsMore a p f args o.left o
-own_after-IsMore a Halts o = tt
-own_after-IsMore a (Faults kind) o = tt
-own_after-IsMore a Sticks o = tt
+own_after-IsMore a _ o = tt
 
 -- one more answer changes nothing but what IsMore says
 record MoreRun (a : ℤ) (r r' : Run) : Type 0 where
@@ -300,12 +275,8 @@ asked-count p f args [] o = refl
 asked-count p f args (a ∷ left) o = refl
 
 pub own_after-count : (e : Effect) (o : Own) → (own_after_effect e o).count ≡ o.count + 1
-own_after-count (Goes p) o = refl
-own_after-count (Writes p cell) o = refl
 own_after-count (Asks p f args) o = asked-count p f args o.left o
-own_after-count Halts o = refl
-own_after-count (Faults kind) o = refl
-own_after-count Sticks o = refl
+own_after-count _ o = refl
 
 executed_at-count : (shape : Shape) (found : Option Instr) (r : Run) → (executed_at shape found r).own.count ≡ r.own.count + 1
 executed_at-count shape None r = refl

@@ -13,17 +13,9 @@ none-long [] e = refl
 none-long (x ∷ xs) e = cc
 
 entry-behind_none : (e : Entry) → entry_behind 0 0 e ≡ e
-entry-behind_none (entry.Post n h c payload) = refl
-entry-behind_none (entry.Dropped h cause) = refl
-entry-behind_none (entry.Start n) = refl
-entry-behind_none (entry.Ask n f args) = refl
-entry-behind_none (entry.Answer n value) = refl
-entry-behind_none (entry.Halt n) = refl
-entry-behind_none (entry.Fault n kind) = refl
 entry-behind_none (entry.Install h version image) = let e : 0 + image ≡ image = omega arith in ap (λ (k : ℕ). entry.Install h version k) e
-entry-behind_none entry.Reset = refl
 entry-behind_none (entry.Seen store) = let e : 0 + store ≡ store = omega arith in ap entry.Seen e
-entry-behind_none (entry.Void cause) = refl
+entry-behind_none _ = refl
 
 behind-none : (es : List Stamped) → map (stamped_behind 0 0) es ≡ es
 behind-none [] = refl

@@ -30,10 +30,7 @@ description_in desc.NoMemory = None
 description_in-told : (a : DescriptionCause) → description_in (fault_told a) ≡ Some a
 unfolding description_in
 description_in-told description.NotToml = refl
-description_in-told (description.BadField key) = refl
-description_in-told (description.OverLimit key) = refl
-description_in-told (description.Duplicate name) = refl
-description_in-told (description.SlowImax need have) = refl
+description_in-told _ = refl
 
 pub fault_told-once : (a b : DescriptionCause) → fault_told a ≡ fault_told b → a ≡ b
 fault_told-once a b e = let h : Some a ≡ Some b = sym (description_in-told a) ∙ ap description_in e ∙ description_in-told b in cc
@@ -55,15 +52,7 @@ source_in (by_check check.NoMemory) = None
 source_in-told : (a : SourceCause) → source_in (refusal_told a) ≡ Some a
 unfolding source_in
 source_in-told (source.Spelling (spelling.BadByte place)) = refl
-source_in-told (source.Spelling (spelling.BigLiteral place)) = refl
-source_in-told (source.Spelling (spelling.Unexpected place)) = refl
-source_in-told (source.Spelling (spelling.TooDeep place)) = refl
-source_in-told (source.Undeclared name place) = refl
-source_in-told (source.NotInVm name) = refl
-source_in-told (source.Twice name) = refl
-source_in-told (source.Kind place) = refl
-source_in-told (source.Arity place) = refl
-source_in-told source.TooManyPrivates = refl
+source_in-told _ = refl
 
 pub refusal_told-once : (a b : SourceCause) → refusal_told a ≡ refusal_told b → a ≡ b
 refusal_told-once a b e = let h : Some a ≡ Some b = sym (source_in-told a) ∙ ap source_in e ∙ source_in-told b in cc
@@ -85,15 +74,7 @@ expansion_in proc.NoMemory = None
 expansion_in-told : (a : ExpansionCause) → expansion_in (expansion_fault a) ≡ Some a
 unfolding expansion_in
 expansion_in-told (expansion.Spelling (spelling.BadByte place)) = refl
-expansion_in-told (expansion.Spelling (spelling.BigLiteral place)) = refl
-expansion_in-told (expansion.Spelling (spelling.Unexpected place)) = refl
-expansion_in-told (expansion.Spelling (spelling.TooDeep place)) = refl
-expansion_in-told (expansion.NoProc name place) = refl
-expansion_in-told (expansion.Params place) = refl
-expansion_in-told (expansion.Again name place) = refl
-expansion_in-told (expansion.Reserved place) = refl
-expansion_in-told (expansion.TooLarge count) = refl
-expansion_in-told (expansion.TooNested depth) = refl
+expansion_in-told _ = refl
 
 pub expansion_fault-once : (a b : ExpansionCause) → expansion_fault a ≡ expansion_fault b → a ≡ b
 expansion_fault-once a b e = let h : Some a ≡ Some b = sym (expansion_in-told a) ∙ ap expansion_in e ∙ expansion_in-told b in cc

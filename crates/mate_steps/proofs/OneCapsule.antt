@@ -50,14 +50,7 @@ fault_in (refusal.TooLong len) = verify.TooLong len
 fault_in-refusal_of : (f : VerifyFault) → fault_in (refusal_of f) ≡ f
 unfolding fault_in
 fault_in-refusal_of (verify.Decode place) = refl
-fault_in-refusal_of (verify.BadTarget place) = refl
-fault_in-refusal_of (verify.BackJump place) = refl
-fault_in-refusal_of (verify.Underflow place) = refl
-fault_in-refusal_of (verify.Overflow place) = refl
-fault_in-refusal_of (verify.DepthDiffers place) = refl
-fault_in-refusal_of (verify.BadIndex place) = refl
-fault_in-refusal_of verify.NoHalt = refl
-fault_in-refusal_of (verify.TooLong len) = refl
+fault_in-refusal_of _ = refl
 
 refused_once : (shape : Shape) (bytes : List ℕ) (f g : VerifyFault) → bytes_verification shape bytes ≡ Err (refusal_of f) → bytes_verification shape bytes ≡ Err (refusal_of g) → f ≡ g
 refused_once shape bytes f g p q =

@@ -42,17 +42,10 @@ data Unexpanded (source : ProcedureSource) (fault : ProcFault) : Type 0 where
   nested : (depth : ℕ) → IsTooNested source depth → fault ≡ TooNested depth → Unexpanded source fault
 
 unexpanded : (source : ProcedureSource) (fault : ProcFault) → Expands source (Err fault) → (fault ≡ NoMemory → ⊥) → Unexpanded source fault
-unexpanded source (BadByte place) h told = absurd h
-unexpanded source (BigLiteral place) h told = absurd h
-unexpanded source (Unexpected place) h told = absurd h
-unexpanded source (TooDeep place) h told = absurd h
-unexpanded source (NoProc name place) h told = absurd h
-unexpanded source (Params place) h told = absurd h
-unexpanded source (Again name place) h told = absurd h
-unexpanded source (Reserved place) h told = absurd h
 unexpanded source (TooLarge count) h told = large count h refl
 unexpanded source (TooNested depth) h told = nested depth h refl
 unexpanded source NoMemory h told = absurd (told refl)
+unexpanded source _ h told = absurd h
 
 one_extent : (source : ProcedureSource) (f g : ProcFault) → Unexpanded source f → Unexpanded source g → f ≡ g
 one_extent source f g (large m p is) (large n q is') = is ∙ ap TooLarge (p.counts ∙ sym q.counts) ∙ sym is'

@@ -30,10 +30,7 @@ use Rattle.node_callers.specs.Told.{InstallsThis, BeginsWithEvent}
 
 none_cut : (p : Phase) → IsTrue (is_live (if is_live p then Over else p)) → ⊥
 none_cut Unposted live = cc
-none_cut Queued live = cc
-none_cut Ready live = cc
-none_cut (Waiting f args) live = cc
-none_cut Over live = cc
+none_cut _ live = cc
 
 -- ---- bytes are one capsule
 

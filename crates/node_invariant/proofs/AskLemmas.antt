@@ -40,20 +40,14 @@ use Rattle.mate_code.proofs.RunLemmas.{fetch-Any}
 
 -- the instruction calls the function
 abbrev pub IsCallOf : Use → FunId → Type 0
-IsCallOf Nothing f = ⊥
-IsCallOf (Gets r) f = ⊥
-IsCallOf (Changes r) f = ⊥
 IsCallOf (Calls g) f = g ≡ f
 IsCallOf (Sends g b) f = g ≡ f
+IsCallOf _ f = ⊥
 
 -- an effect that asks is one of a call
 abbrev AsksBy : Use → Effect → Type 0
-AsksBy u (Goes p) = Unit {0}
-AsksBy u (Writes p cell) = Unit {0}
 AsksBy u (Asks p f args) = IsCallOf u f
-AsksBy u Halts = Unit {0}
-AsksBy u (Faults kind) = Unit {0}
-AsksBy u Sticks = Unit {0}
+AsksBy u _ = Unit {0}
 
 on_top-AsksBy : (u : Use) (stack : List ℤ) (go : ℤ → List ℤ → Effect) → ((x : ℤ) (rest : List ℤ) → AsksBy u (go x rest)) → AsksBy u (on_top stack go)
 on_top-AsksBy u [] go each = tt
@@ -90,12 +84,7 @@ asks-AsksBy u n f p calls = by (nat_lt (length p.stack) n) where
   by false = calls
 
 does-AsksBy : (shape : Shape) (i : Instr) (p : Private) (cell : List ℤ) → AsksBy (use_of i) (does shape i p cell)
-does-AsksBy shape Halt p cell = tt
-does-AsksBy shape (PushW x) p cell = tt
-does-AsksBy shape (PushB n) p cell = tt
-does-AsksBy shape (GetS v) p cell = tt
 does-AsksBy shape (SetS v) p cell = on_top-AsksBy (use_of (SetS v)) p.stack (λ x rest. Writes (with_stack rest p) (x ∷ [])) (λ x rest. tt)
-does-AsksBy shape (GetP n) p cell = tt
 does-AsksBy shape (SetP n) p cell = on_top-AsksBy Nothing p.stack (λ x rest. Goes (record p { stack = rest; privates = slice_set p.privates n x })) (λ x rest. tt)
 does-AsksBy shape Add p cell = two-AsksBy Nothing sum_of p
 does-AsksBy shape Sub p cell = two-AsksBy Nothing difference_of p
@@ -113,21 +102,18 @@ does-AsksBy shape Gt p cell = two-AsksBy Nothing gt_of p
 does-AsksBy shape Le p cell = two-AsksBy Nothing le_of p
 does-AsksBy shape Ge p cell = two-AsksBy Nothing ge_of p
 does-AsksBy shape (Jz target) p cell = on_top-AsksBy Nothing p.stack (λ x rest. Goes (at_zero x target (with_stack rest p))) (λ x rest. tt)
-does-AsksBy shape (Jmp target) p cell = tt
 does-AsksBy shape (Back target) p cell = pays-AsksBy Nothing p.turns target p
 does-AsksBy shape Drop p cell = on_top-AsksBy Nothing p.stack (λ x rest. Goes (with_stack rest p)) (λ x rest. tt)
 does-AsksBy shape MsgGet p cell = one-AsksBy Nothing (item_of p.msg) p
-does-AsksBy shape MsgSize p cell = tt
 does-AsksBy shape (BGet b) p cell = one-AsksBy (use_of (BGet b)) (item_of cell) p
 does-AsksBy shape (BSet b) p cell =
     on_top-AsksBy (use_of (BSet b)) p.stack (λ x below. on_top below (λ index rest. changes (item_set cell index x) (with_stack rest p)))
     (λ x below. on_top-AsksBy (use_of (BSet b)) below (λ index rest. changes (item_set cell index x) (with_stack rest p)) (λ index rest. changes-AsksBy (use_of (BSet b)) (item_set cell index x) (with_stack rest p)))
 does-AsksBy shape (BAdd b) p cell = on_top-AsksBy (use_of (BAdd b)) p.stack (λ x rest. changes (appended cell x) (with_stack rest p)) (λ x rest. changes-AsksBy (use_of (BAdd b)) (appended cell x) (with_stack rest p))
 does-AsksBy shape (BTake b) p cell = takes-AsksBy (use_of (BTake b)) (last_of cell) (without_last cell) p
-does-AsksBy shape (BSize b) p cell = tt
-does-AsksBy shape (BClear b) p cell = tt
 does-AsksBy shape (Fun f) p cell = asks-AsksBy (Calls f) (args_of shape f) f p refl
 does-AsksBy shape (FunBuf f b) p cell = refl
+does-AsksBy shape _ p cell = tt
 
 -- ---- a run that wants a call
 
@@ -147,9 +133,7 @@ own_after-wants : (u : Use) (e : Effect) (o : Own) (f : FunId) (args : ArrayVec 
 own_after-wants u (Goes p) o f args by going wants = let both : Over (end.Wants f args) ≡ Going = sym wants ∙ going in cc
 own_after-wants u (Writes p cell) o f args by going wants = let both : Over (end.Wants f args) ≡ Going = sym wants ∙ going in cc
 own_after-wants u (Asks p g given) o f args by going wants = asked-wants u p g given o.left o f args by going wants
-own_after-wants u Halts o f args by going wants = cc
-own_after-wants u (Faults kind) o f args by going wants = cc
-own_after-wants u Sticks o f args by going wants = cc
+own_after-wants u _ o f args by going wants = cc
 
 step-wants : (shape : Shape) (code : Code) (r : Run) (f : FunId) (args : ArrayVec ℤ) → (r.own.status ≡ Over (end.Wants f args) → CallsOf code f)
     → (step shape code r).own.status ≡ Over (end.Wants f args) → CallsOf code f
@@ -187,9 +171,6 @@ asked-by shape code store msg answers turns f args wants =
 -- ---- the device of the call
 
 call-writes : (shape : Shape) (u : Use) (f : FunId) (x : FunShape) (d : DeviceId) → IsCallOf u f → function_shape shape f ≡ Some x → x.device ≡ Some d → writes_in shape u (Device d) ≡ true
-call-writes shape Nothing f x d calls is speaks = absurd calls
-call-writes shape (Gets r) f x d calls is speaks = absurd calls
-call-writes shape (Changes r) f x d calls is speaks = absurd calls
 call-writes shape (Calls g) f x d calls is speaks =
     ap (λ (h : FunId). is_device_of (function_shape shape h) (Device d)) calls
     ∙ ap (λ (o : Option FunShape). is_device_of o (Device d)) is
@@ -198,6 +179,7 @@ call-writes shape (Sends g b) f x d calls is speaks =
     ap (λ (h : FunId). is_device_of (function_shape shape h) (Device d)) calls
     ∙ ap (λ (o : Option FunShape). is_device_of o (Device d)) is
     ∙ ap (λ (o : Option DeviceId). is_same_device o (Device d)) speaks ∙ is_same-refl (Device d)
+call-writes shape _ f x d calls is speaks = absurd calls
 
 -- code that calls a function of a device writes the device
 pub CallsOf-writes : (shape : Shape) (code : Code) (f : FunId) (x : FunShape) (d : DeviceId) → CallsOf code f → function_shape shape f ≡ Some x → x.device ≡ Some d

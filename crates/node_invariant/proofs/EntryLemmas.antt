@@ -74,11 +74,9 @@ IsCompatible-same a b u w au bw apart = record { apart = λ q at. by q at } wher
   by q (inr y) = apart.apart q (inr (bw.writes q ∙ y.0, uses-same a u q au y.1))
 
 pub holds-by_started : (p : Phase) (s : Seat) (l : LockSet) → is_started p ≡ true → (standing p s l).holds ≡ Some l
-holds-by_started Unposted s l is = cc
-holds-by_started Queued s l is = cc
 holds-by_started Ready s l is = refl
 holds-by_started (Waiting f args) s l is = refl
-holds-by_started Gone s l is = cc
+holds-by_started _ s l is = cc
 
 -- ---- a start
 

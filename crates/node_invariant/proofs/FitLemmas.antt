@@ -44,25 +44,16 @@ no_seat held r c a right e = let P : Option Seat → Type 0 = λ o. IsRightWith 
 
 -- the phase of an invocation whose context stands so
 pub queued-by_waits : (p : Phase) (s : Seat) (l set : LockSet) → (standing p s l).waits ≡ Some set → p ≡ Queued
-queued-by_waits Unposted s l set e = cc
 queued-by_waits Queued s l set e = refl
-queued-by_waits Ready s l set e = cc
-queued-by_waits (Waiting f args) s l set e = cc
-queued-by_waits Over s l set e = cc
+queued-by_waits _ s l set e = cc
 
 pub ready-by_ready : (p : Phase) (s : Seat) (l : LockSet) → (standing p s l).ready ≡ true → p ≡ Ready
-ready-by_ready Unposted s l e = cc
-ready-by_ready Queued s l e = cc
 ready-by_ready Ready s l e = refl
-ready-by_ready (Waiting f args) s l e = cc
-ready-by_ready Over s l e = cc
+ready-by_ready _ s l e = cc
 
 pub waiting-by_call : (p : Phase) (s : Seat) (l : LockSet) (call : Asked) → (standing p s l).call ≡ Some call → p ≡ Waiting call.0 call.1
-waiting-by_call Unposted s l call e = cc
-waiting-by_call Queued s l call e = cc
-waiting-by_call Ready s l call e = cc
 waiting-by_call (Waiting f args) s l call e = let g : (f, args) ≡ call = cc in ap (λ (c : Asked). Waiting c.0 c.1) g
-waiting-by_call Over s l call e = cc
+waiting-by_call _ s l call e = cc
 
 -- the seat of a context that isn't idle, by one of its parts
 pub seat-by : {A : Type 0} (part : At → Option A) (x : A) (held : Programs) (r : NodeState) (c : ContextId) (a : At) → part idle ≡ None → part a ≡ Some x → IsRightContext held r c a → HasSeat held r c a

@@ -148,15 +148,13 @@ zero-step m r (Posted n h c payload) follows right =
     let number = follows.0 in
     let other : 0 ≢ n = omega arith in
     record { unposted = ap (λ (i : Invocation). i.phase) (j.others 0 other) ∙ right.unposted }
-zero-step m r (Dropped h cause) follows right = right
 zero-step m r (Started n) follows right = zero-moves r (next_state m r (Started n)) n Ready (started-Moves m r n) (isnt-unposted (r.invocations n).phase (ap is_live follows)) right
 zero-step m r (Asked n f args) follows right = zero-moves r (next_state m r (Asked n f args)) n (Waiting f args) (asked-Moves m r n f args) (isnt-unposted (r.invocations n).phase (ap is_live follows)) right
 zero-step m r (Answered n value) follows right = zero-moves r (next_state m r (Answered n value)) n Ready (answered-Moves m r n value) (isnt-unposted (r.invocations n).phase (ap is_live follows.waits)) right
 zero-step m r (Ended n how) follows right = zero-moves r (next_state m r (Ended n how)) n Gone (ended-Moves m r n how) (isnt-unposted (r.invocations n).phase (ap is_live follows.0)) right
 zero-step m r (Installed p) follows right = zero-cuts r (next_state m r (Installed p)) (record { posts = refl; each = λ n. refl }) right
 zero-step m r Reset follows right = zero-cuts r (next_state m r Reset) (record { posts = refl; each = λ n. refl }) right
-zero-step m r (Seen store) follows right = right
-zero-step m r (Void cause) follows right = right
+zero-step m r _ follows right = right
 
 zero-after : (m : Machine) (r : NodeState) (es : List TimedEntry) → AtEachEntry (MayFollow m) m r es → HasNoZero r → HasNoZero (state_after_all m r es)
 zero-after m r [] follow right = right

@@ -17,10 +17,7 @@ use Rattle.node_invariant.proofs.TotalLemmas.{total-less}
 
 owed-standing : (p : Phase) (t : Seat) (l : LockSet) → owed (standing p t l) ≤ 2
 owed-standing Unposted t l = omega arith
-owed-standing Queued t l = omega arith
-owed-standing Ready t l = omega arith
-owed-standing (Waiting f args) t l = omega arith
-owed-standing Over t l = omega arith
+owed-standing _ t l = omega arith
 
 owed-few : (held : Programs) (r : NodeState) (c : ContextId) (a : At) → IsRightContext held r c a → owed a ≤ 2
 owed-few held r c a right = by (idle_or_seat held r c a right) where

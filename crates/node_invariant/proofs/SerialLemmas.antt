@@ -45,13 +45,9 @@ record IsSpent (before now : Own) : Type 0 where
   calls : now.calls ≡ before.calls
 
 own_after-spent : (e : Effect) (o : Own) → o.left ≡ [] → IsSpent o (own_after_effect e o)
-own_after-spent (Goes p) o none = record { left = none; calls = refl }
-own_after-spent (WritesCell p cell) o none = record { left = none; calls = refl }
 own_after-spent (Asks p f args) o none =
     let P : List ℤ → Type 0 = λ xs. IsSpent o (asked p f args xs o) in subst P (sym none) record { left = none; calls = refl }
-own_after-spent Halts o none = record { left = none; calls = refl }
-own_after-spent (Faults kind) o none = record { left = none; calls = refl }
-own_after-spent Sticks o none = record { left = none; calls = refl }
+own_after-spent _ o none = record { left = none; calls = refl }
 
 step-spent : (shape : Shape) (code : Code) (r : Run) → r.own.left ≡ [] → IsSpent r.own (step shape code r).own
 step-spent shape code r none = by r.own.status where
@@ -137,18 +133,14 @@ pub record IsRunning (d : Description) (r : NodeState) (contexts : Contexts) (he
   pub own : IsOwnRun d (r.invocations n) seat r.serial heap
 
 started-own : (p : Phase) (d : Description) (i : Invocation) (s : Seat) (serial heap : Store) → is_started p ≡ true → RunsOwn d p i s serial heap → IsOwnRun d i s serial heap
-started-own Unposted d i s serial heap is own = cc
-started-own Queued d i s serial heap is own = cc
 started-own Ready d i s serial heap is own = own
 started-own (Waiting f args) d i s serial heap is own = own
-started-own Gone d i s serial heap is own = cc
+started-own _ d i s serial heap is own = cc
 
 pub started-live : (p : Phase) → is_started p ≡ true → is_live p ≡ true
-started-live Unposted is = cc
-started-live Queued is = cc
 started-live Ready is = refl
 started-live (Waiting f args) is = refl
-started-live Gone is = cc
+started-live _ is = cc
 
 module _ (d : Description) (r : NodeState) (contexts : Contexts) (held : Programs) (heap : Store) (fits : ContextsMatch held r contexts) (programs : (h : _) (x : Held) → held h ≡ Some x → IsHeld d x) (agrees : Agrees d r contexts heap) where
   pub verified-seat : (c : ContextId) (i : Invocation) (s : Seat) (a : At) (posts : ℕ) → IsSeated held posts i c s a → HasVerified d i

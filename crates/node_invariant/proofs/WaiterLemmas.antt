@@ -48,11 +48,9 @@ Conflicts-same a b u w au bw c = record { resource = c.resource; at = by c.at } 
 -- ---- phases by what is held
 
 started-by_holds : (p : Phase) (s : Seat) (l set : LockSet) → (standing p s l).holds ≡ Some set → is_started p ≡ true
-started-by_holds Unposted s l set e = cc
-started-by_holds Queued s l set e = cc
 started-by_holds Ready s l set e = refl
 started-by_holds (Waiting f args) s l set e = refl
-started-by_holds Gone s l set e = cc
+started-by_holds _ s l set e = cc
 
 some-same : (l set : LockSet) (o : Option LockSet) → o ≡ Some l → o ≡ Some set → l ≡ set
 some-same l set o e f = let g : Some l ≡ Some set = sym e ∙ f in cc

@@ -35,18 +35,10 @@ module _ (v : OpenView) (kept : Log) (is : IsKept v kept) where
   entries-kept from = sym (drop-drop from v.gone.entries v.all.entries) ∙ ap (drop from) is.entries ∙ drop-map moved from kept.entries
 
   told-same : (e : Entry) → journal_entry v.all (entry_behind v.gone.images v.gone.stores e) ≡ journal_entry kept e
-  told-same (entry.Post n h c payload) = refl
-  told-same (entry.Dropped h cause) = refl
-  told-same (entry.Start n) = refl
-  told-same (entry.Ask n f args) = refl
-  told-same (entry.Answer n value) = refl
-  told-same (entry.Halt n) = refl
-  told-same (entry.Fault n kind) = refl
   told-same (entry.Install h version image) =
       ap (λ (x : _). Installed (record { handler = h; version = version; image = x })) (sym (get_or-drop v.gone.images v.all.images image no_image) ∙ ap (λ (xs : _). get_or xs image no_image) is.images)
-  told-same entry.Reset = refl
   told-same (entry.Seen store) = ap Seen (sym (get_or-drop v.gone.stores v.all.stores store no_store) ∙ ap (λ (xs : _). get_or xs store no_store) is.stores)
-  told-same (entry.Void cause) = refl
+  told-same _ = refl
 
   told-all : (es : List Stamped) → told_by_entries kept es ≡ told_by_entries v.all (map moved es)
   told-all [] = refl
@@ -57,16 +49,7 @@ module _ (v : OpenView) (kept : Log) (is : IsKept v kept) where
 
   in-range : (d : Description) (e : Entry) → IsEntryInRange d (entry_behind v.gone.images v.gone.stores e) → IsEntryInRange d e
   in-range d (entry.Post n h c payload) r = r
-  in-range d (entry.Dropped h cause) r = r
-  in-range d (entry.Start n) r = r
-  in-range d (entry.Ask n f args) r = r
-  in-range d (entry.Answer n value) r = r
-  in-range d (entry.Halt n) r = r
-  in-range d (entry.Fault n kind) r = r
-  in-range d (entry.Install h version image) r = r
-  in-range d entry.Reset r = r
-  in-range d (entry.Seen store) r = r
-  in-range d (entry.Void cause) r = r
+  in-range d _ r = r
 
   pub range-kept : (d : Description) (from : ℕ) → All (λ (e : Stamped). IsEntryInRange d e.entry) v.all.entries → All (λ (e : Stamped). IsEntryInRange d e.entry) (drop from kept.entries)
   range-kept d from all i x within =

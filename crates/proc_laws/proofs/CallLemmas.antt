@@ -51,15 +51,10 @@ answered_keeps f args (a ∷ left) s = refl
 
 mutual
   value_keeps : (e : Expression) (s : ScriptState) → privates_after (value_of e s) ≡ s.privates
-  value_keeps (Num n) s = refl
-  value_keeps (Shared v) s = refl
-  value_keeps (Private i) s = refl
   value_keeps (Item p e) s =
       then_keeps (value_of e s) (λ i s. value_or_fault (item_of (buffer_at s.store p.0) i) s) s.privates (value_keeps e s) (λ i s. fault_keeps (item_of (buffer_at s.store p.0) i) s)
-  value_keeps (Size p) s = refl
   value_keeps (MsgItem e) s =
       then_keeps (value_of e s) (λ i s. value_or_fault (item_of s.msg i) s) s.privates (value_keeps e s) (λ i s. fault_keeps (item_of s.msg i) s)
-  value_keeps MsgSize s = refl
   value_keeps (Call f args) s =
       then_keeps (values_of args s) (λ values s. next_answer f (first_ten values) s) s.privates (values_keep args s) (λ values s. answered_keeps f (first_ten values) s.left s)
   value_keeps (SendBuf f p) s = answered_keeps f (payload (buffer_at s.store p.0)) s.left s
@@ -68,6 +63,7 @@ mutual
   value_keeps (Two o e d) s =
       then_keeps (value_of e s) (λ a s. then_do (value_of d s) (λ b s. value_or_fault (applied o a b) s)) s.privates (value_keeps e s)
       (λ a s. then_keeps (value_of d s) (λ b s. value_or_fault (applied o a b) s) s.privates (value_keeps d s) (λ b s. fault_keeps (applied o a b) s))
+  value_keeps _ s = refl
 
   values_keep : (es : Arguments) (s : ScriptState) → privates_after (values_of es s) ≡ s.privates
   values_keep no_arguments s = refl

@@ -101,10 +101,8 @@ none_found (Some s) e = absurd (cc)
 
 -- a symbol that a declaration made: a private variable has the next number, and there are at most eight
 abbrev pub MadeRight : ℕ → Result Symbol CheckFault → Type 0
-MadeRight count (Err e) = ⊤
-MadeRight count (Ok (Buffer p)) = ⊤
-MadeRight count (Ok (Variable (var.Shared v))) = ⊤
 MadeRight count (Ok (Variable (var.Private i))) = (i ≡ count) × (count < 8)
+MadeRight count _ = ⊤
 
 made_right : (n : ScriptNames) (kind : DeclKind) (name : List ℕ) → MadeRight (private_count n.declared) (made n kind name)
 made_right n of.Shared name = by (listed n.machine.shared.items name) where

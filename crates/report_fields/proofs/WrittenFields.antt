@@ -208,10 +208,7 @@ reads-drop drop.AllBusy = record { told = refl; written = refl }
 pub reads-fault : (kind : FaultKind) → Reads fault_of (fault_word kind) kind
 unfolding fault_of
 reads-fault fault.DivZero = record { told = refl; written = refl }
-reads-fault fault.Index = record { told = refl; written = refl }
-reads-fault fault.BufferFull = record { told = refl; written = refl }
-reads-fault fault.BufferEmpty = record { told = refl; written = refl }
-reads-fault fault.Overrun = record { told = refl; written = refl }
+reads-fault _ = record { told = refl; written = refl }
 
 -- ---- bytes
 

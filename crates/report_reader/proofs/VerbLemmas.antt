@@ -9,22 +9,7 @@ use Rattle.report_reader.specs.Verbs.{verb_word, verbs, likely, verb_of}
 pub verb_of-word : (v : Verb) → verb_of (verb_word v) ≡ Some v
 unfolding verb_of
 verb_of-word verb.Post = refl
-verb_of-word verb.Drop = refl
-verb_of-word verb.Start = refl
-verb_of-word verb.Ask = refl
-verb_of-word verb.Answer = refl
-verb_of-word verb.Halt = refl
-verb_of-word verb.Fault = refl
-verb_of-word verb.Install = refl
-verb_of-word verb.Reset = refl
-verb_of-word verb.Seen = refl
-verb_of-word verb.Void = refl
-verb_of-word verb.Interval = refl
-verb_of-word verb.Keep = refl
-verb_of-word verb.Sent = refl
-verb_of-word verb.Lost = refl
-verb_of-word verb.Got = refl
-verb_of-word verb.Noise = refl
+verb_of-word _ = refl
 
 pub word-verb_of : (word : List ℕ) (v : Verb) → verb_of word ≡ Some v → word ≡ verb_word v
 unfolding verb_of
@@ -33,41 +18,11 @@ word-verb_of word v h = named_among-word verb_word verbs word v h
 -- each verb is told by two letters of its word
 pub likely-word : (v : Verb) → likely (slice_index_or (verb_word v) 0 0) (slice_index_or (verb_word v) 2 0) ≡ v
 likely-word verb.Post = refl
-likely-word verb.Drop = refl
-likely-word verb.Start = refl
-likely-word verb.Ask = refl
-likely-word verb.Answer = refl
-likely-word verb.Halt = refl
-likely-word verb.Fault = refl
-likely-word verb.Install = refl
-likely-word verb.Reset = refl
-likely-word verb.Seen = refl
-likely-word verb.Void = refl
-likely-word verb.Interval = refl
-likely-word verb.Keep = refl
-likely-word verb.Sent = refl
-likely-word verb.Lost = refl
-likely-word verb.Got = refl
-likely-word verb.Noise = refl
+likely-word _ = refl
 
 three-letters : (v : Verb) → 3 ≤ length (verb_word v)
 three-letters verb.Post = omega arith
-three-letters verb.Drop = omega arith
-three-letters verb.Start = omega arith
-three-letters verb.Ask = omega arith
-three-letters verb.Answer = omega arith
-three-letters verb.Halt = omega arith
-three-letters verb.Fault = omega arith
-three-letters verb.Install = omega arith
-three-letters verb.Reset = omega arith
-three-letters verb.Seen = omega arith
-three-letters verb.Void = omega arith
-three-letters verb.Interval = omega arith
-three-letters verb.Keep = omega arith
-three-letters verb.Sent = omega arith
-three-letters verb.Lost = omega arith
-three-letters verb.Got = omega arith
-three-letters verb.Noise = omega arith
+three-letters _ = omega arith
 
 -- a word that is no verb's
 no-verb : (word : List ℕ) → ((v : Verb) → word ≡ verb_word v → ⊥) → None ≡ verb_of word

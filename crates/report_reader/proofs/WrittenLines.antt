@@ -259,22 +259,7 @@ spells d (told.Shown s) right ranges = shown d s right ranges
 
 verb-written : (v : Verb) → is_written (verb_word v) ≡ true
 verb-written verb.Post = refl
-verb-written verb.Drop = refl
-verb-written verb.Start = refl
-verb-written verb.Ask = refl
-verb-written verb.Answer = refl
-verb-written verb.Halt = refl
-verb-written verb.Fault = refl
-verb-written verb.Install = refl
-verb-written verb.Reset = refl
-verb-written verb.Seen = refl
-verb-written verb.Void = refl
-verb-written verb.Interval = refl
-verb-written verb.Keep = refl
-verb-written verb.Sent = refl
-verb-written verb.Lost = refl
-verb-written verb.Got = refl
-verb-written verb.Noise = refl
+verb-written _ = refl
 
 told_of-spelled : (d : Description) (t : Told) (s : Spells d t) → told_of d (verb_word s.verb ∷ s.words) ≡ Some t
 unfolding told_of

@@ -183,35 +183,17 @@ new-event a at (told.Shown s) =
 aired-event : (at : Stamp) (node : ℕ) (t : Told) → All (λ (a : Aired). a.stamp.event ≡ at.event) (aired_by at node t)
 aired-event at node (told.OnAir x) =
     All-cons (λ (a : Aired). a.stamp.event ≡ at.event) (record { stamp = at; node = node; air = x }) [] refl (All-nil (λ (a : Aired). a.stamp.event ≡ at.event))
-aired-event at node (told.Made e) = All-nil (λ (a : Aired). a.stamp.event ≡ at.event)
-aired-event at node (told.Installed h version image) = All-nil (λ (a : Aired). a.stamp.event ≡ at.event)
-aired-event at node (told.Shown s) = All-nil (λ (a : Aired). a.stamp.event ≡ at.event)
+aired-event at node _ = All-nil (λ (a : Aired). a.stamp.event ≡ at.event)
 
 named-more : (a b : Log) (e : Entry) → length a.images ≤ length b.images → length a.stores ≤ length b.stores → IsNamed a e → IsNamed b e
 named-more a b (entry.Install h version image) i s n = omega (arith, i, n)
 named-more a b (entry.Seen store) i s n = omega (arith, s, n)
-named-more a b (entry.Post n h c payload) i s x = tt
-named-more a b (entry.Dropped h cause) i s x = tt
-named-more a b (entry.Start n) i s x = tt
-named-more a b (entry.Ask n f args) i s x = tt
-named-more a b (entry.Answer n v) i s x = tt
-named-more a b (entry.Halt n) i s x = tt
-named-more a b (entry.Fault n kind) i s x = tt
-named-more a b entry.Reset i s x = tt
-named-more a b (entry.Void cause) i s x = tt
+named-more a b _ i s x = tt
 
 right-named : (d : Description) (l : Log) (e : Entry) → IsRightEntry d e → IsNamed l e
 right-named d l (entry.Install h version image) r = absurd r
 right-named d l (entry.Seen store) r = absurd r
-right-named d l (entry.Post n h c payload) r = tt
-right-named d l (entry.Dropped h cause) r = tt
-right-named d l (entry.Start n) r = tt
-right-named d l (entry.Ask n f args) r = tt
-right-named d l (entry.Answer n v) r = tt
-right-named d l (entry.Halt n) r = tt
-right-named d l (entry.Fault n kind) r = tt
-right-named d l entry.Reset r = tt
-right-named d l (entry.Void cause) r = tt
+right-named d l _ r = tt
 
 AllNamed : Log → Type 0
 AllNamed l = All (λ (e : Stamped). IsNamed l e.entry) l.entries
@@ -304,9 +286,7 @@ entries-upto d ls l k s behind =
 
 air_first-told : (t : Told) (at : Stamp) (node : ℕ) (logs : List Log) → (is_on_air t ≡ true → All (IsBefore at.event) logs) → (aired_by at node t ≡ []) ⊎ All (IsBefore at.event) logs
 air_first-told (told.OnAir a) at node logs h = inr (h refl)
-air_first-told (told.Made e) at node logs h = inl refl
-air_first-told (told.Installed g version image) at node logs h = inl refl
-air_first-told (told.Shown s) at node logs h = inl refl
+air_first-told _ at node logs h = inl refl
 
 adds-line : (d : Description) (ls : List Line) (l : Line) (e : LastLine) → All (IsSound d) ls → All (λ (m : Line). StandsBehind m l) ls → l.node < e.nodes
     → AddsPiece (report_of ls e) (report_of (ls ++ l ∷ []) e) (aired_of l) (log_with_line (log_of l.node ls) l.stamp l.told) (length (log_of l.node ls).entries) l.node

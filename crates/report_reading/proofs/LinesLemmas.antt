@@ -303,16 +303,7 @@ log-of_lines r k n d h rises numbered all =
 
 told_by_entry-off : (l : Log) (at : Stamp) (node : ℕ) (x : Entry) → Rattle.report_reading.specs.Parts.aired_by at node (told_by_entry l x) ≡ []
 told_by_entry-off l at node (entry.Post n h c payload) = refl
-told_by_entry-off l at node (entry.Dropped h cause) = refl
-told_by_entry-off l at node (entry.Start n) = refl
-told_by_entry-off l at node (entry.Ask n f args) = refl
-told_by_entry-off l at node (entry.Answer n v) = refl
-told_by_entry-off l at node (entry.Halt n) = refl
-told_by_entry-off l at node (entry.Fault n kind) = refl
-told_by_entry-off l at node (entry.Install h version image) = refl
-told_by_entry-off l at node entry.Reset = refl
-told_by_entry-off l at node (entry.Seen store) = refl
-told_by_entry-off l at node (entry.Void cause) = refl
+told_by_entry-off l at node _ = refl
 
 air-entries : (l : Log) (node : ℕ) (es : List Stamped) → air_told (map (line_of_entry l node) es) ≡ []
 air-entries l node [] = refl

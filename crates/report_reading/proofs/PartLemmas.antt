@@ -43,16 +43,12 @@ air_told-push ls l = flat_map-append aired_of ls (l ∷ []) ∙ ap (λ (xs : _).
 -- ---- logs stay short
 
 more_images : (l : Log) (at : Stamp) (t : Told) → length (log_with_line l at t).images ≤ suc (length l.images)
-more_images l at (told.OnAir a) = omega arith
-more_images l at (told.Made e) = omega arith
 more_images l at (told.Installed h version image) = let n = length-append l.images (image ∷ []) in omega (arith, n)
-more_images l at (told.Shown s) = omega arith
+more_images l at _ = omega arith
 
 more_stores : (l : Log) (at : Stamp) (t : Told) → length (log_with_line l at t).stores ≤ suc (length l.stores)
-more_stores l at (told.OnAir a) = omega arith
-more_stores l at (told.Made e) = omega arith
-more_stores l at (told.Installed h version image) = omega arith
 more_stores l at (told.Shown s) = let n = length-append l.stores (s ∷ []) in omega (arith, n)
+more_stores l at _ = omega arith
 
 record IsShort (l : Log) (i s n : ℕ) : Type 0 where
   images : length l.images ≤ i + n
@@ -176,24 +172,17 @@ in_range-below n (air.Got k from) right h = h
 in_range-below n (air.Noise bytes) right h = right
 
 below-in_range : (n : ℕ) (a : Air) → 0 < n → IsAirInRange n a → node_in_air a < n
-below-in_range n (air.Interval length) some h = some
-below-in_range n air.Keep some h = some
-below-in_range n (air.Sent k bytes) some h = some
 below-in_range n (air.Lost k to) some h = h
 below-in_range n (air.Got k from) some h = h
-below-in_range n (air.Noise bytes) some h = some
+below-in_range n _ some h = some
 
 told-below : (d : Description) (n : ℕ) (t : Told) → IsRightTold d t → node_named t < n → IsToldBelow n t
 told-below d n (told.OnAir a) right h = in_range-below n a right h
-told-below d n (told.Made e) right h = tt
-told-below d n (told.Installed g version image) right h = tt
-told-below d n (told.Shown s) right h = tt
+told-below d n _ right h = tt
 
 below-told : (n : ℕ) (t : Told) → 0 < n → IsToldBelow n t → node_named t < n
 below-told n (told.OnAir a) some h = below-in_range n a some h
-below-told n (told.Made e) some h = some
-below-told n (told.Installed g version image) some h = some
-below-told n (told.Shown s) some h = some
+below-told n _ some h = some
 
 line-below : (d : Description) (n : ℕ) (l : Line) → IsSound d l → nodes_in l ≤ n → IsLineBelow n l
 line-below d n l sound h = record { node = omega (arith, h); told = told-below d n l.told sound.right.told (omega (arith, h)) }

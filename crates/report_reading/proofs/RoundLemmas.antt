@@ -49,15 +49,7 @@ named-of : (l : Log) (x : Entry) → All (λ (i : ℕ). i < length l.images) (Ra
     → All (λ (i : ℕ). i < length l.stores) (Rattle.std.specs.Prelude.option_to_list (store_named x)) → IsNamed l x
 named-of l (entry.Install h version image) i s = All-head (λ (k : ℕ). k < length l.images) image [] i
 named-of l (entry.Seen store) i s = All-head (λ (k : ℕ). k < length l.stores) store [] s
-named-of l (entry.Post n h c payload) i s = tt
-named-of l (entry.Dropped h cause) i s = tt
-named-of l (entry.Start n) i s = tt
-named-of l (entry.Ask n f args) i s = tt
-named-of l (entry.Answer n v) i s = tt
-named-of l (entry.Halt n) i s = tt
-named-of l (entry.Fault n kind) i s = tt
-named-of l entry.Reset i s = tt
-named-of l (entry.Void cause) i s = tt
+named-of l _ i s = tt
 
 named-log : (l : Log) → NumbersInOrder l → All (λ (e : Stamped). IsNamed l e.entry) l.entries
 named-log l n = λ k x q. named-of l (get_or l.entries k x).entry (named-each image_named l.entries (length l.images) n.images k x q) (named-each store_named l.entries (length l.stores) n.stores k x q)
@@ -74,15 +66,7 @@ told-text d l (entry.Install h version image) n =
     ap (λ (o : Option (ArrayVec ℕ)). codes " install" ++ word (handler_name d h) ++ number version ++ word (image_word (image_text o))) (get-some l.images image (record { items = [] }) n)
 told-text d l (entry.Seen store) n =
     ap (λ (o : Option Store). codes " seen" ++ seen_words d o) (get-some l.stores store (record { shared = record { items = [] }; buffers = record { items = [] } }) n)
-told-text d l (entry.Post n h c payload) x = refl
-told-text d l (entry.Dropped h cause) x = refl
-told-text d l (entry.Start n) x = refl
-told-text d l (entry.Ask n f args) x = refl
-told-text d l (entry.Answer n v) x = refl
-told-text d l (entry.Halt n) x = refl
-told-text d l (entry.Fault n kind) x = refl
-told-text d l entry.Reset x = refl
-told-text d l (entry.Void cause) x = refl
+told-text d l _ x = refl
 
 entries-text : (d : Description) (l : Log) (node : ℕ) (es : List Stamped) → All (λ (e : Stamped). IsNamed l e.entry) es → flat_map (entry_line d l node) es ≡ text_of_lines d (map (line_of_entry l node) es)
 entries-text d l node [] h = refl
@@ -132,26 +116,15 @@ right-told d l (entry.Install h version image) r n full stores = (r, full.full i
 right-told d l (entry.Seen store) r n full stores = stores store (record { shared = record { items = [] }; buffers = record { items = [] } }) n
 right-told d l (entry.Post n h c payload) r x full stores = r
 right-told d l (entry.Dropped h cause) r x full stores = r
-right-told d l (entry.Start n) r x full stores = tt
 right-told d l (entry.Ask n f args) r x full stores = r
-right-told d l (entry.Answer n v) r x full stores = tt
-right-told d l (entry.Halt n) r x full stores = tt
-right-told d l (entry.Fault n kind) r x full stores = tt
-right-told d l entry.Reset r x full stores = tt
-right-told d l (entry.Void cause) r x full stores = tt
+right-told d l _ r x full stores = tt
 
 told-ranges : (l : Log) (x : Entry) → IsNamed l x → HasLogRanges l → HasEntryRanges x → reader.HasToldRanges (told_by_entry l x)
 told-ranges l (entry.Install h version image) n log own = let r = log.images image (record { items = [] }) n in (own, r.0, r.1)
 told-ranges l (entry.Seen store) n log own = log.stores store (record { shared = record { items = [] }; buffers = record { items = [] } }) n
-told-ranges l (entry.Post i h c payload) n log own = own
 told-ranges l (entry.Dropped h cause) n log own = tt
-told-ranges l (entry.Start i) n log own = own
-told-ranges l (entry.Ask i f args) n log own = own
-told-ranges l (entry.Answer i v) n log own = own
-told-ranges l (entry.Halt i) n log own = own
-told-ranges l (entry.Fault i kind) n log own = own
 told-ranges l entry.Reset n log own = tt
-told-ranges l (entry.Void cause) n log own = own
+told-ranges l _ n log own = own
 
 line-sound : (d : Description) (l : Log) (node : ℕ) (e : Stamped) → node < 64 → IsEntryInRange d e.entry → IsNamed l e.entry → HasFullImages l → All (IsStoreOf d) l.stores → HasLogRanges l → HasStampedRanges e
     → IsSound d (line_of_entry l node e)
@@ -209,16 +182,7 @@ lines-sound d r events t ranges =
 
 shown-seen : (l : Log) (x : Entry) → is_some (store_named x) ≡ is_shown (told_by_entry l x)
 shown-seen l (entry.Post n h c payload) = refl
-shown-seen l (entry.Dropped h cause) = refl
-shown-seen l (entry.Start n) = refl
-shown-seen l (entry.Ask n f args) = refl
-shown-seen l (entry.Answer n v) = refl
-shown-seen l (entry.Halt n) = refl
-shown-seen l (entry.Fault n kind) = refl
-shown-seen l (entry.Install h version image) = refl
-shown-seen l entry.Reset = refl
-shown-seen l (entry.Seen store) = refl
-shown-seen l (entry.Void cause) = refl
+shown-seen l _ = refl
 
 abbrev stamped_mark : ℕ → Stamped → Mark
 stamped_mark node e = record { stamp = e.stamp; node = node; is_seen = is_some (store_named e.entry) }
@@ -287,16 +251,7 @@ IsOf event l = l.stamp.event ≡ event
 
 off-air : (l : Log) (x : Entry) → is_on_air (told_by_entry l x) ≡ false
 off-air l (entry.Post n h c payload) = refl
-off-air l (entry.Dropped h cause) = refl
-off-air l (entry.Start n) = refl
-off-air l (entry.Ask n f args) = refl
-off-air l (entry.Answer n v) = refl
-off-air l (entry.Halt n) = refl
-off-air l (entry.Fault n kind) = refl
-off-air l (entry.Install h version image) = refl
-off-air l entry.Reset = refl
-off-air l (entry.Seen store) = refl
-off-air l (entry.Void cause) = refl
+off-air l _ = refl
 
 rise-low : {A : Type 0} (ev : A → ℕ) (low : ℕ) (xs : List A) → EventsRise ev low xs → All (λ (x : A). low ≤ ev x) xs
 rise-low ev low xs r = Rattle.report_text.proofs.EventLemmas.EventsRise-low ev low xs r

@@ -57,28 +57,15 @@ below-push xs y = let n : length (xs ++ y ∷ []) ≡ suc (length xs) = (let m =
 right-range : (d : Description) (e : Entry) → IsRightEntry d e → IsEntryInRange d e
 right-range d (entry.Post n h c payload) r = r
 right-range d (entry.Dropped h cause) r = r
-right-range d (entry.Start n) r = tt
 right-range d (entry.Ask n f args) r = r
-right-range d (entry.Answer n v) r = tt
-right-range d (entry.Halt n) r = tt
-right-range d (entry.Fault n kind) r = tt
 right-range d (entry.Install h version image) r = absurd r
-right-range d entry.Reset r = tt
 right-range d (entry.Seen store) r = absurd r
-right-range d (entry.Void cause) r = tt
+right-range d _ r = tt
 
 pub right-names : (d : Description) (e : Entry) → IsRightEntry d e → (image_named e ≡ None) × (store_named e ≡ None)
-right-names d (entry.Post n h c payload) r = (refl, refl)
-right-names d (entry.Dropped h cause) r = (refl, refl)
-right-names d (entry.Start n) r = (refl, refl)
-right-names d (entry.Ask n f args) r = (refl, refl)
-right-names d (entry.Answer n v) r = (refl, refl)
-right-names d (entry.Halt n) r = (refl, refl)
-right-names d (entry.Fault n kind) r = (refl, refl)
 right-names d (entry.Install h version image) r = absurd r
-right-names d entry.Reset r = (refl, refl)
 right-names d (entry.Seen store) r = absurd r
-right-names d (entry.Void cause) r = (refl, refl)
+right-names d _ r = (refl, refl)
 
 later-upto : (a b : ℕ) (es : List Stamped) → a ≤ b → All (λ (e : Stamped). e.stamp.event ≤ a) es → All (λ (e : Stamped). e.stamp.event ≤ b) es
 later-upto a b es h all = λ k d q. (let x = all k d q in omega (arith, x, h))
@@ -176,9 +163,7 @@ air-told : (n node : ℕ) (at : Stamp) (t : Told) → node < n → IsToldBelow n
 air-told n node at (told.OnAir a) h r =
     let P : Aired → Type 0 = λ (x : Aired). (x.node < n) × IsAirInRange n x.air in
     All-cons P (record { stamp = at; node = node; air = a }) [] (h, r) (All-nil P)
-air-told n node at (told.Made e) h r = All-nil (λ (a : Aired). (a.node < n) × IsAirInRange n a.air)
-air-told n node at (told.Installed g version image) h r = All-nil (λ (a : Aired). (a.node < n) × IsAirInRange n a.air)
-air-told n node at (told.Shown s) h r = All-nil (λ (a : Aired). (a.node < n) × IsAirInRange n a.air)
+air-told n node at _ h r = All-nil (λ (a : Aired). (a.node < n) × IsAirInRange n a.air)
 
 air-range : (n : ℕ) (ls : List Line) → All (IsLineBelow n) ls → All (λ (a : Aired). (a.node < n) × IsAirInRange n a.air) (air_told ls)
 air-range n [] h = All-nil (λ (a : Aired). (a.node < n) × IsAirInRange n a.air)
@@ -206,15 +191,11 @@ lower ev low new (x ∷ xs) r h = (All-head (λ (y : _). new ≤ ev y) x xs h, r
 behind-told : (at : Stamp) (node : ℕ) (l : Line) (t : Told) → is_on_air t ≡ true → t ≡ l.told → at.event ≤ l.stamp.event → (at.event ≡ l.stamp.event → node ≤ l.node)
     → All (IsAirBehind at node) (aired_by l.stamp l.node t)
 behind-told at node l (told.OnAir a) on is h n = All-cons (IsAirBehind at node) (record { stamp = l.stamp; node = l.node; air = a }) [] (record { event = h; node_is = n }) (All-nil (IsAirBehind at node))
-behind-told at node l (told.Made e) on is h n = All-nil (IsAirBehind at node)
-behind-told at node l (told.Installed g version image) on is h n = All-nil (IsAirBehind at node)
-behind-told at node l (told.Shown s) on is h n = All-nil (IsAirBehind at node)
+behind-told at node l _ on is h n = All-nil (IsAirBehind at node)
 
 no_air : (at : Stamp) (node : ℕ) (l : Line) (t : Told) → is_on_air t ≡ false → All (IsAirBehind at node) (aired_by l.stamp l.node t)
 no_air at node l (told.OnAir a) h = absurd cc
-no_air at node l (told.Made e) h = All-nil (IsAirBehind at node)
-no_air at node l (told.Installed g version image) h = All-nil (IsAirBehind at node)
-no_air at node l (told.Shown s) h = All-nil (IsAirBehind at node)
+no_air at node l _ h = All-nil (IsAirBehind at node)
 
 air-behind : (p : Line) (ls : List Line) → is_on_air p.told ≡ true → All (StandsBehind p) ls → All (IsAirBehind p.stamp p.node) (air_told ls)
 air-behind p [] on h = All-nil (IsAirBehind p.stamp p.node)
@@ -232,9 +213,7 @@ air-rises-told l (told.OnAir a) airs is behind r =
       events = (omega arith, lower air_event 0 l.stamp.event airs r.events (λ k d q. (all k d q).event));
       nodes = nodes-cons (record { stamp = l.stamp; node = l.node; air = a }) airs all r.nodes;
     }
-air-rises-told l (told.Made e) airs is behind r = r
-air-rises-told l (told.Installed g version image) airs is behind r = r
-air-rises-told l (told.Shown s) airs is behind r = r
+air-rises-told l _ airs is behind r = r
 
 air-rises : (ls : List Line) → AllPairs StandsBehind ls → IsRising 0 (air_told ls)
 air-rises [] o = record { events = tt; nodes = tt }

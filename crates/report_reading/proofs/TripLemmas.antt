@@ -34,16 +34,7 @@ use Rattle.report_reading.proofs.VerdictLemmas.{one_list, no_bad_line}
 
 told-below : (n : ℕ) (l : Log) (x : Entry) → IsToldBelow n (told_by_entry l x)
 told-below n l (entry.Post i h c payload) = tt
-told-below n l (entry.Dropped h cause) = tt
-told-below n l (entry.Start i) = tt
-told-below n l (entry.Ask i f args) = tt
-told-below n l (entry.Answer i v) = tt
-told-below n l (entry.Halt i) = tt
-told-below n l (entry.Fault i kind) = tt
-told-below n l (entry.Install h version image) = tt
-told-below n l entry.Reset = tt
-told-below n l (entry.Seen store) = tt
-told-below n l (entry.Void cause) = tt
+told-below n l _ = tt
 
 lines-below : (d : Description) (r : Report) (events : List ℕ) → IsTidy d r → All (IsLineBelow (length r.nodes)) (flat_map (lines_at r) events)
 lines-below d r events t =

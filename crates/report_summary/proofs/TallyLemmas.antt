@@ -28,10 +28,7 @@ use Rattle.report_text.specs.Counts.{one_if}
 
 pub no-entries : (k : EntryKind) → entries_counted k (record { posts = 0; drops = 0; halts = 0; faults = 0; installs = 0 }) ≡ 0
 no-entries entry_kind.Post = refl
-no-entries entry_kind.Drop = refl
-no-entries entry_kind.Halt = refl
-no-entries entry_kind.Fault = refl
-no-entries entry_kind.Install = refl
+no-entries _ = refl
 
 pub one-entry : (k : EntryKind) (old new : EntryCounts) (e : Entry)
     → new.posts ≡ old.posts + one_if (is_entry entry_kind.Post e) → new.drops ≡ old.drops + one_if (is_entry entry_kind.Drop e)
@@ -117,16 +114,7 @@ tally-few n most t es is few = record {
 
 installed-other : (h : ℕ) (e : Entry) → install_told e ≡ None → installed h e ≡ None
 installed-other h (entry.Install g version image) is = cc
-installed-other h (entry.Post n g c payload) is = refl
-installed-other h (entry.Dropped g cause) is = refl
-installed-other h (entry.Start n) is = refl
-installed-other h (entry.Ask n f args) is = refl
-installed-other h (entry.Answer n value) is = refl
-installed-other h (entry.Halt n) is = refl
-installed-other h (entry.Fault n kind) is = refl
-installed-other h entry.Reset is = refl
-installed-other h (entry.Seen store) is = refl
-installed-other h (entry.Void cause) is = refl
+installed-other h _ is = refl
 
 pub install-none : (h : ℕ) (e : Entry) (v : Versions) (o : Option Installed) → o ≡ install_told e → o ≡ None → v ≡ with_version_if (installed h e) v
 install-none h e v o of none = ap (λ (x : Option ℕ). with_version_if x v) (sym (installed-other h e (sym of ∙ none)))
@@ -137,16 +125,7 @@ chosen false version v = refl
 
 install-by : (h : ℕ) (e : Entry) (i : Installed) (v : Versions) → install_told e ≡ Some i → with_version_if (installed h e) v ≡ (if i.handler.0 == h then with_version v i.version else v)
 install-by h (entry.Install g version image) i v is = let same : record { handler = g; version = version } ≡ i = same_Some (record { handler = g; version = version }) i is in subst (λ (x : Installed). with_version_if (installed h (entry.Install g version image)) v ≡ (if x.handler.0 == h then with_version v x.version else v)) same (chosen (g.0 == h) version v)
-install-by h (entry.Post n g c payload) i v is = cc
-install-by h (entry.Dropped g cause) i v is = cc
-install-by h (entry.Start n) i v is = cc
-install-by h (entry.Ask n f args) i v is = cc
-install-by h (entry.Answer n value) i v is = cc
-install-by h (entry.Halt n) i v is = cc
-install-by h (entry.Fault n kind) i v is = cc
-install-by h entry.Reset i v is = cc
-install-by h (entry.Seen store) i v is = cc
-install-by h (entry.Void cause) i v is = cc
+install-by h _ i v is = cc
 
 pub install-some : (h : ℕ) (e : Entry) (i : Installed) (old new : Versions) (o : Option Installed) → o ≡ install_told e → o ≡ Some i
     → new ≡ (if i.handler.0 == h then with_version old i.version else old) → new ≡ with_version_if (installed h e) old
@@ -181,28 +160,11 @@ is_entry-behind entry_kind.Drop images stores (entry.Seen store) = refl
 is_entry-behind entry_kind.Halt images stores (entry.Seen store) = refl
 is_entry-behind entry_kind.Fault images stores (entry.Seen store) = refl
 is_entry-behind entry_kind.Install images stores (entry.Seen store) = refl
-is_entry-behind k images stores (entry.Post n g c payload) = refl
-is_entry-behind k images stores (entry.Dropped g cause) = refl
-is_entry-behind k images stores (entry.Start n) = refl
-is_entry-behind k images stores (entry.Ask n f args) = refl
-is_entry-behind k images stores (entry.Answer n value) = refl
-is_entry-behind k images stores (entry.Halt n) = refl
-is_entry-behind k images stores (entry.Fault n kind) = refl
-is_entry-behind k images stores entry.Reset = refl
-is_entry-behind k images stores (entry.Void cause) = refl
+is_entry-behind k images stores _ = refl
 
 installed-behind : (h images stores : ℕ) (e : Entry) → installed h (entry_behind images stores e) ≡ installed h e
 installed-behind h images stores (entry.Install g version image) = refl
-installed-behind h images stores (entry.Seen store) = refl
-installed-behind h images stores (entry.Post n g c payload) = refl
-installed-behind h images stores (entry.Dropped g cause) = refl
-installed-behind h images stores (entry.Start n) = refl
-installed-behind h images stores (entry.Ask n f args) = refl
-installed-behind h images stores (entry.Answer n value) = refl
-installed-behind h images stores (entry.Halt n) = refl
-installed-behind h images stores (entry.Fault n kind) = refl
-installed-behind h images stores entry.Reset = refl
-installed-behind h images stores (entry.Void cause) = refl
+installed-behind h images stores _ = refl
 
 count-behind : (k : EntryKind) (images stores : ℕ) (es : List Stamped)
     → count_by (λ (x : Stamped). is_entry k x.entry) (map (stamped_behind images stores) es) ≡ count_by (λ (x : Stamped). is_entry k x.entry) es

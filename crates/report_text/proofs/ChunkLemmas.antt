@@ -77,17 +77,9 @@ IsInFront-next_pair piece ks vs i j a b e in_ks in_vs here behind =
 
 -- an entry that neither installs nor shows a store
 pub short-else : (e : Entry) → ((h : HandlerId) (version image : ℕ) → e ≡ entry.Install h version image → ⊥) → ((store : ℕ) → e ≡ entry.Seen store → ⊥) → IsShort e
-short-else (entry.Post n h c payload) installs shows = tt
-short-else (entry.Dropped h cause) installs shows = tt
-short-else (entry.Start n) installs shows = tt
-short-else (entry.Ask n f args) installs shows = tt
-short-else (entry.Answer n v) installs shows = tt
-short-else (entry.Halt n) installs shows = tt
-short-else (entry.Fault n kind) installs shows = tt
 short-else (entry.Install h version image) installs shows = installs h version image refl
-short-else entry.Reset installs shows = tt
 short-else (entry.Seen store) installs shows = shows store refl
-short-else (entry.Void cause) installs shows = tt
+short-else _ installs shows = tt
 
 -- ---- the lengths of words
 
@@ -97,7 +89,4 @@ drop_word-short dropped.AllBusy = omega arith
 
 pub fault_word-short : (kind : FaultKind) → length (fault_word kind) ≤ 11
 fault_word-short fault.DivZero = omega arith
-fault_word-short fault.Index = omega arith
-fault_word-short fault.BufferFull = omega arith
-fault_word-short fault.BufferEmpty = omega arith
-fault_word-short fault.Overrun = omega arith
+fault_word-short _ = omega arith

@@ -34,10 +34,7 @@ count-next p xs i x h is = count-at p xs i x h is (p x) refl
 
 pub no-entries : (k : EntryKind) → entries_in k (record { posts = 0; drops = 0; halts = 0; faults = 0; installs = 0 }) ≡ 0
 no-entries entry_kind.Post = refl
-no-entries entry_kind.Drop = refl
-no-entries entry_kind.Halt = refl
-no-entries entry_kind.Fault = refl
-no-entries entry_kind.Install = refl
+no-entries _ = refl
 
 pub one-entry : (k : EntryKind) (old new : EntryCounts) (e : Entry)
     → new.posts ≡ old.posts + one_if (is_entry entry_kind.Post e) → new.drops ≡ old.drops + one_if (is_entry entry_kind.Drop e)
@@ -83,8 +80,7 @@ entries-most k log i before after size sofar adds = omega (arith, count_by-le-le
 
 pub no-air : (k : AirKind) → air_in k (record { sent = 0; got = 0; lost = 0 }) ≡ 0
 no-air air_kind.Sent = refl
-no-air air_kind.Got = refl
-no-air air_kind.Lost = refl
+no-air _ = refl
 
 pub one-air : (k : AirKind) (old new : AirCounts) (a : Air)
     → new.sent ≡ old.sent + one_if (is_air air_kind.Sent a) → new.got ≡ old.got + one_if (is_air air_kind.Got a) → new.lost ≡ old.lost + one_if (is_air air_kind.Lost a)

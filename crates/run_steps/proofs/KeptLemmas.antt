@@ -105,23 +105,15 @@ module _ (d : Description) (v : OpenView) (kept : Log) (is : IsKept v kept) wher
   moved = stamped_behind v.gone.images v.gone.stores
 
   words-same : (e : Entry) → entry_words d v.all (entry_behind v.gone.images v.gone.stores e) ≡ entry_words d kept e
-  words-same (entry.Post n h c payload) = refl
-  words-same (entry.Dropped h cause) = refl
-  words-same (entry.Start n) = refl
-  words-same (entry.Ask n f args) = refl
-  words-same (entry.Answer n value) = refl
-  words-same (entry.Halt n) = refl
-  words-same (entry.Fault n kind) = refl
   words-same (entry.Install h version image) =
       let same : slice_get v.all.images (v.gone.images + image) ≡ slice_get kept.images image =
       sym (slice_get-drop v.gone.images v.all.images image) ∙ ap (λ (xs : List (ArrayVec ℕ)). slice_get xs image) is.images in
       ap (λ (o : _). codes " install" ++ word (handler_name d h) ++ number version ++ word (image_word (image_text o))) same
-  words-same entry.Reset = refl
   words-same (entry.Seen store) =
       let same : slice_get v.all.stores (v.gone.stores + store) ≡ slice_get kept.stores store =
       sym (slice_get-drop v.gone.stores v.all.stores store) ∙ ap (λ (xs : List Store). slice_get xs store) is.stores in
       ap (λ (o : _). codes " seen" ++ seen_words d o) same
-  words-same (entry.Void cause) = refl
+  words-same _ = refl
 
   lines-same : (es : List Stamped) → flat_map (entry_line d v.all 0) (map moved es) ≡ flat_map (entry_line d kept 0) es
   lines-same [] = refl

@@ -120,12 +120,7 @@ none_agrees (Err r) (Err t) p q = inr (inl p)
 step_agrees : (names : Names) (d : Description) (fold : Bool) (files : List (List ℕ)) (x : Step) → AnswersAgree SameNamed (step_program (steady names) d fold files x) (step_program (steady names) d fold files x)
 step_agrees names d fold files (step.Install h version k) = gives_agree (installed (steady names) d fold h version (name_at files k)) (installed_agrees names d fold h version (name_at files k))
 step_agrees names d fold files (step.Load k) = gives_agree (loaded (steady names) d (name_at files k)) (loaded_agrees names d (name_at files k))
-step_agrees names d fold files (step.Post h payload) = none_agrees
-step_agrees names d fold files (step.Step ctx n) = none_agrees
-step_agrees names d fold files step.Run = none_agrees
-step_agrees names d fold files (step.Answer ctx value) = none_agrees
-step_agrees names d fold files step.Show = none_agrees
-step_agrees names d fold files step.Reset = none_agrees
+step_agrees names d fold files _ = none_agrees
 
 one_more : (ps qs : List Program) (p q : Program) → SamePrograms ps qs → SameProgram p q → SamePrograms (ps ++ p ∷ []) (qs ++ q ∷ [])
 one_more [] [] p q same last = (last, tt)

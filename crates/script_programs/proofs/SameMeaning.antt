@@ -48,12 +48,7 @@ places-same ps qs same = same_at (program_at ps) (program_at qs) (at-same ps qs 
 step-same : (ps qs : List Program) → SamePrograms ps qs → (x : Step) → step_of ps x ≡ step_of qs x
 step-same ps qs same (step.Install h version k) = ap node.Install (at-same ps qs same k)
 step-same ps qs same (step.Load k) = ap node.Install (at-same ps qs same k)
-step-same ps qs same (step.Post h payload) = refl
-step-same ps qs same (step.Step ctx n) = refl
-step-same ps qs same step.Run = refl
-step-same ps qs same (step.Answer ctx value) = refl
-step-same ps qs same step.Show = refl
-step-same ps qs same step.Reset = refl
+step-same ps qs same _ = refl
 
 pub steps-same : (s : NodeScript) (ps qs : List Program) → SamePrograms ps qs → steps_of s ps ≡ steps_of s qs
 steps-same s ps qs same = ap (λ (f : Step → node.Step). map f s.steps) (same_at (step_of ps) (step_of qs) (step-same ps qs same))

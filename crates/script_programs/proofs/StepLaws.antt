@@ -36,23 +36,13 @@ at_end f d fold script ps i past owing =
 pub step_wants : (f : Folder) (d : Description) (fold : Bool) (names : List (List ℕ)) (x : Step) → step_program f d fold names x (Err NoMemory)
 step_wants f d fold names (step.Install h version k) = stops NoMemory (stops NoMemory (inr refl) refl) refl
 step_wants f d fold names (step.Load k) = stops NoMemory (stops NoMemory (inr refl) refl) refl
-step_wants f d fold names (step.Post h payload) = refl
-step_wants f d fold names (step.Step ctx n) = refl
-step_wants f d fold names step.Run = refl
-step_wants f d fold names (step.Answer ctx value) = refl
-step_wants f d fold names step.Show = refl
-step_wants f d fold names step.Reset = refl
+step_wants f d fold names _ = refl
 
 -- a step that names no file gives no program
 pub gives-nothing : (f : Folder) (d : Description) (fold : Bool) (names : List (List ℕ)) (x : Step) → names_file x ≡ false → step_program f d fold names x (Ok None)
 gives-nothing f d fold names (step.Install h version k) is = absurd (let e : true ≡ false = is in cc)
 gives-nothing f d fold names (step.Load k) is = absurd (let e : true ≡ false = is in cc)
-gives-nothing f d fold names (step.Post h payload) is = tt
-gives-nothing f d fold names (step.Step ctx n) is = tt
-gives-nothing f d fold names step.Run is = tt
-gives-nothing f d fold names (step.Answer ctx value) is = tt
-gives-nothing f d fold names step.Show is = tt
-gives-nothing f d fold names step.Reset is = tt
+gives-nothing f d fold names _ is = tt
 
 -- a step that names a program answers with its refusal, as a `?` does
 pub gives-stops : (given : Result Program Refusal → Type 0) (e : Refusal) (answer : Result (Option Program) Refusal) → given (Err e) → IsErrAnd answer (λ y. y ≡ e) → gives_program given answer

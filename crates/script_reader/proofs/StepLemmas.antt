@@ -18,33 +18,16 @@ use Rattle.script_reader.specs.NodeReader.{files_after, IsNewer, IsRightSaid, Is
 right_on : (d : Description) (m n : ℕ) → m ≤ n → (s : Step) → IsRightStep d m s → IsRightStep d n s
 right_on d m n more (step.Install handler version program) r = record { handler_high = r.handler_high; version_low = r.version_low; version_high = r.version_high; program_high = omega arith }
 right_on d m n more (step.Load program) r = omega arith
-right_on d m n more (step.Post handler payload) r = r
-right_on d m n more (step.Step ctx k) r = r
-right_on d m n more step.Run r = r
-right_on d m n more (step.Answer ctx value) r = r
-right_on d m n more step.Show r = r
-right_on d m n more step.Reset r = r
+right_on d m n more _ r = r
 
 -- a later install of the handler has the greater version
 rises_to : (newest : List ℕ) (h : HandlerId) (version program : ℕ) (s : Step) → IsNoted newest (step.Install h version program) → IsNewer newest s → Rises (step.Install h version program) s
 rises_to newest h version program (step.Install other later file) noted newer = λ same. let at : get_or newest h.0 0 ≡ get_or newest other.0 0 = ap (λ (h : HandlerId). get_or newest h.0 0) same in omega arith
-rises_to newest h version program (step.Load file) noted newer = tt
-rises_to newest h version program (step.Post handler payload) noted newer = tt
-rises_to newest h version program (step.Step ctx k) noted newer = tt
-rises_to newest h version program step.Run noted newer = tt
-rises_to newest h version program (step.Answer ctx value) noted newer = tt
-rises_to newest h version program step.Show noted newer = tt
-rises_to newest h version program step.Reset noted newer = tt
+rises_to newest h version program _ noted newer = tt
 
 rises : (newest : List ℕ) (a b : Step) → IsNoted newest a → IsNewer newest b → Rises a b
 rises newest (step.Install handler version program) b noted newer = rises_to newest handler version program b noted newer
-rises newest (step.Load file) b noted newer = tt
-rises newest (step.Post handler payload) b noted newer = tt
-rises newest (step.Step ctx k) b noted newer = tt
-rises newest step.Run b noted newer = tt
-rises newest (step.Answer ctx value) b noted newer = tt
-rises newest step.Show b noted newer = tt
-rises newest step.Reset b noted newer = tt
+rises newest _ b noted newer = tt
 
 -- a newer version is noted
 at_least : (newest : List ℕ) (place version k : ℕ) → place < length newest → get_or newest place 0 < version → get_or newest k 0 ≤ get_or (slice_set newest place version) k 0
@@ -56,13 +39,7 @@ at_least newest place version k within newer =
 
 noted_on : (newest : List ℕ) (place version : ℕ) → place < length newest → get_or newest place 0 < version → (s : Step) → IsNoted newest s → IsNoted (slice_set newest place version) s
 noted_on newest place version within newer (step.Install handler v program) noted = omega (arith, at_least newest place version handler.0 within newer)
-noted_on newest place version within newer (step.Load file) noted = tt
-noted_on newest place version within newer (step.Post handler payload) noted = tt
-noted_on newest place version within newer (step.Step ctx k) noted = tt
-noted_on newest place version within newer step.Run noted = tt
-noted_on newest place version within newer (step.Answer ctx value) noted = tt
-noted_on newest place version within newer step.Show noted = tt
-noted_on newest place version within newer step.Reset noted = tt
+noted_on newest place version within newer _ noted = tt
 
 -- the versions that are noted after a step
 pub record Notes (newest : List ℕ) (s : Step) : Type 0 where
@@ -81,13 +58,7 @@ notes d files newest (step.Install handler version program) places right newer =
       noted = noted_on newest handler.0 version within newer;
       own = let e : get_or (slice_set newest handler.0 version) handler.0 0 ≡ version = get_or-set_same newest handler.0 version 0 within in omega arith;
     }
-notes d files newest (step.Load file) places right newer = record { places = refl; noted = λ old h. h; own = tt }
-notes d files newest (step.Post handler payload) places right newer = record { places = refl; noted = λ old h. h; own = tt }
-notes d files newest (step.Step ctx k) places right newer = record { places = refl; noted = λ old h. h; own = tt }
-notes d files newest step.Run places right newer = record { places = refl; noted = λ old h. h; own = tt }
-notes d files newest (step.Answer ctx value) places right newer = record { places = refl; noted = λ old h. h; own = tt }
-notes d files newest step.Show places right newer = record { places = refl; noted = λ old h. h; own = tt }
-notes d files newest step.Reset places right newer = record { places = refl; noted = λ old h. h; own = tt }
+notes d files newest _ places right newer = record { places = refl; noted = λ old h. h; own = tt }
 
 pub length-with_file : (files : List (List ℕ)) (file : Option (List ℕ)) → length (with_file files file) ≡ files_after (length files) file
 length-with_file files None = refl

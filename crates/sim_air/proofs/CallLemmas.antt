@@ -48,23 +48,15 @@ series-past (y ∷ xs) (suc i) node fun x below is other =
 pub answer-value : (w : World) (node : ℕ) (called : List FunId) (f : FunId) (time : ℕ) (k : FunKind) → called_kind w f ≡ k
     → answer_at w node called f time ≡ value_by (w.series node f.0) (count_by (λ g. g.0 == f.0) called) node (stream_word w (2 * node + 1) (words_taken w called)) time k
 answer-value w node called f time kind.Sense e = rw e refl
-answer-value w node called f time (kind.Act args) e = rw e refl
-answer-value w node called f time kind.Send e = rw e refl
-answer-value w node called f time kind.Id e = rw e refl
-answer-value w node called f time kind.Rand e = rw e refl
-answer-value w node called f time kind.Clock e = rw e refl
+answer-value w node called f time _ e = rw e refl
 
 -- a count grows by its own
 count-push : {A : Type 0} (p : A → Bool) (xs : List A) (x : A) → count_by p (xs ++ x ∷ []) ≡ count_by p xs + cond (p x) 1 0
 count-push p xs x = sum_by_push (λ y. cond (p y) 1 0) xs x
 
 words-past : (k : FunKind) (g : Lcg) (n : ℕ) → words_past k (advance 64 multiplier_64 n g) ≡ advance 64 multiplier_64 (n + cond (is_rand_kind k) 1 0) g
-words-past kind.Sense g n = ap (λ (m : ℕ). advance 64 multiplier_64 m g) (omega arith)
-words-past (kind.Act args) g n = ap (λ (m : ℕ). advance 64 multiplier_64 m g) (omega arith)
-words-past kind.Send g n = ap (λ (m : ℕ). advance 64 multiplier_64 m g) (omega arith)
-words-past kind.Id g n = ap (λ (m : ℕ). advance 64 multiplier_64 m g) (omega arith)
 words-past kind.Rand g n = advance_step n g
-words-past kind.Clock g n = ap (λ (m : ℕ). advance 64 multiplier_64 m g) (omega arith)
+words-past _ g n = ap (λ (m : ℕ). advance 64 multiplier_64 m g) (omega arith)
 
 times_called-more : (called : List FunId) (f : FunId) (k : ℕ) → k ≡ f.0 → times_called (called ++ f ∷ []) k ≡ min (times_called called k + 1) (2 ^ 64 - 1)
 times_called-more called f k same =

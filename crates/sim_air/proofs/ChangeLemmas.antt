@@ -140,8 +140,6 @@ shifted n k node = elim (eqb_tells k node) [
 
 tests : (node : ℕ) (ends : Ends) (e : Event) → node < 256 → IsNear e → ((outlasts ends.interval node e && outlasts ends.pump (256 + node) e) && outlasts ends.answers (512 + node) e) ≡ stays node ends e
 unfolding outlasts
-tests node ends (radio.Planned line) low near = none-of ends.interval ends.pump ends.answers
-tests node ends (radio.Period k h) low near = none-of ends.interval ends.pump ends.answers
 tests node ends (radio.Fire k) low near = first-of (not (ends.interval && k == node)) ends.pump ends.answers (k == 256 + node) (k == 512 + node) (ne_eqb k (256 + node) (λ same. omega (arith, same, near))) (ne_eqb k (512 + node) (λ same. omega (arith, same, near)))
 tests node ends (radio.Expire k) low near = first-of (not (ends.interval && k == node)) ends.pump ends.answers (k == 256 + node) (k == 512 + node) (ne_eqb k (256 + node) (λ same. omega (arith, same, near))) (ne_eqb k (512 + node) (λ same. omega (arith, same, near)))
 tests node ends (radio.Pump k) low near =
@@ -150,7 +148,7 @@ tests node ends (radio.Pump k) low near =
 tests node ends (radio.Due k c inv value) low near =
     third-of ends.interval ends.pump (not (ends.answers && 512 + k == 512 + node)) (512 + k == node) (512 + k == 256 + node) (ne_eqb (512 + k) node (λ same. omega (arith, same, low))) (ne_eqb (512 + k) (256 + node) (λ same. omega (arith, same, low)))
     ∙ ap (λ (b : Bool). not (ends.answers && b)) (shifted 512 k node)
-tests node ends (radio.Deliver link number bytes) low near = none-of ends.interval ends.pump ends.answers
+tests node ends _ low near = none-of ends.interval ends.pump ends.answers
 
 left_in : Bool → ℕ → Ether → Ether
 left_in b g e = record e { agenda = record e.agenda { items = left_items b g e.agenda.items } }

@@ -20,16 +20,8 @@ quiet-both (t ∷ xs) ys a b = (a.0, quiet-both xs ys a.1 b)
 
 -- a start calls nothing
 start-quiet : (t : JournalEntry) (told : List JournalEntry) → IsStart t → CallNothing told → CallNothing (t ∷ told)
-start-quiet (Posted n h c payload) told is rest = absurd is
-start-quiet (Dropped h cause) told is rest = absurd is
 start-quiet (Started n) told is rest = (refl, rest)
-start-quiet (Asked n f args) told is rest = absurd is
-start-quiet (Answered n value) told is rest = absurd is
-start-quiet (Ended n how) told is rest = absurd is
-start-quiet (Installed p) told is rest = absurd is
-start-quiet Reset told is rest = absurd is
-start-quiet (Seen store) told is rest = absurd is
-start-quiet (Void cause) told is rest = absurd is
+start-quiet _ told is rest = absurd is
 
 starts-quiet : (starts : List JournalEntry) → All IsStart starts → CallNothing starts
 starts-quiet [] all = tt

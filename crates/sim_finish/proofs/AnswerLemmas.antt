@@ -19,27 +19,11 @@ use Rattle.std.specs.Prelude.{◌==◌}
 pub due-front : (w : World) (node time : ℕ) (r : NodeState) (called : List FunId) (t : JournalEntry) (told : List JournalEntry)
     → answers_due w node time r called (t ∷ told) ≡ answer_items w node time r called (asked_of t) ++ answers_due w node time r (with_call called (asked_of t)) told
 due-front w node time r called (Posted n h c payload) told = refl
-due-front w node time r called (Dropped h cause) told = refl
-due-front w node time r called (Started n) told = refl
-due-front w node time r called (Asked n f args) told = refl
-due-front w node time r called (Answered n value) told = refl
-due-front w node time r called (Ended n how) told = refl
-due-front w node time r called (Installed p) told = refl
-due-front w node time r called Reset told = refl
-due-front w node time r called (Seen store) told = refl
-due-front w node time r called (Void cause) told = refl
+due-front w node time r called _ told = refl
 
 calls-front : (called : List FunId) (t : JournalEntry) (told : List JournalEntry) → called ++ calls_in (t ∷ told) ≡ with_call called (asked_of t) ++ calls_in told
-calls-front called (Posted n h c payload) told = refl
-calls-front called (Dropped h cause) told = refl
-calls-front called (Started n) told = refl
 calls-front called (Asked n f args) told = sym (append_assoc called (f ∷ []) (calls_in told))
-calls-front called (Answered n value) told = refl
-calls-front called (Ended n how) told = refl
-calls-front called (Installed p) told = refl
-calls-front called Reset told = refl
-calls-front called (Seen store) told = refl
-calls-front called (Void cause) told = refl
+calls-front called _ told = refl
 
 -- one entry more behind
 due-behind : (w : World) (node time : ℕ) (r : NodeState) (called : List FunId) (told : List JournalEntry) (t : JournalEntry)

@@ -32,12 +32,7 @@ ends_of e begins = record { interval = begins; pump = resets e.deed; answers = c
 
 same-end : (w : World) (node : ℕ) (e : NodeEffect) (begins : Bool) (c : Cause) → stays node (ends_of e begins) (radio_event w c) ≡ is_kept node e begins c
 same-end w node e begins (event.Planned line) = refl
-same-end w node e begins (event.Period k h) = refl
-same-end w node e begins (event.Fire k) = refl
-same-end w node e begins (event.Expire k) = refl
-same-end w node e begins (event.Pump k) = refl
-same-end w node e begins (event.Due k c inv value) = refl
-same-end w node e begins (event.Deliver link number packet) = refl
+same-end w node e begins _ = refl
 
 pub kept-are : (w : World) (node : ℕ) (e : NodeEffect) (begins : Bool) (cs : List Cause) → filter (stays node (ends_of e begins)) (map (radio_event w) cs) ≡ map (radio_event w) (filter (is_kept node e begins) cs)
 kept-are w node e begins [] = refl
@@ -53,16 +48,11 @@ kept-are w node e begins (c ∷ cs) =
 -- ---- what is scheduled
 
 pub period-is : (w : World) (c : Cause) (time : ℕ) → period_items w.description (radio_event w c) time ≡ timed_events w (next_period w c time)
-period-is w (event.Planned line) time = refl
 period-is w (event.Period node h) time = by (period_of w h.0) where
   by : (o : Option ℕ) → next_items o node h time ≡ timed_events w (option_map_or (λ p. record { time = time + p; cause = event.Period node h } ∷ []) o [])
   by None = refl
   by (Some p) = refl
-period-is w (event.Fire node) time = refl
-period-is w (event.Expire node) time = refl
-period-is w (event.Pump node) time = refl
-period-is w (event.Due node c inv value) time = refl
-period-is w (event.Deliver link number packet) time = refl
+period-is w _ time = refl
 
 pub interval-is : (w : World) (node : ℕ) (o : Option ℕ) (t : Timer) → interval_items (is_some_length o) node t ≡ timed_events w (new_interval node o t)
 interval-is w node None t = refl

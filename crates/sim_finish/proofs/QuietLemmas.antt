@@ -13,18 +13,10 @@ use Rattle.sim_finish.proofs.AnswerLemmas.{due-front}
 use Rattle.sim_finish.specs.Finishing.{CallNothing}
 
 message-none : (w : World) (t : JournalEntry) → asked_of t ≡ None → (message_in w t ≡ None) × (asked_by t ≡ None)
-message-none w (Posted n h c payload) e = (refl, refl)
-message-none w (Dropped h cause) e = (refl, refl)
-message-none w (Started n) e = (refl, refl)
 message-none w (Asked n f args) e = absurd (some≢none (n, f) e) where
   some≢none : (a : ℕ × FunId) → Some a ≡ None → ⊥
   some≢none a e = cc
-message-none w (Answered n value) e = (refl, refl)
-message-none w (Ended n how) e = (refl, refl)
-message-none w (Installed p) e = (refl, refl)
-message-none w Reset e = (refl, refl)
-message-none w (Seen store) e = (refl, refl)
-message-none w (Void cause) e = (refl, refl)
+message-none w _ e = (refl, refl)
 
 pub messages-quiet : (w : World) (front rest : List JournalEntry) → CallNothing front → messages w (front ++ rest) ≡ messages w rest
 messages-quiet w [] rest quiet = refl

@@ -62,32 +62,17 @@ cause_by (radio.Due node c inv value) p = event.Due node c inv value
 cause_by (radio.Deliver link number bytes) p = event.Deliver link number p
 
 packet_of : Cause → Packet
-packet_of (event.Planned line) = App (record { items = [] })
-packet_of (event.Period node h) = App (record { items = [] })
-packet_of (event.Fire node) = App (record { items = [] })
-packet_of (event.Expire node) = App (record { items = [] })
-packet_of (event.Pump node) = App (record { items = [] })
-packet_of (event.Due node c inv value) = App (record { items = [] })
 packet_of (event.Deliver link number packet) = packet
+packet_of _ = App (record { items = [] })
 
 its-cause : (w : World) (c : Cause) → cause_by (radio_event w c) (packet_of c) ≡ c
 unfolding cause_by packet_of
 its-cause w (event.Planned line) = refl
-its-cause w (event.Period node h) = refl
-its-cause w (event.Fire node) = refl
-its-cause w (event.Expire node) = refl
-its-cause w (event.Pump node) = refl
-its-cause w (event.Due node c inv value) = refl
-its-cause w (event.Deliver link number packet) = refl
+its-cause w _ = refl
 
 abbrev is_delivery : Event → Bool
-is_delivery (radio.Planned line) = false
-is_delivery (radio.Period node h) = false
-is_delivery (radio.Fire node) = false
-is_delivery (radio.Expire node) = false
-is_delivery (radio.Pump node) = false
-is_delivery (radio.Due node c inv value) = false
 is_delivery (radio.Deliver link number bytes) = true
+is_delivery _ = false
 
 no-delivery : (e : Event) (link number : ℕ) (bytes : ArrayVec ℕ) → is_delivery e ≡ false → e ≡ radio.Deliver link number bytes → ⊥
 no-delivery e link number bytes other is = false≢true (sym other ∙ ap is_delivery is)

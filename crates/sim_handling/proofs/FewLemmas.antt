@@ -43,40 +43,16 @@ receivers-few d (suc n) =
 -- ---- starts, and other entries
 
 abbrev starts_in : JournalEntry → ℕ
-starts_in (Posted n h c payload) = 0
-starts_in (Dropped h cause) = 0
 starts_in (Started n) = 1
-starts_in (Asked n f args) = 0
-starts_in (Answered n value) = 0
-starts_in (Ended n how) = 0
-starts_in (Installed p) = 0
-starts_in Reset = 0
-starts_in (Seen store) = 0
-starts_in (Void cause) = 0
+starts_in _ = 0
 
 abbrev others_in : JournalEntry → ℕ
-others_in (Posted n h c payload) = 1
-others_in (Dropped h cause) = 1
 others_in (Started n) = 0
-others_in (Asked n f args) = 1
-others_in (Answered n value) = 1
-others_in (Ended n how) = 1
-others_in (Installed p) = 1
-others_in Reset = 1
-others_in (Seen store) = 1
-others_in (Void cause) = 1
+others_in _ = 1
 
 one-each : (t : JournalEntry) → starts_in t + others_in t ≡ 1
 one-each (Posted n h c payload) = refl
-one-each (Dropped h cause) = refl
-one-each (Started n) = refl
-one-each (Asked n f args) = refl
-one-each (Answered n value) = refl
-one-each (Ended n how) = refl
-one-each (Installed p) = refl
-one-each Reset = refl
-one-each (Seen store) = refl
-one-each (Void cause) = refl
+one-each _ = refl
 
 abbrev starts : List JournalEntry → ℕ
 starts [] = 0
@@ -98,11 +74,8 @@ told_by-behind : (es : List TimedEntry) (at : Stamp) (ts : List JournalEntry) �
 told_by-behind es at ts = told_by-append es (map (event_at at) ts) ∙ ap (λ (us : List JournalEntry). untimed es ++ us) (told_by-at at ts)
 
 abbrev queued : Phase → ℕ
-queued Unposted = 0
 queued Queued = 1
-queued Ready = 0
-queued (Waiting f args) = 0
-queued Over = 0
+queued _ = 0
 
 total-most : (f g : ℕ → ℕ) (n : ℕ) → ((k : ℕ) → k < n → g k ≤ f k) → total g n ≤ total f n
 unfolding total
@@ -149,14 +122,10 @@ waits-joined r s n joins next =
 
 cut-less : (phase : Phase) → queued (if is_live phase then Over else phase) ≤ queued phase
 cut-less Unposted = omega arith
-cut-less Queued = omega arith
-cut-less Ready = omega arith
-cut-less (Waiting f args) = omega arith
-cut-less Over = omega arith
+cut-less _ = omega arith
 
 waits-step : (m : Machine) (r : NodeState) (t : JournalEntry) → MayFollow m r t → IsNumbered r → starts_in t + waits (next_state m r t) ≤ others_in t + waits r
 waits-step m r (Posted n h c payload) follows numbered = let e = waits-joined r (next_state m r (Posted n h c payload)) n (posted-Joins m r n h c payload) follows.0 in omega (arith, e)
-waits-step m r (Dropped h cause) follows numbered = omega arith
 waits-step m r (Started n) follows numbered =
     let e = waits-started r (next_state m r (Started n)) n (started-Moves m r n) follows (live_posted r n numbered (queued_live r n follows)) in omega (arith, e)
 waits-step m r (Asked n f args) follows numbered = let e = waits-moved r (next_state m r (Asked n f args)) n (Waiting f args) (asked-Moves m r n f args) refl in omega (arith, e)
@@ -164,8 +133,7 @@ waits-step m r (Answered n value) follows numbered = let e = waits-moved r (next
 waits-step m r (Ended n how) follows numbered = let e = waits-moved r (next_state m r (Ended n how)) n Over (ended-Moves m r n how) refl in omega (arith, e)
 waits-step m r (Installed p) follows numbered = let e = total-most (queued_at r) (queued_at (next_state m r (Installed p))) (suc r.posts) (λ k _. cut-less (r.invocations k).phase) in omega (arith, e)
 waits-step m r Reset follows numbered = let e = total-most (queued_at r) (queued_at (next_state m r Reset)) (suc r.posts) (λ k _. cut-less (r.invocations k).phase) in omega (arith, e)
-waits-step m r (Seen store) follows numbered = omega arith
-waits-step m r (Void cause) follows numbered = omega arith
+waits-step m r _ follows numbered = omega arith
 
 -- the starts of a well-formed journal are at most its other entries
 starts-few : (m : Machine) (r : NodeState) (es : List TimedEntry) → AtEachEntry (MayFollow m) m r es → IsNumbered r → starts (untimed es) ≤ others (untimed es) + waits r

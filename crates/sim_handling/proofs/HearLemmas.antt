@@ -36,21 +36,15 @@ use Rattle.sim_handling.proofs.ImageLemmas.{fragment-stays, fragment-installs, c
 
 abbrev pub AsksNothing : Packet → Type 0
 AsksNothing (Vector versions) = ⊥
-AsksNothing (Status g version missing) = Unit {0}
-AsksNothing (Fragment g version index count large bytes) = Unit {0}
-AsksNothing (App payload) = Unit {0}
+AsksNothing _ = Unit {0}
 
 pub fragment-silent : (version : ℕ) (p : Packet) → IsFragmentOf version p → AsksNothing p
-fragment-silent version (Vector versions) is = absurd is
-fragment-silent version (Status g told missing) is = absurd is
 fragment-silent version (Fragment g told index count large bytes) is = tt
-fragment-silent version (App payload) is = absurd is
+fragment-silent version _ is = absurd is
 
 silent-by : (n : ℕ) (p : Packet) (hs : List Happening) → AsksNothing p → asks_after n p hs ≡ []
 silent-by n (Vector versions) hs none = absurd none
-silent-by n (Status g version missing) hs none = refl
-silent-by n (Fragment g version index count large bytes) hs none = refl
-silent-by n (App payload) hs none = refl
+silent-by n _ hs none = refl
 
 pub heard-silent : (n : ℕ) (p : Packet) (hs : List Happening) (asks : ArrayVec Packet) → AsksNothing p → asks.items ≡ asks_after n p hs → asks.items ≡ []
 heard-silent n p hs asks none is = is ∙ silent-by n p hs none

@@ -61,30 +61,24 @@ if-some true x y is = (refl, cc)
 if-some false x y is = absurd (let e : None ≡ Some y = is in cc)
 
 pub completed-handler : (n : ℕ) (p : Packet) (hs : List Happening) (h : HandlerId) → IsRightPacket n p → completed_by p hs ≡ Some h → h.0 < n
-completed-handler n (Vector versions) hs h right is = absurd (let e : None ≡ Some h = is in cc)
-completed-handler n (Status g version missing) hs h right is = absurd (let e : None ≡ Some h = is in cc)
-completed-handler n (App payload) hs h right is = absurd (let e : None ≡ Some h = is in cc)
 completed-handler n (Fragment g version index count large bytes) hs h right is = subst (λ (x : HandlerId). x.0 < n) (if-some _ g h is).1 right.handler_high
+completed-handler n _ hs h right is = absurd (let e : None ≡ Some h = is in cc)
 
 -- there is an image of it
 pub completed-none : (p : Packet) (hs : List Happening) (h : HandlerId) → completed_by p hs ≡ Some h → collected_image h.0 (Hears p ∷ hs) ≡ None → ⊥
-completed-none (Vector versions) hs h is none = let e : None ≡ Some h = is in cc
-completed-none (Status g version missing) hs h is none = let e : None ≡ Some h = is in cc
-completed-none (App payload) hs h is none = let e : None ≡ Some h = is in cc
 completed-none (Fragment g version index count large bytes) hs h is none =
     let p : Packet = Fragment g version index count large bytes in
     let both = if-some (ltb (complete_version g.0 hs) (complete_version g.0 (Hears p ∷ hs))) g h is in
     let nothing : collected_image g.0 (Hears p ∷ hs) ≡ None = subst (λ (x : HandlerId). collected_image x.0 (Hears p ∷ hs) ≡ None) (sym both.1) none in
     let zero_is : complete_version g.0 (Hears p ∷ hs) ≡ 0 = ap (λ (o : Option (ArrayVec ℕ)). if is_some o then target_version g.0 (Hears p ∷ hs) else 0) nothing in
     let less = ltb-true (complete_version g.0 hs) (complete_version g.0 (Hears p ∷ hs)) both.0 in omega (arith, zero_is, less)
+completed-none _ hs h is none = let e : None ≡ Some h = is in cc
 
 -- ---- the rules' effect of a fragment
 
 pub fragment-stays : (w : World) (hs : List Happening) (p : Packet) (version : ℕ) → IsFragmentOf version p → completed_by p hs ≡ None → of_packet w hs p ≡ record no_effect { happened = Hears p ∷ [] }
-fragment-stays w hs (Vector versions) version is none = absurd is
-fragment-stays w hs (Status g told missing) version is none = absurd is
-fragment-stays w hs (App payload) version is none = absurd is
 fragment-stays w hs (Fragment g told index count large bytes) version is none = ap (of_fragment (Fragment g told index count large bytes) hs) none
+fragment-stays w hs _ version is none = absurd is
 
 abbrev pub program_in : HandlerId → ℕ → ArrayVec ℕ → HeldProgram
 program_in h version image = record { handler = h; version = version; image = image }
@@ -94,9 +88,6 @@ image-effect earlier x = record no_effect { deed = Installing x; happened = Inst
 
 pub fragment-installs : (w : World) (hs : List Happening) (p : Packet) (version : ℕ) (h : HandlerId) (image : ArrayVec ℕ) → IsFragmentOf version p → completed_by p hs ≡ Some h
     → collected_image h.0 (Hears p ∷ hs) ≡ Some image → of_packet w hs p ≡ image-effect (Hears p ∷ []) (program_in h version image)
-fragment-installs w hs (Vector versions) version h image is by_h made = absurd is
-fragment-installs w hs (Status g told missing) version h image is by_h made = absurd is
-fragment-installs w hs (App payload) version h image is by_h made = absurd is
 fragment-installs w hs (Fragment g told index count large bytes) version h image is by_h made =
     let p : Packet = Fragment g told index count large bytes in
     let both = if-some (ltb (complete_version g.0 hs) (complete_version g.0 (Hears p ∷ hs))) g h by_h in
@@ -104,3 +95,4 @@ fragment-installs w hs (Fragment g told index count large bytes) version h image
     subst (λ (x : HandlerId). target_version x.0 (Hears p ∷ hs) ≡ version) both.1 (fragment-target g told index count large bytes hs both.0 ∙ is) in
     let H : ℕ → Option (ArrayVec ℕ) → NodeEffect = λ v o. image-effect (Hears p ∷ []) (program_in h v (unwrap_or o (record { items = [] }))) in
     ap (of_fragment p hs) by_h ∙ ap (λ (v : ℕ). H v (collected_image h.0 (Hears p ∷ hs))) target ∙ ap (H version) made
+fragment-installs w hs _ version h image is by_h made = absurd is

@@ -42,11 +42,8 @@ none-mapped w (c ∷ cs) is = absurd (let long = ap (λ (xs : List Event). lengt
 near-one : (w : World) (c : Cause) → w.nodes ≤ 64 → event_node w c < w.nodes → IsNear (radio_event w c)
 near-one w (event.Planned line) few low = tt
 near-one w (event.Period node h) few low = tt
-near-one w (event.Fire node) few low = omega (arith, few, low)
-near-one w (event.Expire node) few low = omega (arith, few, low)
-near-one w (event.Pump node) few low = omega (arith, few, low)
-near-one w (event.Due node c inv value) few low = omega (arith, few, low)
 near-one w (event.Deliver link number packet) few low = tt
+near-one w _ few low = omega (arith, few, low)
 
 near-all : (w : World) (cs : List Cause) → w.nodes ≤ 64 → AreOfNodes w cs → AreNear (map (radio_event w) cs)
 near-all w [] few are = tt

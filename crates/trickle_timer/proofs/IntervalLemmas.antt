@@ -89,10 +89,7 @@ IsTimerOf-start s = record {
 -- a count that stops goes on as one that doesn't, up to where it stops
 count_stops : (c : ℕ) (e : TimerEvent) → min (count (min c 65535) e) 65535 ≡ min (count c e) 65535
 count_stops c Consistent = omega arith
-count_stops c Inconsistent = omega arith
-count_stops c Reset = omega arith
-count_stops c Again = omega arith
-count_stops c Expired = omega arith
+count_stops c _ = omega arith
 
 -- the timer that stands for the intervals
 abbrev shown_timer : Start → List Interval → Interval → Timer

@@ -135,18 +135,7 @@ behind xs ys {n} u v = let e : 0 + n ≡ n = omega arith in as_many n e (both xs
 
 sign_silent : (o : BinOp) → IsSilent (sign o)
 sign_silent op.Or = tt
-sign_silent op.And = tt
-sign_silent op.Eq = tt
-sign_silent op.Ne = tt
-sign_silent op.Lt = tt
-sign_silent op.Gt = tt
-sign_silent op.Le = tt
-sign_silent op.Ge = tt
-sign_silent op.Add = tt
-sign_silent op.Sub = tt
-sign_silent op.Mul = tt
-sign_silent op.Div = tt
-sign_silent op.Rem = tt
+sign_silent _ = tt
 
 one : (k : TokenKind) → IsSilent k → Note (k ∷ []) 0
 one k h = silent k h none

@@ -83,18 +83,7 @@ module _ (shape : Shape) where
 
   in-operator : (o : BinOp) → InTable (operator_code o)
   in-operator op.Or = tt
-  in-operator op.And = tt
-  in-operator op.Eq = tt
-  in-operator op.Ne = tt
-  in-operator op.Lt = tt
-  in-operator op.Gt = tt
-  in-operator op.Le = tt
-  in-operator op.Ge = tt
-  in-operator op.Add = tt
-  in-operator op.Sub = tt
-  in-operator op.Mul = tt
-  in-operator op.Div = tt
-  in-operator op.Rem = tt
+  in-operator _ = tt
 
   in-within : (step : ℤ) → InTable (within_code step)
   in-within (pos step) = tt
@@ -112,14 +101,11 @@ module _ (shape : Shape) where
   mutual
     in-expr : (calls : Bool) (e : Expression) → is_right_expr shape calls e ≡ true → AllIn (expr_code e)
     in-expr calls (Num n) right = (in-number n, tt)
-    in-expr calls (Shared v) right = (tt, tt)
-    in-expr calls (Private i) right = (tt, tt)
     in-expr calls (Item p e) right =
         let h = and_parts (is_buffer shape p) (is_right_expr shape calls e) right in
         in-push (expr_code e) (instr.BGet p) (in-expr calls e h.1) (has_buffer shape p h.0)
     in-expr calls (Size p) right = (has_buffer shape p right, tt)
     in-expr calls (MsgItem e) right = in-push (expr_code e) instr.MsgGet (in-expr calls e right) tt
-    in-expr calls MsgSize right = (tt, tt)
     in-expr calls (Call f args) right =
         let h = and_parts (calls && is_call shape f (argument_count args)) (are_right shape calls args) right in
         let k = and_parts calls (is_call shape f (argument_count args)) h.0 in
@@ -131,6 +117,7 @@ module _ (shape : Shape) where
         let h = and_parts (is_right_expr shape calls a) (is_right_expr shape calls b) right in
         in-append (expr_code a) (expr_code b ++ operator_code o ∷ []) (in-expr calls a h.0)
         (in-push (expr_code b) (operator_code o) (in-expr calls b h.1) (in-operator o))
+    in-expr calls _ right = (tt, tt)
 
     in-args : (calls : Bool) (es : Arguments) → are_right shape calls es ≡ true → AllIn (args_code es)
     in-args calls no_arguments right = tt

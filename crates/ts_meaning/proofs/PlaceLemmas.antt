@@ -33,18 +33,7 @@ size_of-within_code (negsuc step) = refl
 
 pub size_of-operator_code : (o : BinOp) → size_of (operator_code o) ≡ 1
 size_of-operator_code op.Or = refl
-size_of-operator_code op.And = refl
-size_of-operator_code op.Eq = refl
-size_of-operator_code op.Ne = refl
-size_of-operator_code op.Lt = refl
-size_of-operator_code op.Gt = refl
-size_of-operator_code op.Le = refl
-size_of-operator_code op.Ge = refl
-size_of-operator_code op.Add = refl
-size_of-operator_code op.Sub = refl
-size_of-operator_code op.Mul = refl
-size_of-operator_code op.Div = refl
-size_of-operator_code op.Rem = refl
+size_of-operator_code _ = refl
 
 -- an expression, and then instructions
 pub bytes_of-then : (e : Expression) (is : List Instr) → size_of_instrs (expr_code e ++ is) ≡ expr_size e + size_of_instrs is

@@ -53,23 +53,13 @@ same_fault (Some n) = refl
 pub operator-executed : (shape : Shape) (o : BinOp) (a b : ℤ) (place : ℕ) (stack : List ℤ) (s : ScriptState) (count : ℕ)
     → let r : Run = run_at place (b ∷ a ∷ stack) s count in
     executed shape (operator_code o) r ≡ run_by (gives (applied o a b) (own_at (place + size_of (operator_code o)) stack s)) (use_of (operator_code o)) r
-operator-executed shape op.Or a b place stack s count = refl
-operator-executed shape op.And a b place stack s count = refl
-operator-executed shape op.Eq a b place stack s count = refl
-operator-executed shape op.Ne a b place stack s count = refl
-operator-executed shape op.Lt a b place stack s count = refl
-operator-executed shape op.Gt a b place stack s count = refl
-operator-executed shape op.Le a b place stack s count = refl
-operator-executed shape op.Ge a b place stack s count = refl
-operator-executed shape op.Add a b place stack s count = refl
-operator-executed shape op.Sub a b place stack s count = refl
-operator-executed shape op.Mul a b place stack s count = refl
 operator-executed shape op.Div a b place stack s count =
     let r : Run = run_at place (b ∷ a ∷ stack) s count in
     ap (λ (x : Result ℤ FaultKind). run_by (gives x (own_at (place + size_of instr.Div) stack s)) (use_of instr.Div) r) (same_fault (quotient a b))
 operator-executed shape op.Rem a b place stack s count =
     let r : Run = run_at place (b ∷ a ∷ stack) s count in
     ap (λ (x : Result ℤ FaultKind). run_by (gives x (own_at (place + size_of instr.Mod) stack s)) (use_of instr.Mod) r) (same_fault (remainder a b))
+operator-executed shape _ a b place stack s count = refl
 
 -- values, each pushed above those before it
 abbrev pub pushed : List ℤ → List ℤ → List ℤ

@@ -61,15 +61,11 @@ done-turns a s = omega arith
 mutual
   value_of-turns : (e : Expression) (s : ScriptState) → turns_after (value_of e s) ≤ s.turns
   value_of-turns (Num n) s = done-turns n s
-  value_of-turns (Shared v) s = omega arith
-  value_of-turns (Private i) s = omega arith
   value_of-turns (Item p e) s =
       turns_after-then_do (value_of e s) (λ i s. value_or_fault (item_of (buffer_at s.store p.0) i) s) s.turns (value_of-turns e s)
       (λ i t. given-turns (item_of (buffer_at t.store p.0) i) t)
-  value_of-turns (Size p) s = omega arith
   value_of-turns (MsgItem e) s =
       turns_after-then_do (value_of e s) (λ i s. value_or_fault (item_of s.msg i) s) s.turns (value_of-turns e s) (λ i t. given-turns (item_of t.msg i) t)
-  value_of-turns MsgSize s = omega arith
   value_of-turns (Call f args) s =
       turns_after-then_do (values_of args s) (λ values s. next_answer f (first_ten values) s) s.turns (values_of-turns args s)
       (λ values t. asked-turns f (first_ten values) t)
@@ -81,6 +77,7 @@ mutual
   value_of-turns (Two op l r) s =
       turns_after-then_do (value_of l s) (λ a s. then_do (value_of r s) (λ b s. value_or_fault (applied op a b) s)) s.turns (value_of-turns l s)
       (λ a t. turns_after-then_do (value_of r t) (λ b s. value_or_fault (applied op a b) s) t.turns (value_of-turns r t) (λ b u. given-turns (applied op a b) u))
+  value_of-turns _ s = omega arith
 
   values_of-turns : (es : Arguments) (s : ScriptState) → turns_after (values_of es s) ≤ s.turns
   values_of-turns no_arguments s = omega arith

@@ -74,18 +74,7 @@ number_uses (negsuc n) = refl
 
 operator_uses : (o : BinOp) → use_of (operator_code o) ≡ Nothing
 operator_uses op.Or = refl
-operator_uses op.And = refl
-operator_uses op.Eq = refl
-operator_uses op.Ne = refl
-operator_uses op.Lt = refl
-operator_uses op.Gt = refl
-operator_uses op.Le = refl
-operator_uses op.Ge = refl
-operator_uses op.Add = refl
-operator_uses op.Sub = refl
-operator_uses op.Mul = refl
-operator_uses op.Div = refl
-operator_uses op.Rem = refl
+operator_uses _ = refl
 
 within_uses : (step : ℤ) → use_of (within_code step) ≡ Nothing
 within_uses (pos step) = refl

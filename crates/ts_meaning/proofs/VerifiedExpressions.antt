@@ -58,18 +58,7 @@ number_is_plain shape (negsuc n) = record { next = refl; in_range = refl; pops_a
 
 operator_is_plain : (shape : Shape) (o : BinOp) → IsPlain shape (operator_code o) 2 1
 operator_is_plain shape op.Or = record { next = refl; in_range = refl; pops_are = refl; pushes_are = refl }
-operator_is_plain shape op.And = record { next = refl; in_range = refl; pops_are = refl; pushes_are = refl }
-operator_is_plain shape op.Eq = record { next = refl; in_range = refl; pops_are = refl; pushes_are = refl }
-operator_is_plain shape op.Ne = record { next = refl; in_range = refl; pops_are = refl; pushes_are = refl }
-operator_is_plain shape op.Lt = record { next = refl; in_range = refl; pops_are = refl; pushes_are = refl }
-operator_is_plain shape op.Gt = record { next = refl; in_range = refl; pops_are = refl; pushes_are = refl }
-operator_is_plain shape op.Le = record { next = refl; in_range = refl; pops_are = refl; pushes_are = refl }
-operator_is_plain shape op.Ge = record { next = refl; in_range = refl; pops_are = refl; pushes_are = refl }
-operator_is_plain shape op.Add = record { next = refl; in_range = refl; pops_are = refl; pushes_are = refl }
-operator_is_plain shape op.Sub = record { next = refl; in_range = refl; pops_are = refl; pushes_are = refl }
-operator_is_plain shape op.Mul = record { next = refl; in_range = refl; pops_are = refl; pushes_are = refl }
-operator_is_plain shape op.Div = record { next = refl; in_range = refl; pops_are = refl; pushes_are = refl }
-operator_is_plain shape op.Rem = record { next = refl; in_range = refl; pops_are = refl; pushes_are = refl }
+operator_is_plain shape _ = record { next = refl; in_range = refl; pops_are = refl; pushes_are = refl }
 
 takes-args : (o : Option FunShape) (count : ℕ) → takes o count ≡ true → args_in o ≡ count
 takes-args None count e = absurd cc
@@ -85,18 +74,12 @@ send_is_plain shape f p e =
 
 -- an expression needs room for its value
 pub need_is_some : (e : Expression) → 1 ≤ expr_need e
-need_is_some (Num n) = omega arith
-need_is_some (Shared v) = omega arith
-need_is_some (Private i) = omega arith
 need_is_some (Item p e) = need_is_some e
-need_is_some (Size p) = omega arith
 need_is_some (MsgItem e) = need_is_some e
-need_is_some MsgSize = omega arith
-need_is_some (Call f args) = omega arith
-need_is_some (SendBuf f p) = omega arith
 need_is_some (Neg e) = need_is_some e
 need_is_some (Not e) = need_is_some e
 need_is_some (Two o l r) = let h = need_is_some l in omega arith
+need_is_some _ = omega arith
 
 -- ---- expressions
 

@@ -56,16 +56,7 @@ ready_end {marks} {place} {end} {end'} e r = let P : ℕ → Type 0 = λ k. IsRe
 
 stmt_is_some : (x : Statement) → 0 < stmt_size x
 stmt_is_some (Set x e) = omega arith
-stmt_is_some (SetItem p i e) = omega arith
-stmt_is_some (Append p e) = omega arith
-stmt_is_some (Take x p) = omega arith
-stmt_is_some (Clear p) = omega arith
-stmt_is_some (Do f args) = omega arith
-stmt_is_some (DoSend f p) = omega arith
-stmt_is_some (If e a) = omega arith
-stmt_is_some (IfElse e a b) = omega arith
-stmt_is_some (For x from to step a) = omega arith
-stmt_is_some (While e a) = omega arith
+stmt_is_some _ = omega arith
 
 -- a block's first instruction, or what stands behind it, starts at its place
 block_start : {code : Code} (place : ℕ) (b : Block) → Stands code place (block_code place b) → is_start code (place + block_size b) ≡ true → is_start code place ≡ true

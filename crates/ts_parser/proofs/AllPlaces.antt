@@ -71,18 +71,7 @@ named w = record { from = λ front rest e. by front rest e }
 
 sign_silent : (o : BinOp) → Holds (is_silent (sign o))
 sign_silent op.Or = tt
-sign_silent op.And = tt
-sign_silent op.Eq = tt
-sign_silent op.Ne = tt
-sign_silent op.Lt = tt
-sign_silent op.Gt = tt
-sign_silent op.Le = tt
-sign_silent op.Ge = tt
-sign_silent op.Add = tt
-sign_silent op.Sub = tt
-sign_silent op.Mul = tt
-sign_silent op.Div = tt
-sign_silent op.Rem = tt
+sign_silent _ = tt
 
 mutual
   tree : (e : Tree) → Leaves (spelled e) (left e)
@@ -173,8 +162,7 @@ mutual
 
 keyword_silent : (k : DeclKind) → Holds (is_silent (decl_keyword k))
 keyword_silent decl.Shared = tt
-keyword_silent decl.Private = tt
-keyword_silent decl.Buffer = tt
+keyword_silent _ = tt
 
 start_silent : (b : Bool) (k : DeclKind) → Holds (is_silent (decl_start b k))
 start_silent true k = keyword_silent k

@@ -80,10 +80,7 @@ fails_by d bytes r f is h = fails (source_fault_of f) (told_so d bytes f (subst 
 -- a plain script is one without procedures, and refusals are the same
 pub same_refusal : (tokens : List Token) (len : ℕ) (f : SourceFault) → AnswersIn dialect.Plain tokens len (Err f) → Answers tokens len (Err f)
 same_refusal tokens len (fault.BadByte p) h = h
-same_refusal tokens len (fault.BigLiteral p) h = h
-same_refusal tokens len (fault.Unexpected p) h = h
-same_refusal tokens len (fault.TooDeep p) h = h
-same_refusal tokens len fault.NoMemory h = h
+same_refusal tokens len _ h = h
 
 pub plain_script : (bytes : List ℕ) (p : ProcScript) (s : Script) → s ≡ record { decls = p.decls; body = p.body } → ReadsIn dialect.Plain bytes (Ok p) → ReadsScript bytes (Ok s)
 plain_script bytes p s is (cuts tokens c a) =

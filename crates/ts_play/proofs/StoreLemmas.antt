@@ -89,16 +89,11 @@ module _ (w : Resource → Bool) where
 
   mutual
     value_of-keeps : (e : Expression) (s : ScriptState) → IsSameOutside w s.store (store_after (value_of e s))
-    value_of-keeps (Num n) s = unchanged w s.store
-    value_of-keeps (Shared v) s = unchanged w s.store
-    value_of-keeps (Private i) s = unchanged w s.store
     value_of-keeps (Item p e) s =
         then_do-keeps (value_of e s) (λ i s. value_or_fault (item_of (buffer_at s.store p.0) i) s) s.store (value_of-keeps e s)
         (λ i t. given-keeps (item_of (buffer_at t.store p.0) i) t)
-    value_of-keeps (Size p) s = unchanged w s.store
     value_of-keeps (MsgItem e) s =
         then_do-keeps (value_of e s) (λ i s. value_or_fault (item_of s.msg i) s) s.store (value_of-keeps e s) (λ i t. given-keeps (item_of t.msg i) t)
-    value_of-keeps MsgSize s = unchanged w s.store
     value_of-keeps (Call f args) s =
         then_do-keeps (values_of args s) (λ values s. next_answer f (first_ten values) s) s.store (values_of-keeps args s)
         (λ values t. answered-keeps f (first_ten values) t.left t)
@@ -108,6 +103,7 @@ module _ (w : Resource → Bool) where
     value_of-keeps (Two op l r) s =
         then_do-keeps (value_of l s) (λ a s. then_do (value_of r s) (λ b s. value_or_fault (applied op a b) s)) s.store (value_of-keeps l s)
         (λ a t. then_do-keeps (value_of r t) (λ b s. value_or_fault (applied op a b) s) t.store (value_of-keeps r t) (λ b u. given-keeps (applied op a b) u))
+    value_of-keeps _ s = unchanged w s.store
 
     values_of-keeps : (es : Arguments) (s : ScriptState) → IsSameOutside w s.store (store_after (values_of es s))
     values_of-keeps no_arguments s = unchanged w s.store

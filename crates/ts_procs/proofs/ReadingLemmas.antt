@@ -89,10 +89,6 @@ not_both bytes a f p q told = let e = same_reading bytes (Ok (written_of a)) (Er
 -- the names of a script decide what its text is read as
 pub named_read : (bytes : List ℕ) (s : ProcedureSource) (result : Result PScript ProcFault) → IsProcedureText bytes s → IsNamedScript s result → ReadsProcedures bytes result
 named_read bytes s (Ok script) text is = subst (IsProcedureText bytes) (sym is) text
-named_read bytes s (Err (NoProc name place)) text is = record { source = s; written = text; names = is }
-named_read bytes s (Err (Params place)) text is = record { source = s; written = text; names = is }
-named_read bytes s (Err (Again name place)) text is = record { source = s; written = text; names = is }
-named_read bytes s (Err (Reserved place)) text is = record { source = s; written = text; names = is }
 named_read bytes s (Err (BadByte place)) text is = absurd (named_alone s (BadByte place) is)
 named_read bytes s (Err (BigLiteral place)) text is = absurd (named_alone s (BigLiteral place) is)
 named_read bytes s (Err (Unexpected place)) text is = absurd (named_alone s (Unexpected place) is)
@@ -100,6 +96,7 @@ named_read bytes s (Err (TooDeep place)) text is = absurd (named_alone s (TooDee
 named_read bytes s (Err (TooLarge count)) text is = absurd (named_alone s (TooLarge count) is)
 named_read bytes s (Err (TooNested depth)) text is = absurd (named_alone s (TooNested depth) is)
 named_read bytes s (Err NoMemory) text is = tt
+named_read bytes s _ text is = record { source = s; written = text; names = is }
 
 -- the text of a script, and the refusal of one that spells none
 pub text_of_script : (bytes : List ℕ) (s : ProcScript) → ReadsIn Procedures bytes (Ok s) → IsProcedureText bytes (procedure_source_of s)

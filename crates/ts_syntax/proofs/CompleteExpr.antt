@@ -74,18 +74,7 @@ starts_expr (paren e) = starts _ _ tt
 -- the left operand of a comparison, sum or product is no looser than a comparison
 left_compares : (o : BinOp) (m : ℕ) → 3 ≤ level_of o → left_of o ≤ m → 3 ≤ m
 left_compares op.Or m h g = omega arith
-left_compares op.And m h g = omega arith
-left_compares op.Eq m h g = omega arith
-left_compares op.Ne m h g = omega arith
-left_compares op.Lt m h g = omega arith
-left_compares op.Gt m h g = omega arith
-left_compares op.Le m h g = omega arith
-left_compares op.Ge m h g = omega arith
-left_compares op.Add m h g = omega arith
-left_compares op.Sub m h g = omega arith
-left_compares op.Mul m h g = omega arith
-left_compares op.Div m h g = omega arith
-left_compares op.Rem m h g = omega arith
+left_compares _ m h g = omega arith
 
 starts_operand : (e : Tree) → Derived e → IsPart at_compare e → Starts begins_operand (spelled e)
 starts_operand (number n) d h = starts _ _ tt

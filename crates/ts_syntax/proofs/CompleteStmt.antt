@@ -64,18 +64,7 @@ third_starts s = subst (λ z. Holds (as_third z)) (sym s.are) (third_begins s.fi
 
 sign_follows : (o : BinOp) → Holds (after_operand (sign o))
 sign_follows op.Or = tt
-sign_follows op.And = tt
-sign_follows op.Eq = tt
-sign_follows op.Ne = tt
-sign_follows op.Lt = tt
-sign_follows op.Gt = tt
-sign_follows op.Le = tt
-sign_follows op.Ge = tt
-sign_follows op.Add = tt
-sign_follows op.Sub = tt
-sign_follows op.Mul = tt
-sign_follows op.Div = tt
-sign_follows op.Rem = tt
+sign_follows _ = tt
 
 -- an expression doesn't go on as `y [ ]`
 first_follows : (e : Tree) (m : TokenKind) → Holds (after_operand m) → (ms : List TokenKind) → Holds (as_first (spelled e ++ m ∷ ms))
@@ -302,8 +291,7 @@ mutual
 
 keyword_read : (l : Dialect) (k : DeclKind) (ds : List Decl) (ms : List TokenKind) (ps : List ℕ) → run (decl_keyword k ∷ ms) ps (decls l ds) ≡ run ms ps (decl_name l k true ds)
 keyword_read l decl.Shared ds ms ps = refl
-keyword_read l decl.Private ds ms ps = refl
-keyword_read l decl.Buffer ds ms ps = refl
+keyword_read l _ ds ms ps = refl
 
 -- names from behind one of a declaration of kind k on
 abbrev NamesRead : Dialect → DeclKind → List Decl → Type 0
@@ -422,10 +410,8 @@ procedures_read (q ∷ rest) d ds qs ms ps =
 -- tokens that begin with no declaration
 abbrev NoDecl : List TokenKind → Type 0
 NoDecl [] = Unit {0}
-NoDecl (kind.Shared ∷ ks) = ⊥
-NoDecl (kind.Private ∷ ks) = ⊥
-NoDecl (kind.Buffer ∷ ks) = ⊥
 NoDecl (k ∷ ks) = Unit {0}
+NoDecl _ = ⊥
 
 act_first : (k : TokenKind) → Holds (begins_act k) → (ks : List TokenKind) → NoDecl (k ∷ ks)
 act_first kind.Shared h ks = absurd h

@@ -195,12 +195,8 @@ pub trickle_rules : (d : Description) → IsTrue (is_trickle d.trickle)
 trickle_rules d = (setting_tests (parts_of d) (tests_of (parts_of d) d.valid).settings).trickle
 
 args_fit : (kind : FunKind) → nat_le (function_args kind) 4 ≡ true → (nat_le (function_args kind) 4 && (not (sends_buffer kind) || function_args kind == 0)) ≡ true
-args_fit Sense h = refl
 args_fit (Act args) h = rw h refl
-args_fit Send h = refl
-args_fit Id h = refl
-args_fit Rand h = refl
-args_fit Clock h = refl
+args_fit _ h = refl
 
 device_fits : (devices : ℕ) (o : Option DeviceId) → devices ≤ 8 → is_device devices o ≡ true → is_device 8 o ≡ true
 device_fits devices None few h = refl

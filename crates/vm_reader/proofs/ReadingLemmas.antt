@@ -72,13 +72,8 @@ description_of-text bytes text = rw (is_utf8-from_IsUtf8 bytes text) refl
 
 -- what gives a reading reads it
 pub reads-from : (r : Result Description DescFault) (reading : Result Parts DescFault) → GivesField parts_of r reading → ReadsDescription r reading
-reads-from (Ok d) reading e = e
-reads-from (Err NotToml) reading e = e
-reads-from (Err (BadField key)) reading e = e
-reads-from (Err (OverLimit key)) reading e = e
-reads-from (Err (Duplicate name)) reading e = e
-reads-from (Err (SlowImax need have)) reading e = e
 reads-from (Err NoMemory) reading e = tt
+reads-from _ reading e = e
 
 -- the exit of a `?` passes the refusal on
 pub refused : {X Y : Type 0} (view : X → Y) (r : Result X DescFault) (e : DescFault) (reading : Result Y DescFault) → IsErrAnd r (λ d. d ≡ e) → reading ≡ Err e → GivesField view r reading

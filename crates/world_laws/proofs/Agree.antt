@@ -33,16 +33,8 @@ use Rattle.world_laws.proofs.Points.{nodes-here, nodes-other}
 -- ---- entries that install nothing
 
 abbrev pub NoInstall : JournalEntry → Type 0
-NoInstall (Posted n h c payload) = Unit {0}
-NoInstall (Dropped h cause) = Unit {0}
-NoInstall (Started n) = Unit {0}
-NoInstall (Asked n f args) = Unit {0}
-NoInstall (Answered n value) = Unit {0}
-NoInstall (Ended n how) = Unit {0}
 NoInstall (Installed p) = ⊥
-NoInstall Reset = Unit {0}
-NoInstall (Seen store) = Unit {0}
-NoInstall (Void cause) = Unit {0}
+NoInstall _ = Unit {0}
 
 abbrev pub NoneInstall : List JournalEntry → Type 0
 NoneInstall [] = Unit {0}
@@ -53,32 +45,16 @@ none-append [] ys a b = b
 none-append (x ∷ xs) ys a b = (a.0, none-append xs ys a.1 b)
 
 same-one : (m : Machine) (r : NodeState) (t : JournalEntry) → NoInstall t → (next_state m r t).installed ≡ r.installed
-same-one m r (Posted n h c payload) a = refl
-same-one m r (Dropped h cause) a = refl
-same-one m r (Started n) a = refl
-same-one m r (Asked n f args) a = refl
-same-one m r (Answered n value) a = refl
-same-one m r (Ended n how) a = refl
 same-one m r (Installed p) a = absurd a
-same-one m r Reset a = refl
-same-one m r (Seen store) a = refl
-same-one m r (Void cause) a = refl
+same-one m r _ a = refl
 
 same-all : (m : Machine) (r : NodeState) (told : List JournalEntry) → NoneInstall told → (state_after_entries m r told).installed ≡ r.installed
 same-all m r [] a = refl
 same-all m r (t ∷ told) a = same-all m (next_state m r t) told a.1 ∙ same-one m r t a.0
 
 start-none : (t : JournalEntry) → IsStart t → NoInstall t
-start-none (Posted n h c payload) a = tt
-start-none (Dropped h cause) a = tt
-start-none (Started n) a = tt
-start-none (Asked n f args) a = tt
-start-none (Answered n value) a = tt
-start-none (Ended n how) a = tt
 start-none (Installed p) a = a
-start-none Reset a = tt
-start-none (Seen store) a = tt
-start-none (Void cause) a = tt
+start-none _ a = tt
 
 starts-none : (told : List JournalEntry) → All IsStart told → NoneInstall told
 starts-none [] all = tt
@@ -89,8 +65,7 @@ by_made xs ys is none = subst NoneInstall (sym is) none
 
 mark-none : (n : ℕ) (e : End) → NoInstall (entry_at n e)
 mark-none n end.Halt = tt
-mark-none n (end.Fault kind) = tt
-mark-none n (end.Wants f args) = tt
+mark-none n _ = tt
 
 turn-none : (m : Machine) (r : NodeState) (p : Pace) (n : ℕ) (t : Turn) → IsTurn m r p n t → NoneInstall t.told
 turn-none m r p n t is = elim (cases_lt (p.counts t.invocation + n) (mark_of m r t.invocation)) [
@@ -126,12 +101,8 @@ installs-rest m r q p told is = elim (cases_Bool (m.runs_once p.handler)) [
 
 -- what a deed's entries and its node's settling do to what is installed
 abbrev After : Deed → (HandlerId → Option HeldProgram) → HandlerId → Option HeldProgram
-After Nothing f h = f h
 After (Installing p) f h = if h.0 == p.handler.0 then Some p else f h
-After (Posting hs payload) f h = f h
-After (Answering inv value) f h = f h
-After Showing f h = f h
-After Resetting f h = f h
+After _ f h = f h
 
 deed-after : (m : Machine) (r : NodeState) (q : Pace) (d : Deed) (told : List JournalEntry) (h : HandlerId) → DeedMakes m d r q told → (state_after_entries m r told).installed h ≡ After d r.installed h
 deed-after m r q Nothing told h is = ap (λ (f : HandlerId → Option HeldProgram). f h) (same-all m r told (by_made told [] is tt))
@@ -155,22 +126,15 @@ event-after m r q d told after h both =
 -- ---- what a deed does to the exchange's version
 
 abbrev pub HeldAfter : Deed → ℕ → ℕ → ℕ
-HeldAfter Nothing h old = old
 HeldAfter (Installing p) h old = if p.handler.0 == h then p.version else old
-HeldAfter (Posting hs payload) h old = old
-HeldAfter (Answering inv value) h old = old
-HeldAfter Showing h old = old
-HeldAfter Resetting h old = old
+HeldAfter _ h old = old
 
 abbrev Moves : ℕ → List Happening → NodeEffect → Type 0
 Moves h hs e = held_version h (e.happened ++ hs) ≡ HeldAfter e.deed h (held_version h hs)
 
 moves-line : (h : ℕ) (hs : List Happening) (x : Want) → Moves h hs (of_line x)
 moves-line h hs (Inject p) = refl
-moves-line h hs (Post g payload) = refl
-moves-line h hs Show = refl
-moves-line h hs ResetNode = refl
-moves-line h hs (Noise bytes) = refl
+moves-line h hs _ = refl
 
 moves-planned : (h : ℕ) (hs : List Happening) (o : Option PlannedLine) → Moves h hs (option_map_or (λ (l : PlannedLine). of_line l.what) o no_effect)
 moves-planned h hs None = refl
@@ -181,10 +145,8 @@ moves-fragment h hs packet None = refl
 moves-fragment h hs packet (Some g) = refl
 
 moves-packet : (w : World) (h : ℕ) (hs : List Happening) (packet : Packet) → Moves h hs (of_packet w hs packet)
-moves-packet w h hs (Vector versions) = refl
-moves-packet w h hs (Status g version missing) = refl
 moves-packet w h hs (Fragment g version index count large bytes) = moves-fragment h hs (Fragment g version index count large bytes) (completed_by (Fragment g version index count large bytes) hs)
-moves-packet w h hs (App payload) = refl
+moves-packet w h hs _ = refl
 
 moves-point : (w : World) (h : ℕ) (n : Node) (o : Fire) → Moves h n.exchange (of_point w n o)
 moves-point w h n fire.Send = refl
@@ -196,12 +158,10 @@ moves-slot h hs (Some slot) = refl
 
 pub moves : (w : World) (h : ℕ) (n : Node) (c : Cause) → Moves h n.exchange (node_effect w n c)
 moves w h n (event.Planned line) = moves-planned h n.exchange (slice_get w.plan line)
-moves w h n (event.Period k g) = refl
 moves w h n (event.Fire k) = moves-point w h n (trickle.at_point n.timer.set n.timer.running w.suppress)
-moves w h n (event.Expire k) = refl
 moves w h n (event.Pump k) = moves-slot h n.exchange (next_slot (handlers w) n.exchange)
-moves w h n (event.Due k x inv value) = refl
 moves w h n (event.Deliver link number packet) = moves-packet w h n.exchange packet
+moves w h n _ = refl
 
 -- ---- both
 
@@ -210,11 +170,6 @@ abbrev pub held-of : Option HeldProgram → ℕ
 held-of installed = option_map_or (λ p. p.version) installed 0
 
 both-move : (d : Deed) (f : HandlerId → Option HeldProgram) (h old : ℕ) → held-of (f (record { 0 = h })) ≡ old → held-of (After d f (record { 0 = h })) ≡ HeldAfter d h old
-both-move Nothing f h old is = is
-both-move (Posting hs payload) f h old is = is
-both-move (Answering inv value) f h old is = is
-both-move Showing f h old is = is
-both-move Resetting f h old is = is
 both-move (Installing p) f h old is = elim (eqb_tells p.handler.0 h) [
   | inl same ↦ rw (same.0, turned same.1) refl
   | inr other ↦ rw (other.0, apart_turned other.1) is
@@ -224,6 +179,7 @@ both-move (Installing p) f h old is = elim (eqb_tells p.handler.0 h) [
 
   apart_turned : p.handler.0 ≢ h → (h == p.handler.0) ≡ false
   apart_turned e = elim (eqb_tells h p.handler.0) [ inl a ↦ absurd (e (sym a.1)) | inr b ↦ b.0 ]
+both-move _ f h old is = is
 
 pub held-is : (r : NodeState) (h : HandlerId) → held r h ≡ held-of (r.installed h)
 held-is r h = refl

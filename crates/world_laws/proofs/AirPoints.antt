@@ -33,9 +33,7 @@ use Rattle.world_laws.proofs.Sent.{told_as, decided, sendings-decided}
 
 abbrev is_vector : Packet → Bool
 is_vector (Vector versions) = true
-is_vector (Status g version missing) = false
-is_vector (Fragment g version index count large bytes) = false
-is_vector (App payload) = false
+is_vector _ = false
 
 vector-bytes : (vm : ℕ) (p : Packet) → sent_as_vector (packet_bytes vm p) ≡ (if is_vector p then Some fire.Send else None)
 vector-bytes vm (Vector versions) = refl
@@ -113,11 +111,8 @@ none-said at true = refl
 none-said at false = refl
 
 line-point : (k : ℕ) (at : Stamp) (node : ℕ) (x : Want) → filter_map (point_told k) (map (stamped at node) (of_line x).first) ++ told_if (node == k) (vectors_sent at.time (of_line x).sends) ≡ []
-line-point k at node (Inject p) = none-told (node == k)
-line-point k at node (Post h payload) = none-told (node == k)
-line-point k at node Show = none-told (node == k)
-line-point k at node ResetNode = none-told (node == k)
 line-point k at node (Noise bytes) = ap (λ (xs : List PointDone). xs ++ told_if (node == k) []) (none-said at (node == k)) ∙ none-told (node == k)
+line-point k at node _ = none-told (node == k)
 
 planned-point : (k : ℕ) (at : Stamp) (node : ℕ) (o : Option PlannedLine)
     → filter_map (point_told k) (map (stamped at node) (option_map_or (λ (l : PlannedLine). of_line l.what) o no_effect).first) ++ told_if (node == k) (vectors_sent at.time (option_map_or (λ (l : PlannedLine). of_line l.what) o no_effect).sends) ≡ []
@@ -199,17 +194,12 @@ start-points w k (j ∷ js) = by (j == k) (start-points w k js) where
 
 -- a point is of its own node
 own-point : (w : World) (k : ℕ) (nodes : ℕ → Node) (time : ℕ) (c : Cause) → point_of w k (nodes (event_node w c)) time c ≡ point_of w k (nodes k) time c
-own-point w k nodes time (event.Planned line) = refl
-own-point w k nodes time (event.Period node h) = refl
 own-point w k nodes time (event.Fire node) = elim (eqb_tells node k) [
   | inl same ↦ ap (λ (i : ℕ). point_of w k (nodes i) time (event.Fire node)) same.1
   | inr other ↦ ap (λ (b : Bool). if b then record { time = time; does = trickle.at_point (nodes node).timer.set (nodes node).timer.running w.suppress } ∷ [] else []) other.0
       ∙ sym (ap (λ (b : Bool). if b then record { time = time; does = trickle.at_point (nodes k).timer.set (nodes k).timer.running w.suppress } ∷ [] else []) other.0)
 ]
-own-point w k nodes time (event.Expire node) = refl
-own-point w k nodes time (event.Pump node) = refl
-own-point w k nodes time (event.Due node c inv value) = refl
-own-point w k nodes time (event.Deliver link number packet) = refl
+own-point w k nodes time _ = refl
 
 pub points_are_told : (w : World) → PointsAreTold w
 points_are_told w [] k = start-points w k (range_with_len 0 w.nodes)

@@ -38,10 +38,7 @@ begun_then time (Some l) = record { time = time; length = l } ∷ []
 
 line-begins : (k : ℕ) (at : Stamp) (node : ℕ) (x : Want) → filter_map (begun_by k) (map (stamped at node) (of_line x).first) ≡ []
 line-begins k at node (Inject p) = refl
-line-begins k at node (Post h payload) = refl
-line-begins k at node Show = refl
-line-begins k at node ResetNode = refl
-line-begins k at node (Noise bytes) = refl
+line-begins k at node _ = refl
 
 planned-begins : (k : ℕ) (at : Stamp) (node : ℕ) (o : Option PlannedLine) → filter_map (begun_by k) (map (stamped at node) (option_map_or (λ (l : PlannedLine). of_line l.what) o no_effect).first) ≡ []
 planned-begins k at node None = refl
@@ -57,12 +54,9 @@ slot-begins hs k at node (Some slot) = refl
 
 head-begins : (w : World) (n : Node) (k : ℕ) (at : Stamp) (node : ℕ) (c : Cause) → filter_map (begun_by k) (map (stamped at node) (node_effect w n c).first) ≡ []
 head-begins w n k at node (event.Planned line) = planned-begins k at node (slice_get w.plan line)
-head-begins w n k at node (event.Period i h) = refl
 head-begins w n k at node (event.Fire i) = point-begins w n k at node (trickle.at_point n.timer.set n.timer.running w.suppress)
-head-begins w n k at node (event.Expire i) = refl
 head-begins w n k at node (event.Pump i) = slot-begins n.exchange k at node (next_slot (handlers w) n.exchange)
-head-begins w n k at node (event.Due i c inv value) = refl
-head-begins w n k at node (event.Deliver link number packet) = refl
+head-begins w n k at node _ = refl
 
 interval-begins : (k : ℕ) (at : Stamp) (node : ℕ) (o : Option ℕ) → filter_map (begun_by k) (map (stamped at node) (interval_air o)) ≡ (if node == k then begun_then at.time o else [])
 interval-begins k at node None = by (node == k) where

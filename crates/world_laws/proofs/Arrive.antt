@@ -35,13 +35,8 @@ use Rattle.world_laws.proofs.Sent.{told_as, told_by, decided, sendings-decided, 
 -- ---- what is on its way
 
 abbrev pub on_its_way : World → Cause → Option Arrival
-on_its_way w (event.Planned line) = None
-on_its_way w (event.Period node h) = None
-on_its_way w (event.Fire node) = None
-on_its_way w (event.Expire node) = None
-on_its_way w (event.Pump node) = None
-on_its_way w (event.Due node c inv value) = None
 on_its_way w (event.Deliver link number packet) = Some (record { to = receiver w link; number = number; from = sender w link })
+on_its_way w _ = None
 
 abbrev pub coming : World → List Cause → List Arrival
 coming w cs = filter_map (on_its_way w) cs
@@ -74,16 +69,11 @@ quiet-one w t x xs none = by (x.time == t) where
   by false = refl
 
 quiet-period : (w : World) (t : ℕ) (c : Cause) (time : ℕ) → coming w (of_time t (next_period w c time)) ≡ []
-quiet-period w t (event.Planned line) time = refl
 quiet-period w t (event.Period node h) time = by (period_of w h.0) where
   by : (o : Option ℕ) → coming w (of_time t (option_map_or (λ p. record { time = time + p; cause = event.Period node h } ∷ []) o [])) ≡ []
   by None = refl
   by (Some p) = quiet-one w t (record { time = time + p; cause = event.Period node h }) [] refl
-quiet-period w t (event.Fire node) time = refl
-quiet-period w t (event.Expire node) time = refl
-quiet-period w t (event.Pump node) time = refl
-quiet-period w t (event.Due node c inv value) time = refl
-quiet-period w t (event.Deliver link number packet) time = refl
+quiet-period w t _ time = refl
 
 quiet-of_interval : (w : World) (t node : ℕ) (timer : Timer) → coming w (of_time t (of_interval node timer)) ≡ []
 quiet-of_interval w t node timer =
@@ -188,10 +178,7 @@ delivered_by w c = cons_option (on_its_way w c) []
 
 line-arrives : (at : Stamp) (t node : ℕ) (x : Want) → arrivals_at t (map (stamped at node) (of_line x).first) ≡ []
 line-arrives at t node (Inject p) = refl
-line-arrives at t node (Post h payload) = refl
-line-arrives at t node Show = refl
-line-arrives at t node ResetNode = refl
-line-arrives at t node (Noise bytes) = refl
+line-arrives at t node _ = refl
 
 planned-arrives : (at : Stamp) (t node : ℕ) (o : Option PlannedLine) → arrivals_at t (map (stamped at node) (option_map_or (λ (l : PlannedLine). of_line l.what) o no_effect).first) ≡ []
 planned-arrives at t node None = refl
@@ -207,15 +194,13 @@ slot-arrives hs at t node (Some slot) = refl
 
 head-arrives : (w : World) (n : Node) (at : Stamp) (t : ℕ) (c : Cause) → arrivals_at t (map (stamped at (event_node w c)) (node_effect w n c).first) ≡ (if at.time == t then delivered_by w c else [])
 head-arrives w n at t (event.Planned line) = planned-arrives at t (event_node w (event.Planned line)) (slice_get w.plan line) ∙ sym (either-none (at.time == t))
-head-arrives w n at t (event.Period node h) = sym (either-none (at.time == t))
 head-arrives w n at t (event.Fire node) = point-arrives w n at t node (trickle.at_point n.timer.set n.timer.running w.suppress) ∙ sym (either-none (at.time == t))
-head-arrives w n at t (event.Expire node) = sym (either-none (at.time == t))
 head-arrives w n at t (event.Pump node) = slot-arrives n.exchange at t node (next_slot (handlers w) n.exchange) ∙ sym (either-none (at.time == t))
-head-arrives w n at t (event.Due node c inv value) = sym (either-none (at.time == t))
 head-arrives w n at t (event.Deliver link number packet) = by (at.time == t) where
   by : (b : Bool) → cons_option {X = Arrival} (if b then Some (record { to = receiver w link; number = number; from = sender w link }) else None) [] ≡ (if b then record { to = receiver w link; number = number; from = sender w link } ∷ [] else [])
   by true = refl
   by false = refl
+head-arrives w n at t _ = sym (either-none (at.time == t))
 
 interval-arrives : (at : Stamp) (t node : ℕ) (o : Option ℕ) → arrivals_at t (map (stamped at node) (interval_air o)) ≡ []
 interval-arrives at t node None = refl

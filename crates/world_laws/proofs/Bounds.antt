@@ -125,15 +125,7 @@ logs-upto w ms logs told k l below =
 named-entry : (l : Log) (e : Entry) → IsNamedBelow (length l.images) (length l.stores) e → IsNamed l e
 named-entry l (entry.Install h version image) named = named
 named-entry l (entry.Seen store) named = named
-named-entry l (entry.Post n h c payload) named = tt
-named-entry l (entry.Dropped h cause) named = tt
-named-entry l (entry.Start n) named = tt
-named-entry l (entry.Ask n f args) named = tt
-named-entry l (entry.Answer n value) named = tt
-named-entry l (entry.Halt n) named = tt
-named-entry l (entry.Fault n kind) named = tt
-named-entry l entry.Reset named = tt
-named-entry l (entry.Void cause) named = tt
+named-entry l _ named = tt
 
 named-all : (l : Log) (es : List Stamped) → AreNamedBelow (length l.images) (length l.stores) es → All (λ (e : Stamped). IsNamed l e.entry) es
 named-all l [] named = All-nil (λ (e : Stamped). IsNamed l e.entry)

@@ -70,8 +70,6 @@ AreAlike v [] = Unit {0}
 AreAlike v (part ∷ parts) = IsAlike v part × AreAlike v parts
 
 part-alike : (v : Version) (p : Packet) → IsTame v p → AreAlike v (cons_option (part_in v.handler v.version p) [])
-part-alike v (Vector versions) tame = tt
-part-alike v (Status g version missing) tame = tt
 part-alike v (Fragment g version index count large bytes) tame = by ((g.0 == v.handler) && (version == v.version)) refl where
   by : (b : Bool) → ((g.0 == v.handler) && (version == v.version)) ≡ b → AreAlike v (cons_option (if b then Some (record { index = index; count = count; large = large; bytes = bytes }) else None) [])
   by false is = tt
@@ -84,7 +82,7 @@ part-alike v (Fragment g version index count large bytes) tame = by ((g.0 == v.h
         ]
         | inr other ↦ (let clash : true ≡ false = sym both.0 ∙ other.0 in cc)
       ]
-part-alike v (App payload) tame = tt
+part-alike v _ tame = tt
 
 alike-cons : (v : Version) (o : Option TargetFragment) (parts : List TargetFragment) → AreAlike v (cons_option o []) → AreAlike v parts → AreAlike v (cons_option o parts)
 alike-cons v None parts one all = all
@@ -277,9 +275,6 @@ complete-stays h (Fragment g version index count large bytes) hs by_none is = el
 
 -- a fragment that completes another handler's program leaves this one's as it is
 pub complete-other : (h : ℕ) (p : Packet) (hs : List Happening) (g : HandlerId) → completed_by p hs ≡ Some g → (g.0 ≡ h → ⊥) → complete_version h hs ≡ 0 → complete_version h (Hears p ∷ hs) ≡ 0
-complete-other h (Vector versions) hs g by_g other is = cc
-complete-other h (Status k version missing) hs g by_g other is = cc
-complete-other h (App payload) hs g by_g other is = cc
 complete-other h (Fragment k version index count large bytes) hs g by_g other is = elim (eqb_tells k.0 h) [
   | inl same ↦ absurd (other (sym (own (nat_lt (complete_version k.0 hs) (complete_version k.0 (Hears (Fragment k version index count large bytes) ∷ hs))) by_g) ∙ same.1))
   | inr apart ↦ older-complete h (Fragment k version index count large bytes) hs (rw apart.0 (zero_not_newer h hs)) (rw apart.0 refl) ∙ is
@@ -287,3 +282,4 @@ complete-other h (Fragment k version index count large bytes) hs g by_g other is
   own : (b : Bool) → (if b then Some k else None) ≡ Some g → k.0 ≡ g.0
   own true given = let same : k ≡ g = cc in ap (λ (x : HandlerId). x.0) same
   own false given = cc
+complete-other h _ hs g by_g other is = cc

@@ -138,16 +138,11 @@ one x y (inl e) = sym e
 one x y (inr h) = absurd h
 
 period_source : (w : World) (s : WorldState) (m : Moment) (x : Scheduled) (c : Cause) → Among x (next_period w c m.time) → Source w s m x
-period_source w s m x (event.Planned line) h = absurd h
 period_source w s m x (event.Period node g) h = by (period_of w g.0) h where
   by : (o : Option ℕ) → Among x (option_map_or (λ p. at (m.time + p) (event.Period node g) ∷ []) o []) → Source w s m x
   by None a = absurd a
   by (Some p) a = let is = one x (at (m.time + p) (event.Period node g)) a in period (ap (λ (y : Scheduled). kind y.cause) is) (omega (arith, ap (λ (y : Scheduled). y.time) is))
-period_source w s m x (event.Fire node) h = absurd h
-period_source w s m x (event.Expire node) h = absurd h
-period_source w s m x (event.Pump node) h = absurd h
-period_source w s m x (event.Due node c inv value) h = absurd h
-period_source w s m x (event.Deliver link number packet) h = absurd h
+period_source w s m x _ h = absurd h
 
 interval_source : (w : World) (s : WorldState) (m : Moment) (x : Scheduled) (o : Option ℕ) → begun_length (node_at w s m) (effect_at w s m) ≡ o
     → Among x (new_interval (event_node w m.cause) o (node_after w (node_at w s m) m).timer) → Source w s m x

@@ -34,16 +34,8 @@ abbrev IsOwn : JournalEntry → Type 0
 IsOwn t = given_in t ≡ None
 
 start-own : (t : JournalEntry) → IsStart t → IsOwn t
-start-own (Posted n h c payload) a = absurd a
-start-own (Dropped h cause) a = absurd a
 start-own (Started n) a = refl
-start-own (Asked n f args) a = absurd a
-start-own (Answered n value) a = absurd a
-start-own (Ended n how) a = absurd a
-start-own (Installed p) a = absurd a
-start-own Reset a = absurd a
-start-own (Seen store) a = absurd a
-start-own (Void cause) a = absurd a
+start-own _ a = absurd a
 
 starts-own : (told : List JournalEntry) → All IsStart told → All IsOwn told
 starts-own [] all = All-nil IsOwn
@@ -51,8 +43,7 @@ starts-own (t ∷ told) all = All-cons IsOwn t told (start-own t (All-head IsSta
 
 mark-own : (n : ℕ) (e : End) → IsOwn (entry_at n e)
 mark-own n end.Halt = refl
-mark-own n (end.Fault kind) = refl
-mark-own n (end.Wants f args) = refl
+mark-own n _ = refl
 
 own-made : (xs ys : List JournalEntry) → xs ≡ ys → All IsOwn ys → All IsOwn xs
 own-made xs ys is own = subst (λ (told : List JournalEntry). All IsOwn told) (sym is) own
@@ -145,15 +136,7 @@ journals_tell_what_came w k (m ∷ before) come =
 
 own-payload : (pl : ArrayVec ℤ) (t : JournalEntry) → IsOwn t → HasPayload pl t
 own-payload pl (Posted n h c payload) own = cc
-own-payload pl (Dropped h cause) own = tt
-own-payload pl (Started n) own = tt
-own-payload pl (Asked n f args) own = tt
-own-payload pl (Answered n value) own = tt
-own-payload pl (Ended n how) own = tt
-own-payload pl (Installed p) own = tt
-own-payload pl Reset own = tt
-own-payload pl (Seen store) own = tt
-own-payload pl (Void cause) own = tt
+own-payload pl _ own = tt
 
 own-payloads : (pl : ArrayVec ℤ) (told : List JournalEntry) → All IsOwn told → All (HasPayload pl) told
 own-payloads pl [] all = All-nil (HasPayload pl)

@@ -30,10 +30,8 @@ pub data Happens (w : World) (before : List Happening) (c : Cause) (e : NodeEffe
 
 line : (w : World) (before : List Happening) (i : ℕ) (x : Want) → Happens w before (event.Planned i) (of_line x)
 line w before i (Inject p) = injected i p refl refl refl
-line w before i (Post h payload) = nothing refl
-line w before i Show = nothing refl
 line w before i ResetNode = forgot refl refl
-line w before i (Noise bytes) = nothing refl
+line w before i _ = nothing refl
 
 planned : (w : World) (before : List Happening) (i : ℕ) (o : Option PlannedLine) → Happens w before (event.Planned i) (option_map_or (λ (l : PlannedLine). of_line l.what) o no_effect)
 planned w before i None = nothing refl
@@ -69,13 +67,11 @@ pumped w before k (Some slot) is = sent k slot refl refl is
 
 pub happens : (w : World) (n : Node) (c : Cause) → Happens w n.exchange c (node_effect w n c)
 happens w n (event.Planned x) = planned w n.exchange x (slice_get w.plan x)
-happens w n (event.Period node h) = nothing refl
 happens w n (event.Fire node) = point w n (event.Fire node) (trickle.at_point n.timer.set n.timer.running w.suppress)
-happens w n (event.Expire node) = nothing refl
 happens w n (event.Pump node) = pumped w n.exchange node (next_slot (handlers w) n.exchange) refl
-happens w n (event.Due node x inv value) = nothing refl
 happens w n (event.Deliver link number packet) =
     with_first w n.exchange (event.Deliver link number packet) (of_packet w n.exchange packet) _ (packet_heard w n.exchange link number packet)
+happens w n _ = nothing refl
 
 -- ---- what installs
 
@@ -94,11 +90,9 @@ installer-fragment before j number packet (Some h) p is deed =
     inr (j, number, packet, refl, is ∙ ap (λ (x : HeldProgram). Some x.handler) same, sym same ∙ ap (λ (x : HeldProgram). collected x.handler (Hears packet ∷ before)) same)
 
 installer-packet : (w : World) (before : List Happening) (j number : ℕ) (packet : Packet) (p : HeldProgram) → (of_packet w before packet).deed ≡ Installing p → Installer (event.Deliver j number packet) before p
-installer-packet w before j number (Vector versions) p is = cc
-installer-packet w before j number (Status g version missing) p is = cc
 installer-packet w before j number (Fragment g version index count large bytes) p is =
     installer-fragment before j number (Fragment g version index count large bytes) (completed_by (Fragment g version index count large bytes) before) p refl is
-installer-packet w before j number (App payload) p is = cc
+installer-packet w before j number _ p is = cc
 
 point-deed : (w : World) (n : Node) (o : Fire) (p : HeldProgram) → (of_point w n o).deed ≡ Installing p → ⊥
 point-deed w n fire.Send p is = cc
@@ -110,9 +104,7 @@ slot-deed before (Some slot) p is = cc
 
 pub installer : (w : World) (n : Node) (c : Cause) (p : HeldProgram) → (node_effect w n c).deed ≡ Installing p → Installer c n.exchange p
 installer w n (event.Planned x) p is = inl (x, refl)
-installer w n (event.Period node h) p is = cc
 installer w n (event.Fire node) p is = absurd (point-deed w n (trickle.at_point n.timer.set n.timer.running w.suppress) p is)
-installer w n (event.Expire node) p is = cc
 installer w n (event.Pump node) p is = absurd (slot-deed n.exchange (next_slot (handlers w) n.exchange) p is)
-installer w n (event.Due node x inv value) p is = cc
 installer w n (event.Deliver link number packet) p is = installer-packet w n.exchange link number packet p is
+installer w n _ p is = cc

@@ -35,9 +35,6 @@ use Rattle.world_laws.proofs.Tame.{IsTameNode, IsTameWorld, run-tame}
 -- ---- who holds the version goes on to hold it
 
 completed-target : (p : Packet) (hs : List Happening) (g : HandlerId) → completed_by p hs ≡ Some g → 1 ≤ target_version g.0 (Hears p ∷ hs)
-completed-target (Vector versions) hs g by_g = cc
-completed-target (Status k version missing) hs g by_g = cc
-completed-target (App payload) hs g by_g = cc
 completed-target (Fragment k version index count large bytes) hs g by_g = own (nat_lt (complete_version k.0 hs) (complete_version k.0 (Hears packet ∷ hs))) refl by_g where
   packet : Packet
   packet = Fragment k version index count large bytes
@@ -54,6 +51,7 @@ completed-target (Fragment k version index count large bytes) hs g by_g = own (n
       subst (λ (x : HandlerId). 1 ≤ target_version x.0 (Hears (Fragment k version index count large bytes) ∷ hs)) same
       (most (is_some (collected_image k.0 (Hears (Fragment k version index count large bytes) ∷ hs))) _ (omega (arith, over)))
   own false more given = cc
+completed-target _ hs g by_g = cc
 
 -- no program of the handler is injected
 abbrev NoneInjected : Version → Cause → NodeEffect → Type 0

@@ -21,10 +21,8 @@ use Rattle.world_rules.specs.State.{Moment}
 -- ---- a mark is of a fragment that the held image has
 
 asked-within : (h i : ℕ) (p : Packet) (hs : List Happening) → asks_of h i p hs ≡ true → nat_lt i (count_of (held_image h hs)) ≡ true
-asked-within h i (Vector versions) hs is = cc
 asked-within h i (Status g version missing) hs is = let both = and_parts (g.0 == h && version == held_version h hs) (nat_lt i (count_of (held_image h hs)) && bit_at missing i == 1) is in (and_parts (nat_lt i (count_of (held_image h hs))) (bit_at missing i == 1) both.1).0
-asked-within h i (Fragment g version index count large bytes) hs is = cc
-asked-within h i (App payload) hs is = cc
+asked-within h i _ hs is = cc
 
 pub marked-within : (h i : ℕ) (hs : List Happening) → is_marked h i hs ≡ true → nat_lt i (count_of (held_image h hs)) ≡ true
 marked-within h i [] is = cc
@@ -40,10 +38,8 @@ marked-within h i (Forgets ∷ hs) is = cc
 
 -- a fragment is one of an injected program's image
 abbrev pub IsOfInjected : World → List Moment → Packet → Type 0
-IsOfInjected w ms (Vector versions) = Unit {0}
-IsOfInjected w ms (Status g version missing) = Unit {0}
 IsOfInjected w ms (Fragment g version index count large bytes) = (image : List ℕ) × WasInjected w ms g.0 version image × (count ≡ count_of image) × (bytes.items ≡ piece_at image index)
-IsOfInjected w ms (App payload) = Unit {0}
+IsOfInjected w ms _ = Unit {0}
 
 abbrev pub AreOfInjected : World → List Moment → List Packet → Type 0
 AreOfInjected w ms [] = Unit {0}
@@ -92,9 +88,6 @@ fragments-of w ms h version image ps one was all i count large bytes contains =
 
 -- a target that is complete has a fragment
 part-of : (w : World) (ms : List Moment) (h version : ℕ) (p : Packet) (part : TargetFragment) → part_in h version p ≡ Some part → IsOfInjected w ms p → (image : List ℕ) × WasInjected w ms h version image
-part-of w ms h version (Vector versions) part is of = cc
-part-of w ms h version (Status g told missing) part is of = cc
-part-of w ms h version (App payload) part is of = cc
 part-of w ms h version (Fragment g told index count large bytes) part is of = by (g.0 == h && told == version) refl is where
   by : (b : Bool) → (g.0 == h && told == version) ≡ b → (if b then Some (record { index = index; count = count; large = large; bytes = bytes }) else None) ≡ Some part → (image : List ℕ) × WasInjected w ms h version image
   by false test given = cc
@@ -107,6 +100,7 @@ part-of w ms h version (Fragment g told index count large bytes) part is of = by
           | inl same ↦ (of.0, subst (λ (n : ℕ). WasInjected w ms h n of.0) same.1 (subst (λ (n : ℕ). WasInjected w ms n told of.0) own.1 of.1))
         ]
       ]
+part-of w ms h version _ part is of = cc
 
 first-of : (w : World) (ms : List Moment) (h : ℕ) (hs : List Happening) (made : ArrayVec ℕ) → AreOfInjected w ms (heard_since h hs) → collected_image h hs ≡ Some made → (image : List ℕ) × WasInjected w ms h (target_version h hs) image
 first-of w ms h hs made all is = by (target_parts h hs) refl is where

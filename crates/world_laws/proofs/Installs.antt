@@ -72,15 +72,11 @@ held-here w before m h = ap (λ (n : Node). held_version h n.exchange) (nodes-he
 
 -- it is as before, or a program of the handler was installed
 held-source : (d : Deed) (h old : ℕ) → (HeldAfter d h old ≡ old) ⊎ ((p : HeldProgram) × (d ≡ Installing p) × (p.handler.0 ≡ h) × (HeldAfter d h old ≡ p.version))
-held-source Nothing h old = inl refl
-held-source (Posting hs payload) h old = inl refl
-held-source (Answering inv value) h old = inl refl
-held-source Showing h old = inl refl
-held-source Resetting h old = inl refl
 held-source (Installing p) h old = elim (eqb_tells p.handler.0 h) [
   | inl same ↦ inr (p, refl, same.1, rw same.0 refl)
   | inr other ↦ inl (rw other.0 refl)
 ]
+held-source _ h old = inl refl
 
 held-step : (w : World) (before : List Moment) (m : Moment) (k h : ℕ) → HaveCome w (m ∷ before) → held_version h ((state w before).nodes k).exchange ≤ held_version h ((state w (m ∷ before)).nodes k).exchange
 held-step w before m k h come = elim (eqb_tells k (event_node w m.cause)) [

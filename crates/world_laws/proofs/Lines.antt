@@ -84,12 +84,7 @@ lines-step w s m old = record {
 -- the line that a cause is of; 0 for others
 abbrev line_of : Cause → ℕ
 line_of (event.Planned line) = line
-line_of (event.Period node h) = 0
-line_of (event.Fire node) = 0
-line_of (event.Expire node) = 0
-line_of (event.Pump node) = 0
-line_of (event.Due node c inv value) = 0
-line_of (event.Deliver link k packet) = 0
+line_of _ = 0
 
 same-line : {n i : ℕ} → event.Planned n ≡ event.Planned i → n ≡ i
 same-line same = ap line_of same

@@ -36,9 +36,6 @@ complete-newer h hs some = by (is_some (collected_image h hs)) some where
   by false high = absurd (omega (arith, high))
 
 completes : (packet : Packet) (hs : List Happening) (h : HandlerId) → completed_by packet hs ≡ Some h → held_version h.0 hs < target_version h.0 (Hears packet ∷ hs)
-completes (Vector versions) hs h is = cc
-completes (Status g version missing) hs h is = cc
-completes (App payload) hs h is = cc
 completes (Fragment g version index count large bytes) hs h is = by (nat_lt old new) refl is where
   old : ℕ
   old = complete_version g.0 hs
@@ -54,6 +51,7 @@ completes (Fragment g version index count large bytes) hs h is = by (nat_lt old 
       subst (λ (k : HandlerId). held_version k.0 hs < target_version k.0 (Hears (Fragment g version index count large bytes) ∷ hs)) same
       (complete-newer g.0 (Hears (Fragment g version index count large bytes) ∷ hs) (omega (arith, less)))
   by false more given = cc
+completes _ hs h is = cc
 
 -- ---- by a line
 

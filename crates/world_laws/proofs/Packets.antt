@@ -27,10 +27,7 @@ use Rattle.world_laws.proofs.Points.{among-filter_map, nodes-here, nodes-other}
 
 at-line : (w : World) (s : WorldState) (m : Moment) (p : Packet) (x : Want) → Among p (of_line x).sends → SendsFor w s m p
 at-line w s m p (Inject q) a = absurd a
-at-line w s m p (Post h payload) a = absurd a
-at-line w s m p Show a = absurd a
-at-line w s m p ResetNode a = absurd a
-at-line w s m p (Noise bytes) a = absurd a
+at-line w s m p _ a = absurd a
 
 at-planned : (w : World) (s : WorldState) (m : Moment) (p : Packet) (o : Option PlannedLine) → Among p (option_map_or (λ (l : PlannedLine). of_line l.what) o no_effect).sends → SendsFor w s m p
 at-planned w s m p None a = absurd a
@@ -63,12 +60,10 @@ at-packet w s m p link number (App payload) is a = absurd a
 
 sends-for : (w : World) (s : WorldState) (m : Moment) (p : Packet) (c : Cause) → m.cause ≡ c → Among p (node_effect w (node_at w s m) c).sends → SendsFor w s m p
 sends-for w s m p (event.Planned line) is a = at-planned w s m p (slice_get w.plan line) a
-sends-for w s m p (event.Period node h) is a = absurd a
 sends-for w s m p (event.Fire node) is a = at-point w s m p node (trickle.at_point (node_at w s m).timer.set (node_at w s m).timer.running w.suppress) is refl a
-sends-for w s m p (event.Expire node) is a = absurd a
 sends-for w s m p (event.Pump node) is a = at-slot w s m p node (next_slot (handlers w) (node_at w s m).exchange) is refl a
-sends-for w s m p (event.Due node x inv value) is a = absurd a
 sends-for w s m p (event.Deliver link number packet) is a = at-packet w s m p link number packet is a
+sends-for w s m p _ is a = absurd a
 
 split-at : {X : Type 0} (x : X) (xs : List X) → Among x xs → (front : List X) × (rest : List X) × (xs ≡ front ++ x ∷ rest)
 split-at x [] a = absurd a
@@ -76,19 +71,11 @@ split-at {X} x (y ∷ ys) (inl e) = ([], ys, ap (λ (z : X). z ∷ ys) e)
 split-at {X} x (y ∷ ys) (inr a) = let s = split-at x ys a in (y ∷ s.0, s.1, ap (λ (zs : List X). y ∷ zs) s.2)
 
 message-for : (w : World) (s : WorldState) (m : Moment) (p : Packet) (t : JournalEntry) → message_in w t ≡ Some p → Among t m.told → SendsFor w s m p
-message-for w s m p (Posted n h c payload) is a = cc
-message-for w s m p (Dropped h cause) is a = cc
-message-for w s m p (Started n) is a = cc
 message-for w s m p (Asked n f args) is a = by (is_send_kind (called_kind w f)) refl is (split-at (Asked n f args) m.told a) where
   by : (b : Bool) → is_send_kind (called_kind w f) ≡ b → (if b then Some (App args) else None) ≡ Some p → (front : List JournalEntry) × (rest : List JournalEntry) × (m.told ≡ front ++ Asked n f args ∷ rest) → SendsFor w s m p
   by true sends given at_place = IsMessage at_place.0 at_place.1 n f args at_place.2 sends (let same : p ≡ App args = cc in same)
   by false sends given at_place = cc
-message-for w s m p (Answered n value) is a = cc
-message-for w s m p (Ended n how) is a = cc
-message-for w s m p (Installed q) is a = cc
-message-for w s m p Reset is a = cc
-message-for w s m p (Seen store) is a = cc
-message-for w s m p (Void cause) is a = cc
+message-for w s m p _ is a = cc
 
 pub packets_have_reasons : (w : World) → PacketsHaveReasons w
 packets_have_reasons w s m i p is = elim (among-append p (effect_at w s m).sends (messages w m.told) (among-get (packets_of w s m) i p is)) [

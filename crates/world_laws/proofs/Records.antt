@@ -46,11 +46,8 @@ pub data IsHead (records : List Air) : Type 0 where
   one_head : (a : Air) → is_sent_air a ≡ false → is_lost_air a ≡ false → records ≡ a ∷ [] → IsHead records
 
 line-head : (x : Want) → IsHead (of_line x).first
-line-head (Inject p) = no_head refl
-line-head (Post h payload) = no_head refl
-line-head Show = no_head refl
-line-head ResetNode = no_head refl
 line-head (Noise bytes) = one_head (air.Noise bytes) refl refl refl
+line-head _ = no_head refl
 
 planned-head : (o : Option PlannedLine) → IsHead (option_map_or (λ (l : PlannedLine). of_line l.what) o no_effect).first
 planned-head None = no_head refl
@@ -66,12 +63,10 @@ slot-head hs (Some slot) = no_head refl
 
 pub head-is : (w : World) (n : Node) (c : Cause) → IsHead (node_effect w n c).first
 head-is w n (event.Planned line) = planned-head (slice_get w.plan line)
-head-is w n (event.Period node h) = no_head refl
 head-is w n (event.Fire node) = point-head w n (trickle.at_point n.timer.set n.timer.running w.suppress)
-head-is w n (event.Expire node) = no_head refl
 head-is w n (event.Pump node) = slot-head n.exchange (next_slot (handlers w) n.exchange)
-head-is w n (event.Due node c inv value) = no_head refl
 head-is w n (event.Deliver link number packet) = one_head _ refl refl refl
+head-is w n _ = no_head refl
 
 pub interval-head : (o : Option ℕ) → IsHead (interval_air o)
 interval-head None = no_head refl

@@ -28,12 +28,8 @@ abbrev pub told_as : World → Stamp → ℕ → Sending → Transmission
 told_as w at node x = record { at = at; node = node; number = x.number; bytes = sent_bytes w x.packet; before = x.before }
 
 quiet-air : (xs : List Transmission) (at : Stamp) (node : ℕ) (a : Air) → is_sent_air a ≡ false → with_record xs (stamped at node a) ≡ xs
-quiet-air xs at node (air.Interval length) is = refl
-quiet-air xs at node air.Keep is = refl
 quiet-air xs at node (air.Sent number bytes) is = cc
-quiet-air xs at node (air.Lost number to) is = refl
-quiet-air xs at node (air.Got number from) is = refl
-quiet-air xs at node (air.Noise bytes) is = refl
+quiet-air xs at node _ is = refl
 
 quiet-head : (xs : List Transmission) (at : Stamp) (node : ℕ) (records : List Air) → IsHead records → fold with_record xs (map (stamped at node) records) ≡ xs
 quiet-head xs at node records (no_head is) = ap (λ (rs : List Air). fold with_record xs (map (stamped at node) rs)) is
@@ -206,12 +202,9 @@ sendings-decided w at node (x ∷ xs) =
     ∙ ap (λ (rs : List Aired). decided w (told_as w at node x) ++ rs) (sendings-decided w at node xs)
 
 of-sending : (at : Stamp) (node : ℕ) (a : Air) → is_sent_air a ≡ false → is_lost_air a ≡ false → filter is_of_sending (stamped at node a ∷ []) ≡ []
-of-sending at node (air.Interval length) sent lost = refl
-of-sending at node air.Keep sent lost = refl
 of-sending at node (air.Sent number bytes) sent lost = cc
 of-sending at node (air.Lost number to) sent lost = cc
-of-sending at node (air.Got number from) sent lost = refl
-of-sending at node (air.Noise bytes) sent lost = refl
+of-sending at node _ sent lost = refl
 
 head-filtered : (at : Stamp) (node : ℕ) (records : List Air) → IsHead records → filter is_of_sending (map (stamped at node) records) ≡ []
 head-filtered at node records (no_head is) = ap (λ (rs : List Air). filter is_of_sending (map (stamped at node) rs)) is

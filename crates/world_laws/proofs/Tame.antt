@@ -130,10 +130,7 @@ asks-tame v hs (h ∷ hds) p (inr a) = asks-tame v hs hds p a
 
 sends-of-line : (v : Version) (x : Want) → EachTame v (of_line x).sends
 sends-of-line v (Inject p) = none-tame v
-sends-of-line v (Post h payload) = none-tame v
-sends-of-line v Show = none-tame v
-sends-of-line v ResetNode = none-tame v
-sends-of-line v (Noise bytes) = none-tame v
+sends-of-line v _ = none-tame v
 
 sends-planned : (v : Version) (o : Option PlannedLine) → EachTame v (option_map_or (λ (l : PlannedLine). of_line l.what) o no_effect).sends
 sends-planned v None = none-tame v
@@ -159,28 +156,18 @@ sends-slot v hs (Some slot) old = one-tame v _ (fragment-tame v hs slot old)
 
 sends-tame : (w : World) (v : Version) (n : Node) (c : Cause) → IsWorldVersion w v → IsTameNode v n.exchange → EachTame v (node_effect w n c).sends
 sends-tame w v n (event.Planned line) right old = sends-planned v (slice_get w.plan line)
-sends-tame w v n (event.Period node h) right old = none-tame v
 sends-tame w v n (event.Fire node) right old = sends-point w v n (trickle.at_point n.timer.set n.timer.running w.suppress) right old
-sends-tame w v n (event.Expire node) right old = none-tame v
 sends-tame w v n (event.Pump node) right old = sends-slot v n.exchange (next_slot (handlers w) n.exchange) old
-sends-tame w v n (event.Due node x inv value) right old = none-tame v
 sends-tame w v n (event.Deliver link number packet) right old = sends-packet w v n.exchange packet
+sends-tame w v n _ right old = none-tame v
 
 -- what an entry sends is a message
 pub message-app : (w : World) (t : JournalEntry) (p : Packet) → message_in w t ≡ Some p → (args : ArrayVec ℤ) × (App args ≡ p)
-message-app w (Posted n h c payload) p is = cc
-message-app w (Dropped h cause) p is = cc
-message-app w (Started n) p is = cc
 message-app w (Asked n f args) p is = by (is_send_kind _) is where
   by : (b : Bool) → (if b then Some (App args) else None) ≡ Some p → (args : ArrayVec ℤ) × (App args ≡ p)
   by true given = let same : App args ≡ p = cc in (args, same)
   by false given = cc
-message-app w (Answered n value) p is = cc
-message-app w (Ended n how) p is = cc
-message-app w (Installed q) p is = cc
-message-app w Reset p is = cc
-message-app w (Seen store) p is = cc
-message-app w (Void cause) p is = cc
+message-app w _ p is = cc
 
 pub numbered-among : (y : Sending) (number before : ℕ) (ps : List Packet) → Among y (numbered_sendings number before ps) → Among y.packet ps
 numbered-among y number before [] a = absurd a
@@ -200,13 +187,8 @@ pub record IsTameWorld (w : World) (v : Version) (s : WorldState) : Type 0 where
   pub air : (t j number : ℕ) (p : Packet) → Among (event.Deliver j number p) (s.due t) → IsTame v p
 
 abbrev pub delivered-packet : Cause → Packet
-delivered-packet (event.Planned line) = App (record { items = [] })
-delivered-packet (event.Period node h) = App (record { items = [] })
-delivered-packet (event.Fire node) = App (record { items = [] })
-delivered-packet (event.Expire node) = App (record { items = [] })
-delivered-packet (event.Pump node) = App (record { items = [] })
-delivered-packet (event.Due node x inv value) = App (record { items = [] })
 delivered-packet (event.Deliver link number packet) = packet
+delivered-packet _ = App (record { items = [] })
 
 pub of_interval-none : (w : World) (s : WorldState) (m : Moment) (t j number : ℕ) (p : Packet) (i : ℕ) (timer : _) → Among (at t (event.Deliver j number p)) (of_interval i timer) → ⊥
 of_interval-none w s m t j number p i timer (inl e) = apart 2 6 refl (ap (λ (x : Scheduled). kind x.cause) e)

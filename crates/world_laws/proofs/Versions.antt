@@ -36,10 +36,8 @@ pub record IsInjectedNode (w : World) (ms : List Moment) (hs : List Happening) :
   pub heard_of : (h : ℕ) → AreOfInjected w ms (heard_since h hs)
 
 later-packet : (w : World) (m : Moment) (ms : List Moment) (p : Packet) → IsOfInjected w ms p → IsOfInjected w (m ∷ ms) p
-later-packet w m ms (Vector versions) of = tt
-later-packet w m ms (Status g version missing) of = tt
 later-packet w m ms (Fragment g version index count large bytes) of = (of.0, later-injected w m ms g.0 version of.0 of.1, of.2, of.3)
-later-packet w m ms (App payload) of = tt
+later-packet w m ms _ of = tt
 
 later-packets : (w : World) (m : Moment) (ms : List Moment) (ps : List Packet) → AreOfInjected w ms ps → AreOfInjected w (m ∷ ms) ps
 later-packets w m ms [] all = tt
@@ -71,9 +69,6 @@ node-installs w ms hs g version image old was = record { holds = λ h. held h; h
 
 -- what became complete was collected
 completed-some : (p : Packet) (hs : List Happening) (g : HandlerId) → completed_by p hs ≡ Some g → (made : ArrayVec ℕ) × (collected_image g.0 (Hears p ∷ hs) ≡ Some made)
-completed-some (Vector versions) hs g by_g = cc
-completed-some (Status k version missing) hs g by_g = cc
-completed-some (App payload) hs g by_g = cc
 completed-some (Fragment k version index count large bytes) hs g by_g = own (nat_lt (complete_version k.0 hs) (complete_version k.0 (Hears (Fragment k version index count large bytes) ∷ hs))) refl by_g where
   found : (o : Option (ArrayVec ℕ)) (t : ℕ) → collected_image k.0 (Hears (Fragment k version index count large bytes) ∷ hs) ≡ o → 1 ≤ (if is_some o then t else 0)
       → (made : ArrayVec ℕ) × (collected_image k.0 (Hears (Fragment k version index count large bytes) ∷ hs) ≡ Some made)
@@ -88,6 +83,7 @@ completed-some (Fragment k version index count large bytes) hs g by_g = own (nat
       let over : complete_version k.0 hs < complete_version k.0 (Hears (Fragment k version index count large bytes) ∷ hs) = ltb-true _ _ more in
       subst (λ (x : HandlerId). (made : ArrayVec ℕ) × (collected_image x.0 (Hears (Fragment k version index count large bytes) ∷ hs) ≡ Some made)) same
       (found (collected_image k.0 (Hears (Fragment k version index count large bytes) ∷ hs)) (target_version k.0 (Hears (Fragment k version index count large bytes) ∷ hs)) refl (omega (arith, over)))
+completed-some _ hs g by_g = cc
 
 -- a completed program was injected
 pub completed-injected : (w : World) (ms : List Moment) (hs : List Happening) (packet : Packet) (p : HeldProgram) → IsOneImage w → IsInjectedNode w ms (Hears packet ∷ hs) → completed_by packet hs ≡ Some p.handler
@@ -103,10 +99,7 @@ completed-injected w ms hs packet p one node complete is =
 
 line-injects : (x : Want) (p : HeldProgram) → (of_line x).deed ≡ Installing p → x ≡ Inject p
 line-injects (Inject q) p is = let same : q ≡ p = cc in ap Inject same
-line-injects (Post h payload) p is = cc
-line-injects Show p is = cc
-line-injects ResetNode p is = cc
-line-injects (Noise bytes) p is = cc
+line-injects _ p is = cc
 
 pub option-injects : (o : Option PlannedLine) (p : HeldProgram) → (option_map_or (λ (l : PlannedLine). of_line l.what) o no_effect).deed ≡ Installing p → (l : PlannedLine) × (o ≡ Some l) × (l.what ≡ Inject p)
 option-injects None p is = cc
@@ -187,10 +180,7 @@ asks-of w ms hs (h ∷ hds) p (inr a) = asks-of w ms hs hds p a
 
 line-sends : (w : World) (ms : List Moment) (x : Want) → EachOf w ms (of_line x).sends
 line-sends w ms (Inject p) = none-of w ms
-line-sends w ms (Post h payload) = none-of w ms
-line-sends w ms Show = none-of w ms
-line-sends w ms ResetNode = none-of w ms
-line-sends w ms (Noise bytes) = none-of w ms
+line-sends w ms _ = none-of w ms
 
 planned-sends : (w : World) (ms : List Moment) (o : Option PlannedLine) → EachOf w ms (option_map_or (λ (l : PlannedLine). of_line l.what) o no_effect).sends
 planned-sends w ms None = none-of w ms
@@ -216,12 +206,10 @@ slot-sends w ms hs (Some slot) is node = one-of w ms _ (sent-injected w ms hs sl
 
 effect-sends : (w : World) (ms : List Moment) (n : Node) (c : Cause) → IsInjectedNode w ms n.exchange → EachOf w ms (node_effect w n c).sends
 effect-sends w ms n (event.Planned line) node = planned-sends w ms (slice_get w.plan line)
-effect-sends w ms n (event.Period k h) node = none-of w ms
 effect-sends w ms n (event.Fire k) node = point-sends w ms n (trickle.at_point n.timer.set n.timer.running w.suppress)
-effect-sends w ms n (event.Expire k) node = none-of w ms
 effect-sends w ms n (event.Pump k) node = slot-sends w ms n.exchange (next_slot (handlers w) n.exchange) refl node
-effect-sends w ms n (event.Due k x inv value) node = none-of w ms
 effect-sends w ms n (event.Deliver link number packet) node = packet-sends w ms n.exchange packet
+effect-sends w ms n _ node = none-of w ms
 
 packets-of : (w : World) (ms : List Moment) (s : WorldState) (m : Moment) → IsInjectedNode w ms (node_at w s m).exchange → EachOf w ms (packets_of w s m)
 packets-of w ms s m node p a = elim (among-append p (effect_at w s m).sends (messages w m.told) a) [

@@ -89,11 +89,7 @@ some_name e = cc
 
 sensor_is : (k : FunKind) → reads_sensor k ≡ true → k ≡ fun.Sense
 sensor_is fun.Sense h = refl
-sensor_is (fun.Act args) h = absurd cc
-sensor_is fun.Send h = absurd cc
-sensor_is fun.Id h = absurd cc
-sensor_is fun.Rand h = absurd cc
-sensor_is fun.Clock h = absurd cc
+sensor_is _ h = absurd cc
 
 pub sensor_name : (devices : ℕ) (fs : List Function) (f : List ℕ) → list_all (is_function devices) fs ≡ true → first_sensor fs ≡ Some f → is_name f ≡ true
 sensor_name devices [] f all e = absurd cc

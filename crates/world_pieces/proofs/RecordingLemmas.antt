@@ -276,16 +276,7 @@ start-before r s nodes e count some whole empty =
 
 one-named : (e : Entry) → length (option_to_list (image_named e)) + length (option_to_list (store_named e)) ≤ 1
 one-named (entry.Post n h c payload) = omega arith
-one-named (entry.Dropped h cause) = omega arith
-one-named (entry.Start n) = omega arith
-one-named (entry.Ask n f args) = omega arith
-one-named (entry.Answer n value) = omega arith
-one-named (entry.Halt n) = omega arith
-one-named (entry.Fault n kind) = omega arith
-one-named (entry.Install h version image) = omega arith
-one-named entry.Reset = omega arith
-one-named (entry.Seen store) = omega arith
-one-named (entry.Void cause) = omega arith
+one-named _ = omega arith
 
 names-few : (es : List Stamped) → length (names_in image_named es) + length (names_in store_named es) ≤ length es
 names-few [] = omega arith

@@ -32,10 +32,7 @@ use Rattle.world_programs.specs.Injected.{install_of, installs_in, installs, wor
 
 install-right : (d : Description) (files : ℕ) (w : What) → IsRightWhat d files w → All (IsRightStep d files) (option_to_list (install_of w))
 install-right d files (what.Inject program handler version) right = All-cons (IsRightStep d files) (step.Install handler version program) [] right (All-nil (IsRightStep d files))
-install-right d files (what.Post handler payload) right = All-nil (IsRightStep d files)
-install-right d files what.Show right = All-nil (IsRightStep d files)
-install-right d files what.Reset right = All-nil (IsRightStep d files)
-install-right d files (what.Noise bytes) right = All-nil (IsRightStep d files)
+install-right d files _ right = All-nil (IsRightStep d files)
 
 All-join : {A : Type 0} (P : A → Type 0) (xs ys : List A) → All P xs → All P ys → All P (xs ++ ys)
 All-join P [] ys front back = back
@@ -56,10 +53,7 @@ RisesOver w v = IfInjects w (λ handler version. IfInjects v (λ other newer. ha
 rises-one : (h : HandlerId) (version program : ℕ) (v : What) → IfInjects v (λ other newer. h ≡ other → version < newer) → All (Rises (step.Install h version program)) (option_to_list (install_of v))
 rises-one h version program (what.Inject p other newer) rises =
     All-cons (Rises (step.Install h version program)) (step.Install other newer p) [] rises (All-nil (Rises (step.Install h version program)))
-rises-one h version program (what.Post handler payload) rises = All-nil (Rises (step.Install h version program))
-rises-one h version program what.Show rises = All-nil (Rises (step.Install h version program))
-rises-one h version program what.Reset rises = All-nil (Rises (step.Install h version program))
-rises-one h version program (what.Noise bytes) rises = All-nil (Rises (step.Install h version program))
+rises-one h version program _ rises = All-nil (Rises (step.Install h version program))
 
 rises-over : (h : HandlerId) (version program : ℕ) (events : List Planned) → All (λ (p : Planned). IfInjects p.what (λ other newer. h ≡ other → version < newer)) events
     → All (Rises (step.Install h version program)) (installs_in events)
@@ -98,10 +92,7 @@ of_line ps (what.Inject program handler version) all =
       by : (o : Option Program) → IsSomeAnd o (λ p. IsSome p.source × (p.handler ≡ handler) × (p.version ≡ version)) → IsSomeAnd o (λ p. (p.handler ≡ handler) × (p.version ≡ version))
       by (Some p) is = (is.1, is.2)
       by None is = is
-of_line ps (what.Post handler payload) all = tt
-of_line ps what.Show all = tt
-of_line ps what.Reset all = tt
-of_line ps (what.Noise bytes) all = tt
+of_line ps _ all = tt
 
 All-front : {A : Type 0} (P : A → Type 0) (xs ys : List A) → All P (xs ++ ys) → All P xs
 All-front P [] ys all = All-nil P

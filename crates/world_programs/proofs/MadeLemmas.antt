@@ -134,10 +134,7 @@ name-behind x ys (suc n) h = let e : suc n + h ≡ suc (n + h) = omega arith in 
 -- the program of an injection is that of its file's source, for its handler as its version
 abbrev IsMadeFor : Description → Bool → List (List ℕ) → List Program → What → Type 0
 IsMadeFor d fold sources ps (what.Inject program h version) = IsSomeAnd (slice_get ps program) (IsMadeOf d fold h version (slice_index_or sources program []))
-IsMadeFor d fold sources ps (what.Post h payload) = ⊤
-IsMadeFor d fold sources ps what.Show = ⊤
-IsMadeFor d fold sources ps what.Reset = ⊤
-IsMadeFor d fold sources ps (what.Noise bytes) = ⊤
+IsMadeFor d fold sources ps _ = ⊤
 
 module _ (d : Description) (fold : Bool) (ps : List Program) (of : AreOfVersions d fold ps) where
   abbrev H : ℕ

@@ -124,10 +124,7 @@ longer d nodes s more r = record { node_high = r.node_high; senses = r.senses; s
 
 what_on : (d : Description) (m n : ℕ) → m ≤ n → (w : What) → IsRightWhat d m w → IsRightWhat d n w
 what_on d m n more (what.Inject program handler version) r = record { handler_high = r.handler_high; version_low = r.version_low; version_high = r.version_high; program_high = omega (arith, r.program_high) }
-what_on d m n more (what.Post handler payload) r = r
-what_on d m n more what.Show r = r
-what_on d m n more what.Reset r = r
-what_on d m n more (what.Noise bytes) r = r
+what_on d m n more _ r = r
 
 event_on : (d : Description) (nodes until m n : ℕ) → m ≤ n → (e : Planned) → IsRightPlanned d nodes until m e → IsRightPlanned d nodes until n e
 event_on d nodes until m n more e r = record { time_high = r.time_high; node_high = r.node_high; what = what_on d m n more e.what r.what }
@@ -135,18 +132,12 @@ event_on d nodes until m n more e r = record { time_high = r.time_high; node_hig
 rises_to : (newest : List ℕ) (h : HandlerId) (version : ℕ) (b : What) → version ≤ get_or newest h.0 0 → IfInjects b (λ handler version. get_or newest handler.0 0 < version)
     → IfInjects b (λ other newer. h ≡ other → version < newer)
 rises_to newest h version (what.Inject program other later) noted newer = λ same. let at : get_or newest h.0 0 ≡ get_or newest other.0 0 = ap (λ (h : HandlerId). get_or newest h.0 0) same in omega arith
-rises_to newest h version (what.Post handler payload) noted newer = tt
-rises_to newest h version what.Show noted newer = tt
-rises_to newest h version what.Reset noted newer = tt
-rises_to newest h version (what.Noise bytes) noted newer = tt
+rises_to newest h version _ noted newer = tt
 
 rises : (newest : List ℕ) (a b : What) → IfInjects a (λ handler version. version ≤ get_or newest handler.0 0) → IfInjects b (λ handler version. get_or newest handler.0 0 < version)
     → IfInjects a (λ handler version. IfInjects b (λ other newer. handler ≡ other → version < newer))
 rises newest (what.Inject program handler version) b noted newer = rises_to newest handler version b noted newer
-rises newest (what.Post handler payload) b noted newer = tt
-rises newest what.Show b noted newer = tt
-rises newest what.Reset b noted newer = tt
-rises newest (what.Noise bytes) b noted newer = tt
+rises newest _ b noted newer = tt
 
 at_least : (newest : List ℕ) (place version k : ℕ) → place < length newest → get_or newest place 0 < version → get_or newest k 0 ≤ get_or (slice_set newest place version) k 0
 at_least newest place version k within newer =
@@ -158,10 +149,7 @@ at_least newest place version k within newer =
 noted_on : (newest : List ℕ) (place version : ℕ) → place < length newest → get_or newest place 0 < version → (w : What) → IfInjects w (λ handler v. v ≤ get_or newest handler.0 0)
     → IfInjects w (λ handler v. v ≤ get_or (slice_set newest place version) handler.0 0)
 noted_on newest place version within newer (what.Inject program handler v) noted = omega (arith, at_least newest place version handler.0 within newer)
-noted_on newest place version within newer (what.Post handler payload) noted = tt
-noted_on newest place version within newer what.Show noted = tt
-noted_on newest place version within newer what.Reset noted = tt
-noted_on newest place version within newer (what.Noise bytes) noted = tt
+noted_on newest place version within newer _ noted = tt
 
 -- the versions that are noted after an event
 record Notes (newest : List ℕ) (w : What) : Type 0 where
@@ -180,10 +168,7 @@ notes d files newest (what.Inject program handler version) places right newer =
       noted = noted_on newest handler.0 version within newer;
       own = let e : get_or (slice_set newest handler.0 version) handler.0 0 ≡ version = get_or-set_same newest handler.0 version 0 within in omega arith;
     }
-notes d files newest (what.Post handler payload) places right newer = record { places = refl; noted = λ old h. h; own = tt }
-notes d files newest what.Show places right newer = record { places = refl; noted = λ old h. h; own = tt }
-notes d files newest what.Reset places right newer = record { places = refl; noted = λ old h. h; own = tt }
-notes d files newest (what.Noise bytes) places right newer = record { places = refl; noted = λ old h. h; own = tt }
+notes d files newest _ places right newer = record { places = refl; noted = λ old h. h; own = tt }
 
 keeps_event : (d : Description) (p : WorldProgress) (e : Planned) (file : Option (List ℕ)) → KeepsWorld d p → IsRightEvent d p e file → KeepsWorld d (with_told p (SaysPlanned e file))
 keeps_event d p e file k r =
@@ -215,11 +200,9 @@ keeps_event d p e file k r =
 -- ---- every line
 
 bare_as : (s : Stage) (w new : World) → new.links ≡ w.links → new.series ≡ w.series → new.events ≡ w.events → IsBare s w → IsBare s new
-bare_as stage.Nodes w new l s e b = record { links = l ∙ b.links; series = s ∙ b.series; events = e ∙ b.events }
-bare_as stage.Random w new l s e b = record { links = l ∙ b.links; series = s ∙ b.series; events = e ∙ b.events }
-bare_as stage.Until w new l s e b = record { links = l ∙ b.links; series = s ∙ b.series; events = e ∙ b.events }
 bare_as stage.Settings w new l s e b = tt
 bare_as stage.Events w new l s e b = tt
+bare_as _ w new l s e b = record { links = l ∙ b.links; series = s ∙ b.series; events = e ∙ b.events }
 
 bare_at : (p : WorldProgress) (s : Stage) → p.stage ≡ s → IsBare p.stage p.world → IsBare s p.world
 bare_at p s e b = let P : Stage → Type 0 = λ s. IsBare s p.world in subst P e b
@@ -370,18 +353,13 @@ right_world d p k few = record {
 }
 
 pub right_at_end : (d : Description) (s : Stage) (number : ℕ) (p : WorldProgress) → KeepsWorld d p → length p.world.events < 4000000000 → IfOk (world_at_end s number p) (IsRightWorld d)
-right_at_end d stage.Nodes number p k few = tt
-right_at_end d stage.Random number p k few = tt
-right_at_end d stage.Until number p k few = tt
 right_at_end d stage.Settings number p k few = right_world d p k few
 right_at_end d stage.Events number p k few = right_world d p k few
+right_at_end d _ number p k few = tt
 
 pub answers_at_end : (s : Stage) (number : ℕ) (p : WorldProgress) → AnswersScript (world_at_end s number p) (world_at_end s number p)
 answers_at_end stage.Nodes number p = refl
-answers_at_end stage.Random number p = refl
-answers_at_end stage.Until number p = refl
-answers_at_end stage.Settings number p = refl
-answers_at_end stage.Events number p = refl
+answers_at_end _ number p = refl
 
 within : {X : Type 0} (xs : List X) (i : ℕ) (P : X → Type 0) (o : Option X) → slice_get xs i ≡ o → IsSomeAnd o P → i < length xs
 within xs i P None e h = absurd h
@@ -389,13 +367,9 @@ within xs i P (Some x) e h = slice_get_within xs i x e
 
 -- the tables have a place for what a right line says
 pub has_place : (d : Description) (p : WorldProgress) (said : WorldSaid) → KeepsWorld d p → IsRightWorldSaid d p said → HasPlace p said
-has_place d p (SaysNodes nodes) k r = tt
-has_place d p (SaysRandom random) k r = tt
-has_place d p (SaysUntil until) k r = tt
-has_place d p (SaysSuppress on) k r = tt
 has_place d p (SaysLink link both) k r = (omega (arith, r.0.from_high, k.nodes_high), omega (arith, r.0.to_high, k.nodes_high))
 has_place d p (SaysSeries series) k r =
     let bounds : HasBounds d = bounds_of d in
     let known : series.fun.0 < length d.functions.items = within d.functions.items series.fun.0 _ (slice_get d.functions.items series.fun.0) refl r.0.senses in
     (omega (arith, r.0.node_high, k.nodes_high), omega (arith, known, bounds.functions_high))
-has_place d p (SaysPlanned e file) k r = tt
+has_place d p _ k r = tt

@@ -19,14 +19,9 @@ pub record IsBefore (n : ℕ) (p : WorldProgress) : Type 0 where
 
 -- one line adds one event and one file at most
 pub grown : (n : ℕ) (p : WorldProgress) (said : WorldSaid) → IsBefore n p → (length (with_told p said).world.events ≤ n) × (length (with_told p said).world.files ≤ n)
-grown n p (SaysNodes nodes) b = (omega (arith, b.events), omega (arith, b.files))
-grown n p (SaysRandom random) b = (omega (arith, b.events), omega (arith, b.files))
-grown n p (SaysUntil until) b = (omega (arith, b.events), omega (arith, b.files))
-grown n p (SaysSuppress on) b = (omega (arith, b.events), omega (arith, b.files))
-grown n p (SaysLink link both) b = (omega (arith, b.events), omega (arith, b.files))
-grown n p (SaysSeries series) b = (omega (arith, b.events), omega (arith, b.files))
 grown n p (SaysPlanned e file) b =
     (omega (arith, b.events, length-append p.world.events (e ∷ [])), omega (arith, b.files, length-with_file p.world.files file, few_files (length p.world.files) file))
+grown n p _ b = (omega (arith, b.events), omega (arith, b.files))
 
 -- what a line's end leaves
 pub record IsWorldLineEnd (d : Description) (n : ℕ) (old new : WorldProgress) (words : List (List ℕ)) (r : Result (Unit {0}) ScriptFault) : Type 0 where

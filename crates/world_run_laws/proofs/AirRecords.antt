@@ -57,12 +57,10 @@ slot-in-range w hs (Some slot) = none-in-range w
 
 first-in-range : (w : World) (n : Node) (c : Cause) → HasAirInRange w → All (IsAirInRange w.nodes) (node_effect w n c).first
 first-in-range w n (event.Planned line) fit = fit.lines line
-first-in-range w n (event.Period node h) fit = none-in-range w
 first-in-range w n (event.Fire node) fit = point-in-range w n (trickle.at_point n.timer.set n.timer.running w.suppress)
-first-in-range w n (event.Expire node) fit = none-in-range w
 first-in-range w n (event.Pump node) fit = slot-in-range w n.exchange (next_slot (handlers w) n.exchange)
-first-in-range w n (event.Due node c inv value) fit = none-in-range w
 first-in-range w n (event.Deliver link number packet) fit = one-in-range w (air.Got number (sender w link)) (fit.senders link)
+first-in-range w n _ fit = none-in-range w
 
 interval-in-range : (w : World) (o : Option ℕ) → All (IsAirInRange w.nodes) (map (λ l. air.Interval l) (option_to_list o))
 interval-in-range w None = none-in-range w
@@ -134,11 +132,8 @@ sender-within nodes (l ∷ ls) zero low right = (All-head (IsRightLink nodes) l 
 sender-within nodes (l ∷ ls) (suc j) low right = sender-within nodes ls j low (All-tail (IsRightLink nodes) l ls right)
 
 what-in-range : (d : Description) (nodes files : ℕ) (programs : ℕ → HeldProgram) (x : What) → IsRightWhat d files x → All (IsAirInRange nodes) (of_line (want_of programs x)).first
-what-in-range d nodes files programs (what.Inject program handler version) right = All-nil (IsAirInRange nodes)
-what-in-range d nodes files programs (what.Post handler payload) right = All-nil (IsAirInRange nodes)
-what-in-range d nodes files programs what.Show right = All-nil (IsAirInRange nodes)
-what-in-range d nodes files programs what.Reset right = All-nil (IsAirInRange nodes)
 what-in-range d nodes files programs (what.Noise bytes) right = All-cons (IsAirInRange nodes) (air.Noise bytes) [] right.some (All-nil (IsAirInRange nodes))
+what-in-range d nodes files programs _ right = All-nil (IsAirInRange nodes)
 
 lines-in-range : (d : Description) (nodes until files : ℕ) (programs : ℕ → HeldProgram) (ps : List Planned) (i : ℕ) → All (IsRightPlanned d nodes until files) ps
     → All (IsAirInRange nodes) (option_map_or (λ (l : PlannedLine). of_line l.what) (slice_get (map (line_planned programs) ps) i) no_effect).first

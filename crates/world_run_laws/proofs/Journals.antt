@@ -28,16 +28,8 @@ least : (n : ℕ) → n ≤ n
 least n = omega arith
 
 none-falls : (m : Machine) (r : NodeState) (t : JournalEntry) → NoInstall t → NoFall m r t
-none-falls m r (Posted n g c payload) none h = least (held r h)
-none-falls m r (Dropped g cause) none h = least (held r h)
-none-falls m r (Started n) none h = least (held r h)
-none-falls m r (Asked n f args) none h = least (held r h)
-none-falls m r (Answered n value) none h = least (held r h)
-none-falls m r (Ended n how) none h = least (held r h)
 none-falls m r (Installed p) none h = absurd none
-none-falls m r Reset none h = least (held r h)
-none-falls m r (Seen store) none h = least (held r h)
-none-falls m r (Void cause) none h = least (held r h)
+none-falls m r _ none h = least (held r h)
 
 -- what an install leaves of a handler
 installed-held : (m : Machine) (r : NodeState) (p : HeldProgram) (h : HandlerId) → held (next_state m r (Installed p)) h ≡ held-of (if h.0 == p.handler.0 then Some p else r.installed h)

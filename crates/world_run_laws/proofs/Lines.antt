@@ -71,11 +71,8 @@ line-time w older x j l timely come cause is = elim (come-along w [] (x ∷ olde
 -- ---- a reset comes from a line
 
 pub says-reset : (programs : ℕ → HeldProgram) (x : What) → want_of programs x ≡ ResetNode → x ≡ what.Reset
-says-reset programs (what.Inject program handler version) is = cc
-says-reset programs (what.Post handler payload) is = cc
-says-reset programs what.Show is = cc
 says-reset programs what.Reset is = refl
-says-reset programs (what.Noise bytes) is = cc
+says-reset programs _ is = cc
 
 pub record ResetsBy (w : World) (c : Cause) : Type 0 where
   pub place : ℕ
@@ -92,10 +89,8 @@ calm-fragment packet hs None = refl
 calm-fragment packet hs (Some g) = refl
 
 calm-packet : (w : World) (hs : List Happening) (packet : Packet) → Calm (of_packet w hs packet)
-calm-packet w hs (Vector versions) = refl
-calm-packet w hs (Status g version missing) = refl
 calm-packet w hs (Fragment g version index count large bytes) = calm-fragment (Fragment g version index count large bytes) hs (completed_by (Fragment g version index count large bytes) hs)
-calm-packet w hs (App payload) = refl
+calm-packet w hs _ = refl
 
 calm-point : (w : World) (n : Node) (o : Fire) → Calm (of_point w n o)
 calm-point w n fire.Send = refl
@@ -106,20 +101,15 @@ calm-slot hs None = refl
 calm-slot hs (Some slot) = refl
 
 calm-line : (x : Want) → Calm (of_line x) ⊎ (x ≡ ResetNode)
-calm-line (Inject p) = inl refl
-calm-line (Post h payload) = inl refl
-calm-line Show = inl refl
 calm-line ResetNode = inr refl
-calm-line (Noise bytes) = inl refl
+calm-line _ = inl refl
 
 pub resets-by : (w : World) (n : Node) (c : Cause) → Calm (node_effect w n c) ⊎ ResetsBy w c
 resets-by w n (event.Planned j) = by (slice_get w.plan j) refl where
   by : (o : Option PlannedLine) → slice_get w.plan j ≡ o → Calm (option_map_or (λ (l : PlannedLine). of_line l.what) o no_effect) ⊎ ResetsBy w (event.Planned j)
   by None is = inl refl
   by (Some l) is = elim (calm-line l.what) [ inl calm ↦ inl calm | inr says ↦ inr (record { place = j; cause = refl; line = l; stands = is; says = says }) ]
-resets-by w n (event.Period k g) = inl refl
 resets-by w n (event.Fire k) = inl (calm-point w n (trickle.at_point n.timer.set n.timer.running w.suppress))
-resets-by w n (event.Expire k) = inl refl
 resets-by w n (event.Pump k) = inl (calm-slot n.exchange (next_slot (handlers w) n.exchange))
-resets-by w n (event.Due k x inv value) = inl refl
 resets-by w n (event.Deliver link number packet) = inl (calm-packet w n.exchange packet)
+resets-by w n _ = inl refl

@@ -76,16 +76,7 @@ journal-entered w how ms k es is =
 -- an entry that tells of a store names one
 names-store : (l : Log) (e : Entry) → IsTrue (is_some (store_seen (journal_entry l e))) → IsTrue (is_some (store_named e))
 names-store l (entry.Post n h c payload) seen = seen
-names-store l (entry.Dropped h cause) seen = seen
-names-store l (entry.Start n) seen = seen
-names-store l (entry.Ask n f args) seen = seen
-names-store l (entry.Answer n value) seen = seen
-names-store l (entry.Halt n) seen = seen
-names-store l (entry.Fault n kind) seen = seen
-names-store l (entry.Install h version image) seen = seen
-names-store l entry.Reset seen = seen
-names-store l (entry.Seen store) seen = seen
-names-store l (entry.Void cause) seen = seen
+names-store l _ seen = seen
 
 abbrev mark_at : ℕ → Stamped → Mark
 mark_at k e = record { stamp = e.stamp; node = k; is_seen = is_some (store_named e.entry) }

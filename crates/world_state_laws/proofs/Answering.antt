@@ -23,10 +23,7 @@ Unanswered cause d n = AnswersOther d n ⊎ ((k : ℕ) × (c : ContextId) × (va
 
 by-line : (i n : ℕ) (x : Want) → Unanswered (event.Planned i) (of_line x).deed n
 by-line i n (Inject p) = inl tt
-by-line i n (Post h payload) = inl tt
-by-line i n Show = inl tt
-by-line i n ResetNode = inl tt
-by-line i n (Noise bytes) = inl tt
+by-line i n _ = inl tt
 
 by-planned : (i n : ℕ) (o : Option PlannedLine) → Unanswered (event.Planned i) (option_map_or (λ (l : PlannedLine). of_line l.what) o no_effect).deed n
 by-planned i n None = inl tt
@@ -45,11 +42,9 @@ by-fragment cause packet hs n None = inl tt
 by-fragment cause packet hs n (Some h) = inl tt
 
 by-packet : (w : World) (cause : Cause) (hs : List Happening) (n : ℕ) (packet : Packet) → Unanswered cause (of_packet w hs packet).deed n
-by-packet w cause hs n (Vector versions) = inl tt
-by-packet w cause hs n (Status g version missing) = inl tt
 by-packet w cause hs n (Fragment g version index count large bytes) =
     by-fragment cause (Fragment g version index count large bytes) hs n (completed_by (Fragment g version index count large bytes) hs)
-by-packet w cause hs n (App payload) = inl tt
+by-packet w cause hs n _ = inl tt
 
 pub answers-cause : (w : World) (x : Node) (n : ℕ) (c : Cause) → Unanswered c (node_effect w x c).deed n
 answers-cause w x n (event.Planned line) = by-planned line n (slice_get w.plan line)

@@ -20,13 +20,8 @@ use Rattle.world_state_laws.proofs.Waits.{calls_of}
 
 -- the cause is an answer to the invocation n of the node k
 abbrev pub answers_by : ℕ → ℕ → Cause → ℕ
-answers_by k n (event.Planned line) = 0
-answers_by k n (event.Period node h) = 0
-answers_by k n (event.Fire node) = 0
-answers_by k n (event.Expire node) = 0
-answers_by k n (event.Pump node) = 0
 answers_by k n (event.Due node c inv value) = if node == k && inv == n then 1 else 0
-answers_by k n (event.Deliver link number packet) = 0
+answers_by k n _ = 0
 
 abbrev pub answers_in : ℕ → ℕ → List Cause → ℕ
 answers_in k n [] = 0
@@ -39,16 +34,11 @@ own-answer k n c value = elim (eqb_tells k k) [
 ]
 
 answer-is : (k n : ℕ) (x : Cause) → (answers_by k n x ≡ 0) ⊎ ((c : ContextId) × (value : ℤ) × (x ≡ event.Due k c n value))
-answer-is k n (event.Planned line) = inl refl
-answer-is k n (event.Period node h) = inl refl
-answer-is k n (event.Fire node) = inl refl
-answer-is k n (event.Expire node) = inl refl
-answer-is k n (event.Pump node) = inl refl
 answer-is k n (event.Due node c inv value) = elim (eqb_tells node k) [
   | inr other ↦ inl (rw other.0 refl)
   | inl same ↦ elim (eqb_tells inv n) [ inr other ↦ inl (rw (same.0, other.0) refl) | inl also ↦ inr (c, value, λ i. event.Due (same.1 i) c (also.1 i) value) ]
 ]
-answer-is k n (event.Deliver link number packet) = inl refl
+answer-is k n _ = inl refl
 
 pub answers-among : (k n : ℕ) (c : ContextId) (value : ℤ) (xs : List Cause) → Among (event.Due k c n value) xs → 1 ≤ answers_in k n xs
 answers-among k n c value [] h = absurd h
@@ -143,16 +133,11 @@ two-times k n t u (x ∷ xs) differ = elim (eqb_tells x.time t) [
   none rest = omega (arith, rest)
 
 period-none : (k n : ℕ) (w : World) (time : ℕ) (c : Cause) → answers_at k n (next_period w c time) ≡ 0
-period-none k n w time (event.Planned line) = refl
 period-none k n w time (event.Period node h) = by (period_of w h.0) where
   by : (o : Option ℕ) → answers_at k n (option_map_or (λ p. at (time + p) (event.Period node h) ∷ []) o []) ≡ 0
   by None = refl
   by (Some p) = refl
-period-none k n w time (event.Fire node) = refl
-period-none k n w time (event.Expire node) = refl
-period-none k n w time (event.Pump node) = refl
-period-none k n w time (event.Due node c inv value) = refl
-period-none k n w time (event.Deliver link number packet) = refl
+period-none k n w time _ = refl
 
 interval-none : (k n node : ℕ) (timer : Timer) (o : Option ℕ) → answers_at k n (new_interval node o timer) ≡ 0
 interval-none k n node timer None = refl

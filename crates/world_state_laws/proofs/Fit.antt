@@ -71,9 +71,7 @@ message-is w n f args sends = rw sends refl
 
 asked-fit : (w : World) (ms : List Moment) (hs : List Happening) (heard_it : Packet) → IsFitNode w ms hs → IsOfInjected w ms heard_it → IsFitPacket w heard_it → EachFit w (asks_after (handlers w) heard_it hs)
 asked-fit w ms hs (Vector versions) node of fit p a = asks-fit w ms versions hs node (node-hears w ms hs (Vector versions) node.injected of) fit p a
-asked-fit w ms hs (Status g version missing) node of fit p a = absurd a
-asked-fit w ms hs (Fragment g version index count large bytes) node of fit p a = absurd a
-asked-fit w ms hs (App payload) node of fit p a = absurd a
+asked-fit w ms hs _ node of fit p a = absurd a
 
 sent-fit : (w : World) (ms : List Moment) (s : WorldState) (m : Moment) → IsFitNode w ms (node_at w s m).exchange → AreFitPackets w (messages w m.told)
     → ((j number : ℕ) (p : Packet) → m.cause ≡ event.Deliver j number p → IsOfInjected w ms p × IsFitPacket w p) → EachFit w (packets_of w s m)

@@ -121,15 +121,13 @@ vector-fit w ms hs node =
 
 -- a fragment's count is within an image's
 part-few : (w : World) (h target : ℕ) (p : Packet) (part : TargetFragment) → IsFitPacket w p → part_in h target p ≡ Some part → part.count ≤ 22
-part-few w h target (Vector versions) part fit is = cc
-part-few w h target (Status g version missing) part fit is = cc
-part-few w h target (App payload) part fit is = cc
 part-few w h target (Fragment g version index count large bytes) part fit is = by (g.0 == h && version == target) is where
   by : (b : Bool) → (if b then Some (record { index = index; count = count; large = large; bytes = bytes }) else None) ≡ Some part → part.count ≤ 22
   by false given = cc
   by true given =
       let same : record { index = index; count = count; large = large; bytes = bytes } ≡ part = cc in
       subst (λ (x : TargetFragment). x.count ≤ 22) same fit.right.count_high
+part-few w h target _ part fit is = cc
 
 form-few : (w : World) (h : ℕ) (hs : List Happening) → AreFitHeard w hs → IfSome (collected_form (target_parts h hs)) (λ (form : Form). form.count ≤ 22)
 form-few w h hs fit = by (target_parts h hs) (λ part a. among-filter_map (part_in h (target_version h hs)) part (heard_since h hs) a) where

@@ -48,10 +48,7 @@ wanted d ps (what.Inject program handler version) p right of is =
       found : (o : Option Program) → slice_get ps program ≡ o → IsSomeAnd o (λ (q : Program). (q.handler ≡ handler) × (q.version ≡ version)) → HasProgram d (held_or_none o)
       found None is_at none = absurd none
       found (Some q) is_at some = record { program = q; right = all-at (IsRightProgram d) ps program q right is_at; is = refl }
-wanted d ps (what.Post handler payload) p right of is = cc
-wanted d ps what.Show p right of is = cc
-wanted d ps what.Reset p right of is = cc
-wanted d ps (what.Noise bytes) p right of is = cc
+wanted d ps _ p right of is = cc
 
 planned : (d : Description) (ps : List Program) (es : List Planned) (i : ℕ) (l : PlannedLine) (p : HeldProgram) → AreRightPrograms d ps → All (λ (e : Planned). IsProgramOfWhat ps e.what) es
     → slice_get (map (line_planned (program_at ps)) es) i ≡ Some l → l.what ≡ Inject p → HasProgram d p

@@ -23,16 +23,10 @@ use Rattle.world_rules.specs.Run.{FirstThen, Occasions, DeedMakes}
 
 -- the entry neither answers a call nor begins an era
 abbrev pub IsPlain : JournalEntry → Type 0
-IsPlain (Posted n h c payload) = Unit {0}
-IsPlain (Dropped h cause) = Unit {0}
-IsPlain (Started n) = Unit {0}
-IsPlain (Asked n f args) = Unit {0}
 IsPlain (Answered n value) = ⊥
-IsPlain (Ended n how) = Unit {0}
 IsPlain (Installed p) = ⊥
 IsPlain Reset = ⊥
-IsPlain (Seen store) = Unit {0}
-IsPlain (Void cause) = Unit {0}
+IsPlain _ = Unit {0}
 
 abbrev pub ArePlain : List JournalEntry → Type 0
 ArePlain [] = Unit {0}
@@ -40,16 +34,8 @@ ArePlain (t ∷ told) = IsPlain t × ArePlain told
 
 -- how often the invocation calls
 abbrev pub calls_by : ℕ → JournalEntry → ℕ
-calls_by n (Posted k h c payload) = 0
-calls_by n (Dropped h cause) = 0
-calls_by n (Started k) = 0
 calls_by n (Asked k f args) = if k == n then 1 else 0
-calls_by n (Answered k value) = 0
-calls_by n (Ended k how) = 0
-calls_by n (Installed p) = 0
-calls_by n Reset = 0
-calls_by n (Seen store) = 0
-calls_by n (Void cause) = 0
+calls_by n _ = 0
 
 abbrev pub calls_of : ℕ → List JournalEntry → ℕ
 calls_of n [] = 0
@@ -58,32 +44,18 @@ calls_of n (t ∷ told) = calls_by n t + calls_of n told
 -- ---- one entry
 
 plain-stays : (n : ℕ) (t : JournalEntry) → IsPlain t → ends_wait n t ≡ false
-plain-stays n (Posted k h c payload) plain = refl
-plain-stays n (Dropped h cause) plain = refl
-plain-stays n (Started k) plain = refl
-plain-stays n (Asked k f args) plain = refl
 plain-stays n (Answered k value) plain = absurd plain
-plain-stays n (Ended k how) plain = refl
 plain-stays n (Installed p) plain = absurd plain
 plain-stays n Reset plain = absurd plain
-plain-stays n (Seen store) plain = refl
-plain-stays n (Void cause) plain = refl
+plain-stays n _ plain = refl
 
 -- whoever waits doesn't call
 quiet : (m : Machine) (r : NodeState) (t : JournalEntry) (n : ℕ) → MayFollow m r t → IsWaiting r n → calls_by n t ≡ 0
-quiet m r (Posted k h c payload) n follows w = refl
-quiet m r (Dropped h cause) n follows w = refl
-quiet m r (Started k) n follows w = refl
 quiet m r (Asked k f args) n follows w = elim (eqb_tells k n) [
   | inl same ↦ (let clash : Waiting w.fun w.args ≡ Ready = sym w.waits ∙ ap (λ (i : ℕ). (r.invocations i).phase) (sym same.1) ∙ follows in cc)
   | inr other ↦ rw other.0 refl
 ]
-quiet m r (Answered k value) n follows w = refl
-quiet m r (Ended k how) n follows w = refl
-quiet m r (Installed p) n follows w = refl
-quiet m r Reset n follows w = refl
-quiet m r (Seen store) n follows w = refl
-quiet m r (Void cause) n follows w = refl
+quiet m r _ n follows w = refl
 
 -- whoever waits is left as it is
 keeps-one : (m : Machine) (r : NodeState) (t : JournalEntry) (n : ℕ) → MayFollow m r t → IsPlain t → IsNumbered r → IsWaiting r n → ((next_state m r t).invocations n ≡ r.invocations n) × (calls_by n t ≡ 0)
@@ -91,19 +63,11 @@ keeps-one m r t n follows plain right w = (goes_on-told m r n (t ∷ []) right (
 
 -- the invocation doesn't call in the entry, or it waits then
 calls-one : (m : Machine) (r : NodeState) (t : JournalEntry) (n : ℕ) → (calls_by n t ≡ 0) ⊎ ((calls_by n t ≡ 1) × IsWaiting (next_state m r t) n)
-calls-one m r (Posted k h c payload) n = inl refl
-calls-one m r (Dropped h cause) n = inl refl
-calls-one m r (Started k) n = inl refl
 calls-one m r (Asked k f args) n = elim (eqb_tells k n) [
   | inl same ↦ inr (rw same.0 refl, subst (λ (i : ℕ). IsWaiting (next_state m r (Asked k f args)) i) same.1 (record { fun = f; args = args; waits = (asked-Moves m r k f args).here }))
   | inr other ↦ inl (rw other.0 refl)
 ]
-calls-one m r (Answered k value) n = inl refl
-calls-one m r (Ended k how) n = inl refl
-calls-one m r (Installed p) n = inl refl
-calls-one m r Reset n = inl refl
-calls-one m r (Seen store) n = inl refl
-calls-one m r (Void cause) n = inl refl
+calls-one m r _ n = inl refl
 
 -- ---- plain entries
 
@@ -142,16 +106,10 @@ pub plain-as : (xs ys : List JournalEntry) → xs ≡ ys → ArePlain ys → Are
 plain-as xs ys is plain = subst ArePlain (sym is) plain
 
 turn-plain : (t : JournalEntry) → IsOfTurn t → IsPlain t
-turn-plain (Posted n h c payload) a = tt
-turn-plain (Dropped h cause) a = tt
-turn-plain (Started n) a = tt
-turn-plain (Asked n f args) a = tt
 turn-plain (Answered n value) a = a
-turn-plain (Ended n how) a = tt
 turn-plain (Installed p) a = a
 turn-plain Reset a = a
-turn-plain (Seen store) a = tt
-turn-plain (Void cause) a = tt
+turn-plain _ a = tt
 
 turns-plain : (told : List JournalEntry) → AreOfTurns told → ArePlain told
 turns-plain [] all = tt
@@ -170,12 +128,10 @@ occasions-plain m payload (h ∷ hs) r p told both =
 -- ---- an event tells first what its deed is, and then plain entries
 
 abbrev pub IsFirstOf : Deed → List JournalEntry → Type 0
-IsFirstOf Nothing first = first ≡ []
 IsFirstOf (Installing p) first = (store : Store) × (first ≡ Seen store ∷ Installed p ∷ [])
-IsFirstOf (Posting hs payload) first = first ≡ []
 IsFirstOf (Answering inv value) first = first ≡ Answered inv value ∷ []
-IsFirstOf Showing first = first ≡ []
 IsFirstOf Resetting first = (store : Store) × (first ≡ Seen store ∷ Reset ∷ [])
+IsFirstOf _ first = first ≡ []
 
 pub record BeginsWith (d : Deed) (told : List JournalEntry) : Type 0 where
   pub first : List JournalEntry
@@ -220,12 +176,8 @@ event-begins m r p d told after both =
 
 -- the deed answers another invocation, or none
 abbrev pub AnswersOther : Deed → ℕ → Type 0
-AnswersOther Nothing n = Unit {0}
-AnswersOther (Installing p) n = Unit {0}
-AnswersOther (Posting hs payload) n = Unit {0}
 AnswersOther (Answering inv value) n = n ≢ inv
-AnswersOther Showing n = Unit {0}
-AnswersOther Resetting n = Unit {0}
+AnswersOther _ n = Unit {0}
 
 following-as : (m : Machine) (r : NodeState) (xs ys : List JournalEntry) → xs ≡ ys → AreFollowing m r xs → AreFollowing m r ys
 following-as m r xs ys is follow = subst (λ (ts : List JournalEntry). AreFollowing m r ts) is follow
@@ -244,21 +196,16 @@ numbered-told m r (t ∷ told) follow right = numbered-told m (next_state m r t)
 
 -- the deed's own entries call nothing
 first-calls : (d : Deed) (first : List JournalEntry) (n : ℕ) → IsFirstOf d first → calls_of n first ≡ 0
-first-calls Nothing first n is = ap (calls_of n) is
 first-calls (Installing p) first n is = ap (calls_of n) is.1
-first-calls (Posting hs payload) first n is = ap (calls_of n) is
-first-calls (Answering inv value) first n is = ap (calls_of n) is
-first-calls Showing first n is = ap (calls_of n) is
 first-calls Resetting first n is = ap (calls_of n) is.1
+first-calls _ first n is = ap (calls_of n) is
 
 -- and leave whoever waits, if it isn't answered and no era begins
 first-keep : (m : Machine) (r : NodeState) (d : Deed) (first : List JournalEntry) (n : ℕ) → IsFirstOf d first → cuts d ≡ false → AnswersOther d n → (state_after_entries m r first).invocations n ≡ r.invocations n
-first-keep m r Nothing first n is stays other = ap (λ (ts : List JournalEntry). (state_after_entries m r ts).invocations n) is
 first-keep m r (Installing p) first n is stays other = cc
-first-keep m r (Posting hs payload) first n is stays other = ap (λ (ts : List JournalEntry). (state_after_entries m r ts).invocations n) is
 first-keep m r (Answering inv value) first n is stays other = ap (λ (ts : List JournalEntry). (state_after_entries m r ts).invocations n) is ∙ (answered-Moves m r inv value).others n other
-first-keep m r Showing first n is stays other = ap (λ (ts : List JournalEntry). (state_after_entries m r ts).invocations n) is
 first-keep m r Resetting first n is stays other = cc
+first-keep m r _ first n is stays other = ap (λ (ts : List JournalEntry). (state_after_entries m r ts).invocations n) is
 
 -- whoever waits goes on waiting, and doesn't call
 pub event-keeps : (m : Machine) (r : NodeState) (d : Deed) (told : List JournalEntry) (n : ℕ) → BeginsWith d told → AreFollowing m r told → IsNumbered r → cuts d ≡ false → AnswersOther d n → IsWaiting r n
