@@ -52,7 +52,11 @@ impl SharedMachine {
     ) -> Result<SharedMachine, NoMemory>
         ensures { IfOk result (λ shared. shared ≡ description.now) }
     {
-        SharedMachine::of(alloc, description, ready_capsules(alloc, description, programs)?)
+        SharedMachine::of(
+            alloc,
+            description,
+            ready_capsules(alloc, description, programs)?,
+        )
     }
 
     fn of(
@@ -99,7 +103,11 @@ impl SharedMachine {
 }
 
 /// The first of the capsules whose bytes these are.
-fn ready_among(description: &Description, ready: &[ReadyCapsule], bytes: &[u8]) -> Option<ReadyCapsule>
+fn ready_among(
+    description: &Description,
+    ready: &[ReadyCapsule],
+    bytes: &[u8],
+) -> Option<ReadyCapsule>
     requires { All (IsReadyOn description.now) ready.now }
     ensures { IfSome result (IsReady description.now bytes.now) }
 {
