@@ -10,6 +10,7 @@ use Rattle.mate_num.specs.declared.shape.Shape.{Shape}
 use Rattle.vm_desc.specs.Shapes.{shape_of}
 use Rattle.vm_desc.specs.declared.description.Description.{Description}
 use Rattle.mate_steps.specs.HeldCapsules.{IsHeldOf, ReadsText}
+use Rattle.mate_steps.specs.declared.capsule_file.VerifiedCapsule.{VerifiedCapsule}
 use Rattle.mate_steps.proofs.capsule_file.read_capsule.Goals as goal
 
 -- a capsule that was boxed is the one that the text spells
