@@ -7,10 +7,10 @@ use Rattle.node_calls.proofs.EraLemmas.{seen-last, told-one}
 use Rattle.node_calls.proofs.InstallLemmas.{IsNoNewer-from, newer-than, RestsAgain-once, RestsAgain-once_none}
 use Rattle.node_calls.proofs.installing.install_program.Goals as goal
 
-pub returns-then-held-held-clause-installs : goal.returns-then-held-held-clause-installs
-returns-then-held-held-clause-installs c =
+pub returns-then-held-clause-installs : goal.returns-then-held-clause-installs
+returns-then-held-clause-installs c =
     let version = ap (λ (y : Held). y.version) c.held.ensures in
-    let older = c.if-held-held.true in
+    let older = c.if-held.true in
     (IsNoNewer-from c.args.description.now c.args.parts.now c.args.bytes.now (incoming c.args.program) c.version-held.result c.requires.rests c.requires.can c.version-held.ensures (omega (arith, version, older)), refl)
 
 pub seen_in-requires-clause-room : goal.seen_in-requires-clause-room
@@ -77,7 +77,7 @@ returns-then-runs_once-clause-installs c =
     let old : Parts = c.args.parts.now in
     let i : Incoming = incoming c.args.program in
     let version = ap (λ (y : Held). y.version) c.held.ensures in
-    let above = c.if-held-held.false in
+    let above = c.if-held.false in
     let newer = newer-than d old i c.version-held.result c.requires.rests c.version-held.ensures (omega (arith, version, above)) in
     RestsAgain-once d old c.seen_in.new.parts c.begin.new.parts c.args.at c.args.bytes.now i c.requires.can newer c.seen_in.ensures.tells c.begin.ensures.again c.post_in.new.parts c.new.result c.post_in.result (sym c.if-runs_once.ensures) c.new.ensures
     c.post_in.ensures.again
@@ -88,7 +88,7 @@ returns-else-runs_once-clause-installs c =
     let old : Parts = c.args.parts.now in
     let i : Incoming = incoming c.args.program in
     let version = ap (λ (y : Held). y.version) c.held.ensures in
-    let above = c.if-held-held.false in
+    let above = c.if-held.false in
     let newer = newer-than d old i c.version-held.result c.requires.rests c.version-held.ensures (omega (arith, version, above)) in
     RestsAgain-once_none d old c.seen_in.new.parts c.begin.new.parts c.args.at c.args.bytes.now i c.requires.can newer c.seen_in.ensures.tells c.begin.ensures.again (sym c.if-runs_once.ensures)
 

@@ -1,14 +1,19 @@
 -- The answer, or the same node.
-use Rattle.std.proofs.Common.{◌≡◌, ℤ, to_z, of_z, w16, rules, subst}
+use Rattle.std.proofs.Common.{◌≡◌, ℤ, to_z, of_z, w16, rules, subst, sym}
 use Rattle.std.specs.Prelude.{MatchResult}
 use Rattle.mate_journal.specs.NodeScript.{AnswersCall}
 use Rattle.node_invariant.specs.Keeps.{reading}
 use Rattle.node_calls.specs.Calls.{RestsAgain, NobodyWaits}
+use Rattle.vm_desc.specs.declared.description.Description.{Description}
+use Rattle.node_invariant.specs.Starting.{Rests}
 use Rattle.open_node.specs.View.{heard_of, Tells}
 use Rattle.open_node.specs.Calls.{Pacing}
 use Rattle.open_node.proofs.PaceLemmas.{seen_as}
 use Rattle.open_node.proofs.CallLemmas.{Tells-again, Rests-either, Seen-either}
 use Rattle.open_node.proofs.open_node.OpenNode.answer.Goals as goal
+
+pub answer_in-requires-clause-rests : goal.answer_in-requires-clause-rests
+answer_in-requires-clause-rests c = subst (λ (d : Description). Rests d c.self.inside.parts) (sym c.description.ensures) c.self.invariant.rests
 
 pub invariant_of-self : goal.invariant_of-self
 invariant_of-self c =

@@ -3,11 +3,15 @@ use Rattle.std.proofs.Common.{sym, subst}
 use Rattle.std.specs.Prelude.{IfSome}
 use Rattle.vm_desc.specs.declared.description.Description.{Description}
 use Rattle.node_calls.specs.Installing.{InstallsBytes, IsReady, Refuses}
+use Rattle.node_invariant.specs.Starting.{Rests}
 use Rattle.open_node.specs.View.{heard_of, Tells}
 use Rattle.open_node.specs.Calls.{Pacing}
 use Rattle.open_node.proofs.PaceLemmas.{seen_as}
 use Rattle.open_node.proofs.CallLemmas.{Tells-paced, Rests-either, Seen-either}
 use Rattle.open_node.proofs.open_node.OpenNode.install.Goals as goal
+
+pub install_shared-requires-clause-rests : goal.install_shared-requires-clause-rests
+install_shared-requires-clause-rests c = subst (λ (d : Description). Rests d c.self.inside.parts) (sym c.description-description.ensures) c.self.invariant.rests
 
 pub install_shared-requires-clause-ready : goal.install_shared-requires-clause-ready
 install_shared-requires-clause-ready c =

@@ -1,10 +1,14 @@
 -- What a node that rests keeps.
-use Rattle.std.proofs.Common.{subst}
+use Rattle.std.proofs.Common.{subst, sym}
 use Rattle.vm_desc.specs.declared.description.Description.{Description}
 use Rattle.node_invariant.specs.Meaning.{machine_in}
+use Rattle.node_invariant.specs.Starting.{Rests}
 use Rattle.open_node.specs.View.{NodeView}
 use Rattle.open_node.specs.Journal.{KeepsJournal}
 use Rattle.open_node.proofs.open_node.OpenNode.kept.Goals as goal
+
+pub keeps_journal-requires : goal.keeps_journal-requires
+keeps_journal-requires c = subst (λ (d : Description). Rests d c.self.inside.parts) (sym c.description.ensures) c.self.invariant.rests
 
 pub returns-clause-keeps : goal.returns-clause-keeps
 returns-clause-keeps c =

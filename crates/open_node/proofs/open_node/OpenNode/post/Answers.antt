@@ -1,12 +1,22 @@
 -- The entries of the post, as they are seen.
-use Rattle.std.proofs.Common.{subst}
+use Rattle.std.proofs.Common.{subst, sym, ◌≡◌, ◌<◌, ◌∙◌, ap, length}
 use Rattle.node_invariant.specs.Meaning.{machine_in}
 use Rattle.node_calls.specs.Posting.{PostGives}
+use Rattle.vm_desc.specs.declared.description.Description.{Description}
+use Rattle.node_invariant.specs.Starting.{Rests}
 use Rattle.open_node.specs.View.{NodeView, heard_of, Tells}
 use Rattle.open_node.specs.Calls.{Pacing}
 use Rattle.open_node.proofs.PaceLemmas.{seen_as}
 use Rattle.open_node.proofs.CallLemmas.{Tells-again}
 use Rattle.open_node.proofs.open_node.OpenNode.post.Goals as goal
+
+pub post_in-requires-clause-rests : goal.post_in-requires-clause-rests
+post_in-requires-clause-rests c = subst (λ (d : Description). Rests d c.self.inside.parts) (sym c.description.ensures) c.self.invariant.rests
+
+pub post_in-requires-clause-handler : goal.post_in-requires-clause-handler
+post_in-requires-clause-handler c =
+    let same : c.description.result.now ≡ c.args.self.now.description = c.description.ensures ∙ ap (λ (v : NodeView). v.description) c.self.view_is in
+    subst (λ (d : Description). c.args.handler.0 < length d.handlers.items) (sym same) c.requires.handler
 
 pub invariant_of-self : goal.invariant_of-self
 invariant_of-self c = record { rests = (rw c.description.ensures at c.post_in.ensures.again).rests }

@@ -1,12 +1,17 @@
 -- The reset, as it is seen.
-use Rattle.std.proofs.Common.{subst}
+use Rattle.std.proofs.Common.{subst, sym}
 use Rattle.mate_journal.specs.NodeScript.{Resets}
 use Rattle.node_invariant.specs.Meaning.{machine_in}
+use Rattle.vm_desc.specs.declared.description.Description.{Description}
+use Rattle.node_invariant.specs.Starting.{Rests}
 use Rattle.open_node.specs.View.{NodeView, heard_of, Tells}
 use Rattle.open_node.specs.Calls.{Pacing}
 use Rattle.open_node.proofs.PaceLemmas.{seen_as}
 use Rattle.open_node.proofs.CallLemmas.{Tells-paced}
 use Rattle.open_node.proofs.open_node.OpenNode.reset.Goals as goal
+
+pub reset_in-requires-clause-rests : goal.reset_in-requires-clause-rests
+reset_in-requires-clause-rests c = subst (λ (d : Description). Rests d c.self.inside.parts) (sym c.description.ensures) c.self.invariant.rests
 
 pub invariant_of-self : goal.invariant_of-self
 invariant_of-self c = record { rests = (rw c.description.ensures at c.reset_in.ensures.again).rests }

@@ -1,12 +1,17 @@
 -- The store, as it is seen.
-use Rattle.std.proofs.Common.{subst}
+use Rattle.std.proofs.Common.{subst, sym}
 use Rattle.mate_journal.specs.NodeScript.{ShowsOnce}
 use Rattle.node_invariant.specs.Meaning.{machine_in}
+use Rattle.vm_desc.specs.declared.description.Description.{Description}
+use Rattle.node_invariant.specs.Starting.{Rests}
 use Rattle.open_node.specs.View.{NodeView, heard_of, Tells}
 use Rattle.open_node.specs.Calls.{Pacing}
 use Rattle.open_node.proofs.PaceLemmas.{seen_as}
 use Rattle.open_node.proofs.CallLemmas.{Tells-store}
 use Rattle.open_node.proofs.open_node.OpenNode.seen.Goals as goal
+
+pub seen_in-requires-clause-rests : goal.seen_in-requires-clause-rests
+seen_in-requires-clause-rests c = subst (λ (d : Description). Rests d c.self.inside.parts) (sym c.description.ensures) c.self.invariant.rests
 
 pub invariant_of-self : goal.invariant_of-self
 invariant_of-self c = record { rests = (rw c.description.ensures at c.seen_in.ensures.tells).again.rests }

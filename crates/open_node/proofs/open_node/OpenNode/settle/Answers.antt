@@ -1,5 +1,5 @@
 -- At most 32 entries are owed.
-use Rattle.std.proofs.Common.{◌+◌, ◌*◌, ap, subst, arith}
+use Rattle.std.proofs.Common.{◌+◌, ◌*◌, ap, subst, arith, sym}
 use Rattle.mate_num.specs.declared.bounds.TheConstants.{CODE_MAX}
 use Rattle.vm_desc.proofs.DescriptionLemmas.{bounds_of}
 use Rattle.node_contexts.specs.Programs.{held_at}
@@ -7,10 +7,15 @@ use Rattle.node_invariant.specs.Meaning.{machine_in}
 use Rattle.node_invariant.specs.Keeps.{reading}
 use Rattle.node_invariant.proofs.RoomLemmas.{owes-most}
 use Rattle.node_calls.specs.Pacing.{SettlesWithin}
+use Rattle.vm_desc.specs.declared.description.Description.{Description}
+use Rattle.node_invariant.specs.Starting.{Rests}
 use Rattle.open_node.specs.View.{NodeView, heard_of, Tells}
 use Rattle.open_node.proofs.PaceLemmas.{seen_as}
 use Rattle.open_node.proofs.MadeLemmas.{Tells-settled}
 use Rattle.open_node.proofs.open_node.OpenNode.settle.Goals as goal
+
+pub settle-requires-clause-rests : goal.settle-requires-clause-rests
+settle-requires-clause-rests c = subst (λ (d : Description). Rests d c.self.inside.parts) (sym c.description.ensures) c.self.invariant.rests
 
 pub settle-requires-clause-room : goal.settle-requires-clause-room
 settle-requires-clause-room c =
@@ -21,7 +26,7 @@ settle-requires-clause-room c =
     omega arith
 
 pub settle-requires-clause-quantum : goal.settle-requires-clause-quantum
-settle-requires-clause-quantum c = let low = (bounds_of c.self.inside.machine).quantum_low in omega arith
+settle-requires-clause-quantum c = let low = (bounds_of c.description.result.now).quantum_low in omega arith
 
 pub returns : goal.returns
 returns c =

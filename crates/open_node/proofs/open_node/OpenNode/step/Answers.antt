@@ -7,11 +7,16 @@ use Rattle.node_invariant.specs.Meaning.{machine_in}
 use Rattle.node_invariant.specs.Keeps.{reading}
 use Rattle.node_invariant.proofs.MoveLemmas.{none_ready}
 use Rattle.node_invariant.proofs.RoomLemmas.{starts-most}
+use Rattle.vm_desc.specs.declared.description.Description.{Description}
+use Rattle.node_invariant.specs.Starting.{Rests}
 use Rattle.open_node.specs.View.{NodeView, heard_of, Tells}
 use Rattle.open_node.specs.Calls.{HasStepped}
 use Rattle.open_node.proofs.PaceLemmas.{seen_as}
 use Rattle.open_node.proofs.MadeLemmas.{Tells-turn}
 use Rattle.open_node.proofs.open_node.OpenNode.step.Goals as goal
+
+pub take_turn-requires-clause-rests : goal.take_turn-requires-clause-rests
+take_turn-requires-clause-rests c = subst (λ (d : Description). Rests d c.self.inside.parts) (sym c.description.ensures) c.self.invariant.rests
 
 pub returns-then-not-is_ready : goal.returns-then-not-is_ready
 returns-then-not-is_ready c =

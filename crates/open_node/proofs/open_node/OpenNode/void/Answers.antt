@@ -1,11 +1,16 @@
 -- The entry, as it is seen.
-use Rattle.std.proofs.Common.{◌≡◌, ◌∷◌, [], subst}
+use Rattle.std.proofs.Common.{◌≡◌, ◌∷◌, [], subst, sym}
 use Rattle.mate_journal.specs.Journal.{Void}
+use Rattle.vm_desc.specs.declared.description.Description.{Description}
+use Rattle.node_invariant.specs.Starting.{Rests}
 use Rattle.open_node.specs.View.{NodeView, Tells}
 use Rattle.open_node.specs.Calls.{Pacing}
 use Rattle.open_node.proofs.PaceLemmas.{seen_as}
 use Rattle.open_node.proofs.CallLemmas.{Tells-again}
 use Rattle.open_node.proofs.open_node.OpenNode.void.Goals as goal
+
+pub void_in-requires-clause-rests : goal.void_in-requires-clause-rests
+void_in-requires-clause-rests c = subst (λ (d : Description). Rests d c.self.inside.parts) (sym c.description.ensures) c.self.invariant.rests
 
 pub invariant_of-self : goal.invariant_of-self
 invariant_of-self c = record { rests = (rw c.description.ensures at c.void_in.ensures.again).rests }
