@@ -4,7 +4,6 @@ use Rattle.std.specs.Prelude.{IsSomeAnd, IfErr, IfOk}
 use Rattle.std.specs.Global.{Vec}
 use Rattle.mate_files.specs.Files.{Names, WhereTold}
 use Rattle.ts_checked.specs.Checked.{checked_tree}
-use Rattle.ts_syntax.specs.declared.script.Script.{Script}
 use Rattle.ts_checker.specs.Accepted.{IsAccepted}
 use Rattle.mate_steps.specs.declared.code.CompiledScript.{CompiledScript}
 use Rattle.vm_desc.specs.Limits.{Parts}
@@ -16,9 +15,10 @@ use Rattle.mate_refusals.specs.declared.cause.Unread.{Unread}
 use Rattle.mate_refusals.specs.declared.cause.Unread.TheVariants.{Failed, Large}
 use Rattle.mate_refusals.specs.declared.refusal.Refusal.{Refusal}
 use Rattle.mate_refusals.specs.declared.refusal.Refusal.TheVariants.{InFile, NoMemory}
-use Rattle.mate_steps.specs.Expansions.{script_with_procedures, expanded_script, expanded_bytes, expanded_source}
+use Rattle.mate_steps.specs.Expansions.{script_with_procedures, expanded_script, expanded_bytes, expanded_source, expansion_in}
+use Rattle.proc_names.specs.declared.named.PScript.{PScript}
 use Rattle.proc_names.specs.Named.{written_of}
-use Rattle.ts_syntax.specs.Tree.{ProcedureSource}
+use Rattle.ts_syntax.specs.Tree.{ProcedureSource, Source}
 use Rattle.mate_steps.specs.Parts.{Folder, IsRead, IsUnread, file, machine, machine_file, machine_text}
 use Rattle.mate_steps.specs.Sources.{source}
 use Rattle.mate_steps.specs.Steps.{Then, goes_on, stops}
@@ -122,7 +122,7 @@ IsNotUnread name r = IfErr r (λ why. (unread : Unread) → why ≢ InFile name 
 read_but_wanting : (name : List ℕ) (r : Refusal) (unread : Unread) → r ≡ NoMemory → r ≢ InFile name (cause.Unread unread)
 read_but_wanting name r unread wanting clash = cc
 
-unexpanded : (name : List ℕ) (source : ProcedureSource) (r : Result Script Refusal) → expanded_script name source r → IsNotUnread name r
+unexpanded : (name : List ℕ) (source : ProcedureSource) (r : Result Source Refusal) → expanded_script name source r → IsNotUnread name r
 unexpanded name source (Ok s) is = tt
 unexpanded name source (Err r) (inl x) = λ unread clash. let told = x.2 in cc
 unexpanded name source (Err r) (inr wanting) = λ unread. read_but_wanting name r unread wanting
@@ -131,15 +131,20 @@ unread_script : (name bytes : List ℕ) (why : Refusal) → script_with_procedur
 unread_script name bytes why (inl x) = λ unread clash. let told = x.2 in cc
 unread_script name bytes why (inr wanting) = λ unread. read_but_wanting name why unread wanting
 
-bytes_were_read : (name bytes : List ℕ) (r : Result Script Refusal) → expanded_bytes name bytes r → IsNotUnread name r
+bytes_were_read : (name bytes : List ℕ) (r : Result Source Refusal) → expanded_bytes name bytes r → IsNotUnread name r
 bytes_were_read name bytes r (goes_on s spelled after) = unexpanded name (written_of s) r after
-bytes_were_read name bytes r (stops why refused same) = subst (IsNotUnread {A = Script} name) (sym same) (unread_script name bytes why refused)
+bytes_were_read name bytes r (stops why refused same) = subst (IsNotUnread {A = Source} name) (sym same) (unread_script name bytes why refused)
 
-pub was_read : (f : Folder) (name bytes : List ℕ) (r : Result Script Refusal) → HoldsFile f name (Some bytes) → length bytes ≤ 1048576 → expanded_source f name r
+pub was_read : (f : Folder) (name bytes : List ℕ) (r : Result Source Refusal) → HoldsFile f name (Some bytes) → length bytes ≤ 1048576 → expanded_source f name r
     → IfErr r (λ why. (unread : Unread) → why ≢ InFile name (cause.Unread unread))
 was_read f name bytes r h few (goes_on read is after) = bytes_were_read name read.items r after
 was_read f name bytes r h few (stops why is same) =
-    subst (IsNotUnread {A = Script} name) (sym same) (λ unread. read_but_wanting name why unread (wanting_alone f name bytes h few why is))
+    subst (IsNotUnread {A = Source} name) (sym same) (λ unread. read_but_wanting name why unread (wanting_alone f name bytes h few why is))
+
+-- the script with procedures is told as its expansion is
+pub told_alike : (name : List ℕ) (result : Result PScript Refusal) → IsNotUnread name (expansion_in result) → IsNotUnread name result
+told_alike name (Ok s) is = tt
+told_alike name (Err r) is = is
 
 pub keep_trees : (f : Folder) (d : Description) (name bytes : List ℕ) (r : Result CompiledScript Refusal) → HoldsFile f name (Some bytes) → source f d false name r
     → IfOk r (λ c. IsAccepted d bytes (checked_tree c.script))

@@ -25,13 +25,13 @@ ghost use Rattle.command_callers.specs.Refusals.{IsForMemory};
 use mate_files::Files;
 use mate_refusals::Refusal;
 use mate_steps::{
-    CodeFault, CompiledScript, SourceRefusal, accept, compiled_script, expansion_of, machine_of,
+    CodeFault, CompiledScript, SourceRefusal, accept, compiled_script, expandable_of, machine_of,
     read_file, source_of,
 };
+use proc_names::PScript;
 use std::alloc::Global;
 use ts_checked::Checked;
 use ts_parser::verdict_law;
-use ts_syntax::Script;
 use vm_desc::Description;
 
 /// No other description is read instead of one that isn't there.
@@ -101,12 +101,12 @@ pub fn a_source_that_is_there_is_never_unread<F: Files>(
     alloc: Global,
     files: &mut F,
     name: &str,
-) -> Result<Script, Refusal>
+) -> Result<PScript, Refusal>
     ensures { (bytes : List ℕ) → HoldsFile (record { told = F.contents files.old; steady = F.steady files.old }) name.now (Some bytes)
         → length bytes ≤ FILE_MAX
         → IfErr result (λ r. (why : Unread) → r ≢ InFile name.now (UnreadCause why)) }
 {
-    expansion_of(alloc, files, name)
+    expandable_of(alloc, files, name)
 }
 
 /// A byte that begins no token is told at its place: a body that reads no bytes would accept this source.

@@ -34,9 +34,7 @@ use Rattle.mate_steps.proofs.OneCapsule.{SameCapsule, capsule_agrees}
 use Rattle.mate_steps.proofs.OneSource.{SameCompiled, source_agrees}
 use Rattle.mate_steps.proofs.OneExpansion.{SameScript, expansion_agrees}
 use Rattle.slip_gateway.specs.Stream.{unfinished}
-use Rattle.ts_syntax.specs.Seen.{source_seen}
 use Rattle.ts_syntax.specs.Tree.{Source}
-use Rattle.ts_syntax.specs.declared.script.Script.{Script}
 
 -- ---- table
 
@@ -111,8 +109,8 @@ check_agrees names vm name =
 pub expand_agrees : (names : Names) (name : List ℕ) → AnswersAgree SameText (expand (steady names) name) (expand (steady names) name)
 expand_agrees names name =
     then_agrees SameScript SameText _ _ _ _ (expansion_agrees names name)
-    (λ a b e. subst (λ (s : Source). AnswersAgree SameText (writes (script_line (source_seen a))) (writes (script_line s))) (same a b e) (writes_agree (script_line (source_seen a)))) where
-      same : (a b : Script) → SameScript a b → source_seen a ≡ source_seen b
+    (λ a b e. subst (λ (s : Source). AnswersAgree SameText (writes (script_line a)) (writes (script_line s))) (same a b e) (writes_agree (script_line a))) where
+      same : (a b : Source) → SameScript a b → a ≡ b
       same a b e = e
 
 -- ---- feed

@@ -1,16 +1,15 @@
 -- What is compiled of an expansion's text runs as the source with procedures does.
-use Rattle.std.proofs.Common.{ℕ, Bool, List, Ok, ◌∙◌, ap, subst}
+use Rattle.std.proofs.Common.{◌≡◌, ℕ, Bool, List, Ok, ◌∙◌, ap, subst}
 use Rattle.vm_desc.specs.Shapes.{shape_of}
 use Rattle.vm_desc.specs.declared.description.Description.{Description}
-use Rattle.ts_syntax.specs.Seen.{source_seen}
+use Rattle.ts_syntax.specs.Tree.{Source}
 use Rattle.ts_checked.specs.Statement.{Block}
-use Rattle.ts_syntax.specs.declared.script.Script.{Script}
 use Rattle.ts_printer.specs.Line.{script_line}
 use Rattle.ts_checker.specs.Accepted.{IsAccepted}
 use Rattle.ts_meaning.specs.Translation.{code_of}
 use Rattle.proc_names.specs.Named.{written_of}
 use Rattle.proc_names.specs.declared.named.PScript.{PScript}
-use Rattle.proc_expansion.specs.Answer.{IsExpansion}
+use Rattle.proc_expansion.specs.Expansion.{expansion}
 use Rattle.proc_laws.specs.FrameLaw.{RunsWithFrames}
 use Rattle.ts_procs.specs.Reading.{IsProcedureText}
 use Rattle.mate_steps.specs.Expansions.{expanded_bytes}
@@ -23,13 +22,13 @@ use Rattle.expansion_laws.specs.CompiledText.{CompilesAsSource}
 use Rattle.expansion_laws.specs.ExpansionText.{expansion_text, TextMeansIt}
 
 -- the source that was expanded
-record IsExpanded (bytes : List ℕ) (plain : Script) : Type 0 where
+record IsExpanded (bytes : List ℕ) (plain : Source) : Type 0 where
   script : PScript
   text : IsProcedureText bytes (written_of script)
-  expands : IsExpansion (written_of script) plain
+  expands : plain ≡ expansion (written_of script)
 
-expanded_of : (from bytes : List ℕ) (plain : Script) → expanded_bytes from bytes (Ok plain) → IsExpanded bytes plain
-expanded_of from bytes plain (goes_on s reads expands) = record { script = s; text = reads; expands = expands }
+expanded_of : (from bytes : List ℕ) (plain : Source) → expanded_bytes from bytes (Ok plain) → IsExpanded bytes plain
+expanded_of from bytes plain (goes_on s reads expands) = record { script = s; text = reads; expands = expands.0 }
 expanded_of from bytes plain (stops r refused is) = cc
 
 -- the tree that was compiled
@@ -45,10 +44,10 @@ compiled_of machine fold to text c (stops r refused is) = cc
 pub compiles_as_source : ((bytes : List ℕ) (script : PScript) → IsProcedureText bytes (written_of script) → TextMeansIt (written_of script)) → CompilesAsSource
 compiles_as_source law machine fold from to bytes plain c expands compiles =
     let e : IsExpanded bytes plain = expanded_of from bytes plain expands in
-    let t : IsCompiledTree machine fold (script_line (source_seen plain)) c = compiled_of machine fold to (script_line (source_seen plain)) c compiles in
+    let t : IsCompiledTree machine fold (script_line plain) c = compiled_of machine fold to (script_line plain) c compiles in
     let accepted : IsAccepted machine (expansion_text (written_of e.script)) t.tree =
-    subst (λ (bs : List ℕ). IsAccepted machine bs t.tree) (ap script_line e.expands.is) t.accepted in
-    let means : MeansTree (shape_of machine) fold t.tree = means-accepted machine fold (script_line (source_seen plain)) t.tree c.code t.accepted t.compiled.code_is in
+    subst (λ (bs : List ℕ). IsAccepted machine bs t.tree) (ap script_line e.expands) t.accepted in
+    let means : MeansTree (shape_of machine) fold t.tree = means-accepted machine fold (script_line plain) t.tree c.code t.accepted t.compiled.code_is in
     let frames : RunsWithFrames machine (written_of e.script) t.tree = law bytes e.script e.text machine t.tree accepted in
     record {
       source = written_of e.script;

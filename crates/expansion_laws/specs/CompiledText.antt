@@ -7,9 +7,7 @@ use Rattle.vm_desc.specs.declared.description.Description.{Description}
 use Rattle.mate_code.specs.BytesVerification.{bytes_verification}
 use Rattle.mate_code.specs.Run.{Code, code_run}
 use Rattle.mate_code.specs.Verification.{Marks}
-use Rattle.ts_syntax.specs.Seen.{source_seen}
-use Rattle.ts_syntax.specs.Tree.{ProcedureSource}
-use Rattle.ts_syntax.specs.declared.script.Script.{Script}
+use Rattle.ts_syntax.specs.Tree.{ProcedureSource, Source}
 use Rattle.ts_printer.specs.Line.{script_line}
 use Rattle.proc_laws.specs.Frames.{run_with_frames}
 use Rattle.ts_procs.specs.Reading.{IsProcedureText}
@@ -34,6 +32,6 @@ pub record IsCodeOfText (machine : Description) (bytes : List ℕ) (code : Array
 -- what is compiled of the text that was written of the expansion, folded or not
 abbrev pub CompilesAsSource : Type 0
 CompilesAsSource =
-    (machine : Description) (fold : Bool) (from to bytes : List ℕ) (plain : Script) (c : CompiledScript) →
-    expanded_bytes from bytes (Ok plain) → compiled_bytes machine fold to (script_line (source_seen plain)) (Ok c) →
+    (machine : Description) (fold : Bool) (from to bytes : List ℕ) (plain : Source) (c : CompiledScript) →
+    expanded_bytes from bytes (Ok plain) → compiled_bytes machine fold to (script_line plain) (Ok c) →
     IsCodeOfText machine bytes c.code

@@ -36,7 +36,7 @@ pub(crate) fn write_output<S: Sink, E: Sink>(
         (record { out = S.written out.new; out_faults = S.faults out.new; err = E.written err.new; err_faults = E.faults err.new }) result }
 {
     match output {
-        Output::Document(document) => write_document(document, out, err),
+        Output::Document(document) => write_document(alloc, document, out, err),
         Output::Summary(machine, summary) => {
             write_summary(machine.description(), summary, out, err)
         }
@@ -64,13 +64,18 @@ fn write_report<S: Sink, E: Sink>(alloc: Global, run: &Run, out: &mut S, err: &m
 
 /// Writes a document.
 #[inline(never)]
-fn write_document<S: Sink, E: Sink>(document: &Document, out: &mut S, err: &mut E) -> Status
+fn write_document<S: Sink, E: Sink>(
+    alloc: Global,
+    document: &Document,
+    out: &mut S,
+    err: &mut E,
+) -> Status
     requires { HasText document.now }
     ensures { IsTextWritten (document_text document.now) true
         (record { out = S.written out.old; out_faults = S.faults out.old; err = E.written err.old; err_faults = E.faults err.old })
         (record { out = S.written out.new; out_faults = S.faults out.new; err = E.written err.new; err_faults = E.faults err.new }) result }
 {
-    let written = document.write(out);
+    let written = document.write(alloc, out);
     told(ended(true, written), err)
 }
 

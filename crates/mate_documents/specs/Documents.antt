@@ -5,7 +5,8 @@ use Rattle.hex.specs.Hex.{encode_lower}
 use Rattle.capsule_codec.specs.Image.{capsule_parts}
 use Rattle.capsule_feed.specs.Lines.{feed_text}
 use Rattle.capsule_listing.specs.CapsuleText.{capsule_text, IsVerifiedFor}
-use Rattle.ts_syntax.specs.Seen.{source_seen}
+use Rattle.proc_expansion.specs.Expansion.{expansion}
+use Rattle.proc_names.specs.Named.{written_of}
 pub use Rattle.ts_printer.specs.Line.{script_line}
 use Rattle.mate_documents.specs.declared.document.Document.{Document}
 use Rattle.mate_documents.specs.declared.document.Document.TheVariants as document
@@ -14,7 +15,7 @@ abbrev pub document_text : Document → List ℕ
 document_text (document.OpcodeTable d) = table_text d
 document_text (document.Capsule image) = encode_lower image.value.items ++ codes "\n"
 document_text (document.Listing d l) = capsule_text d (capsule_parts l.value.capsule) l.value.code.code
-document_text (document.Expansion s) = script_line (source_seen s)
+document_text (document.Expansion s) = script_line (expansion (written_of s))
 document_text (document.Answers d stream) = feed_text d stream.items
 document_text document.Serial = codes "serial\n"
 

@@ -1,6 +1,5 @@
 -- The command `expand`: the plain script that the source with procedures in a file expands to.
 use Rattle.std.specs.Prelude.{ℕ, List, Result}
-use Rattle.ts_syntax.specs.Seen.{source_seen}
 use Rattle.mate_documents.specs.Documents.{script_line}
 use Rattle.mate_documents.specs.Owed.{Owed, writes}
 use Rattle.mate_steps.specs.Expansions.{expanded_source}
@@ -9,4 +8,4 @@ use Rattle.mate_steps.specs.Steps.{◌▸◌}
 use Rattle.mate_refusals.specs.declared.refusal.Refusal.{Refusal}
 
 abbrev pub expand : Folder → List ℕ → Result Owed Refusal → Type 0
-expand f name = expanded_source f name ▸ λ s. writes (script_line (source_seen s))
+expand f name = expanded_source f name ▸ λ s. writes (script_line s)

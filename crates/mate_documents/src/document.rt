@@ -2,9 +2,7 @@
 
 ghost use Rattle.std.specs.Prelude.{◌++◌, codes};
 ghost use Rattle.hex.specs.Hex.{encode_lower};
-ghost use Rattle.mate_documents.specs.Documents.{script_line};
 ghost use Rattle.mate_files.specs.Sink.{Puts};
-ghost use Rattle.ts_syntax.specs.Seen.{source_seen};
 
 use crate::boxed_machine::BoxedMachine;
 use capsule_feed::write_answers;
@@ -12,8 +10,9 @@ use capsule_listing::print_capsule;
 use mate_files::{Pen, Sink, SinkFault};
 use mate_num::Image;
 use mate_steps::VerifiedCapsule;
-use ts_printer::print;
-use ts_syntax::Script;
+use proc_names::PScript;
+use proc_writing::write_expansion;
+use std::alloc::Global;
 
 /// What the text of a document is made of. Large parts are boxed.
 #[derive(Drop)]
@@ -24,8 +23,8 @@ pub enum Document {
     Capsule(Box<Image>),
     /// The text of a capsule of this machine.
     Listing(BoxedMachine, Box<VerifiedCapsule>),
-    /// The tokens of a plain script, in one line.
-    Expansion(Script),
+    /// The tokens of the plain script that this one expands to, in one line.
+    Expansion(PScript),
     /// What a new node of this machine answers to the frames of this stream, a line for each.
     Answers(BoxedMachine, Vec<u8>),
     /// That a report shows serial behaviour: one word.
@@ -36,8 +35,8 @@ impl Document {
     ghost use Rattle.std.specs.Prelude.{◌≡◌};
     ghost use Rattle.mate_documents.specs.Documents.{document_text, HasText};
 
-    /// Writes its text. If `out` fails, a prefix was written.
-    pub fn write<S: Sink>(&self, out: &mut S) -> Result<(), SinkFault>
+    /// Writes its text. If `out` fails or no memory is left, a prefix was written.
+    pub fn write<S: Sink>(&self, alloc: Global, out: &mut S) -> Result<(), SinkFault>
         requires { HasText self.now }
         ensures { Puts (S.written out.old) (S.faults out.old) (S.written out.new) (S.faults out.new) result (document_text self.now) }
     {
@@ -47,7 +46,7 @@ impl Document {
             Document::Listing(machine, held) => {
                 print_capsule(machine.description(), &held.capsule, &held.code, out)
             }
-            Document::Expansion(script) => write_script(script, out),
+            Document::Expansion(script) => write_expansion(alloc, script, out),
             Document::Answers(machine, stream) => {
                 write_answers(machine.description(), stream.as_slice(), out)
             }
@@ -67,31 +66,11 @@ fn write_image<S: Sink>(image: &Image, out: &mut S) -> Result<(), SinkFault>
     pen.finish()
 }
 
-/// Writes the tokens of a script, and a line feed.
-fn write_script<S: Sink>(script: &Script, out: &mut S) -> Result<(), SinkFault>
-    ensures { Puts (S.written out.old) (S.faults out.old) (S.written out.new) (S.faults out.new) result
-        (script_line (source_seen script.now)) }
-{
-    match print(script, out) {
-        Ok(()) => end_line(out),
-        Err(fault) => Err(fault),
-    }
-}
-
 /// Writes the word for a report that shows serial behaviour, and a line feed.
 fn write_serial<S: Sink>(out: &mut S) -> Result<(), SinkFault>
     ensures { Puts (S.written out.old) (S.faults out.old) (S.written out.new) (S.faults out.new) result (codes "serial\n") }
 {
     let mut pen = Pen::new();
     pen.text(out, "serial\n");
-    pen.finish()
-}
-
-/// Writes a line feed.
-fn end_line<S: Sink>(out: &mut S) -> Result<(), SinkFault>
-    ensures { Puts (S.written out.old) (S.faults out.old) (S.written out.new) (S.faults out.new) result (codes "\n") }
-{
-    let mut pen = Pen::new();
-    pen.text(out, "\n");
     pen.finish()
 }

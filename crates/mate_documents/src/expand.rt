@@ -9,7 +9,7 @@ use crate::document::Document;
 use crate::output::Output;
 use mate_files::Files;
 use mate_refusals::Refusal;
-use mate_steps::expansion_of;
+use mate_steps::expandable_of;
 use std::alloc::Global;
 
 /// The plain script that the source with procedures in a file expands to.
@@ -20,6 +20,6 @@ pub fn output<F: Files>(alloc: Global, files: &mut F, name: &str) -> Result<Outp
         (F.steady files.new) (F.faults files.new) result }
     ensures writable { IfOk result CanBeWritten }
 {
-    let script = expansion_of(alloc, files, name)?;
+    let script = expandable_of(alloc, files, name)?;
     Ok(Output::Document(Document::Expansion(script)))
 }

@@ -1,16 +1,15 @@
 -- A source with procedures has one answer.
 use Rattle.std.proofs.Common.{◌≡◌, ℕ, List, Ok, Err, refl, sym, ◌∙◌, ap, subst, arith}
 use Rattle.std.specs.Global.{Vec}
-use Rattle.proc_expansion.specs.Answer.{Expands, IsTooLarge, IsTooNested}
+use Rattle.proc_expansion.specs.Answer.{IsWithin, IsWithinOr, IsTooLarge, IsTooNested}
+use Rattle.proc_expansion.specs.Expansion.{expansion}
 use Rattle.proc_names.specs.Named.{written_of}
 use Rattle.proc_names.specs.declared.fault.ProcFault.{ProcFault}
 use Rattle.proc_names.specs.declared.fault.ProcFault.TheVariants.{BadByte, BigLiteral, Unexpected, TooDeep, NoProc, Params, Again, Reserved, TooLarge, TooNested, NoMemory}
 use Rattle.proc_names.specs.declared.named.PScript.{PScript}
 use Rattle.ts_procs.specs.Reading.{ReadsProcedures}
 use Rattle.ts_procs.proofs.ReadingLemmas.{one_script, one_refusal, not_both}
-use Rattle.ts_syntax.specs.Seen.{source_seen}
-use Rattle.ts_syntax.specs.Tree.{ProcedureSource}
-use Rattle.ts_syntax.specs.declared.script.Script.{Script}
+use Rattle.ts_syntax.specs.Tree.{ProcedureSource, Source}
 use Rattle.mate_files.specs.Files.{Names}
 use Rattle.mate_refusals.specs.ExpansionCauses.{expansion_fault}
 use Rattle.mate_refusals.proofs.CauseLemmas.{expansion_fault-once, expansion_fault-told}
@@ -23,8 +22,8 @@ use Rattle.mate_steps.proofs.OneAnswer.{then_agrees, judged_agrees, SameBytes, f
 abbrev pub SameProcedures : PScript → PScript → Type 0
 SameProcedures a b = written_of a ≡ written_of b
 
-abbrev pub SameScript : Script → Script → Type 0
-SameScript a b = source_seen a ≡ source_seen b
+abbrev pub SameScript : Source → Source → Type 0
+SameScript a b = a ≡ b
 
 procedures_agree : (name bytes : List ℕ) → AnswersAgree SameProcedures (script_with_procedures name bytes) (script_with_procedures name bytes)
 procedures_agree name bytes = judged_agrees SameProcedures _ _ _ (one_script bytes) not same where
@@ -41,7 +40,7 @@ data Unexpanded (source : ProcedureSource) (fault : ProcFault) : Type 0 where
   large : (count : ℕ) → IsTooLarge source count → fault ≡ TooLarge count → Unexpanded source fault
   nested : (depth : ℕ) → IsTooNested source depth → fault ≡ TooNested depth → Unexpanded source fault
 
-unexpanded : (source : ProcedureSource) (fault : ProcFault) → Expands source (Err fault) → (fault ≡ NoMemory → ⊥) → Unexpanded source fault
+unexpanded : (source : ProcedureSource) (fault : ProcFault) → IsWithinOr source (Err fault) → (fault ≡ NoMemory → ⊥) → Unexpanded source fault
 unexpanded source (TooLarge count) h told = large count h refl
 unexpanded source (TooNested depth) h told = nested depth h refl
 unexpanded source NoMemory h told = absurd (told refl)
@@ -53,22 +52,22 @@ one_extent source f g (large m p is) (nested n q is') = absurd (omega (arith, p.
 one_extent source f g (nested m p is) (large n q is') = absurd (omega (arith, p.small, q.large))
 one_extent source f g (nested m p is) (nested n q is') = is ∙ ap TooNested (p.counts ∙ sym q.counts) ∙ sym is'
 
-fits : (source : ProcedureSource) (s : Script) (f : ProcFault) → Expands source (Ok s) → Unexpanded source f → ⊥
-fits source s f p (large n q is) = omega (arith, p.small, q.large)
-fits source s f p (nested n q is) = omega (arith, p.shallow, q.deep)
+fits : (source : ProcedureSource) (f : ProcFault) → IsWithin source → Unexpanded source f → ⊥
+fits source f p (large n q is) = omega (arith, p.small, q.large)
+fits source f p (nested n q is) = omega (arith, p.shallow, q.deep)
 
 expanded_agrees : (name : List ℕ) (source : ProcedureSource) → AnswersAgree SameScript (expanded_script name source) (expanded_script name source)
 expanded_agrees name source = judged_agrees SameScript _ _ _ one not same where
-  why : (e : ExpansionCause) → Expands source (Err (expansion_fault e)) → Unexpanded source (expansion_fault e)
+  why : (e : ExpansionCause) → IsWithinOr source (Err (expansion_fault e)) → Unexpanded source (expansion_fault e)
   why e p = unexpanded source (expansion_fault e) p (expansion_fault-told e)
 
-  one : (a b : Script) → Expands source (Ok a) → Expands source (Ok b) → source_seen a ≡ source_seen b
-  one a b p q = p.is ∙ sym q.is
+  one : (a b : Source) → (a ≡ expansion source) × IsWithin source → (b ≡ expansion source) × IsWithin source → a ≡ b
+  one a b p q = p.0 ∙ sym q.0
 
-  not : (a : Script) (e : ExpansionCause) → Expands source (Ok a) → Expands source (Err (expansion_fault e)) → ⊥
-  not a e p q = fits source a (expansion_fault e) p (why e q)
+  not : (a : Source) (e : ExpansionCause) → (a ≡ expansion source) × IsWithin source → IsWithinOr source (Err (expansion_fault e)) → ⊥
+  not a e p q = fits source (expansion_fault e) p.1 (why e q)
 
-  same : (e h : ExpansionCause) → Expands source (Err (expansion_fault e)) → Expands source (Err (expansion_fault h)) → e ≡ h
+  same : (e h : ExpansionCause) → IsWithinOr source (Err (expansion_fault e)) → IsWithinOr source (Err (expansion_fault h)) → e ≡ h
   same e h p q = expansion_fault-once e h (one_extent source (expansion_fault e) (expansion_fault h) (why e p) (why h q))
 
 expanded_bytes_agrees : (name bytes : List ℕ) → AnswersAgree SameScript (expanded_bytes name bytes) (expanded_bytes name bytes)

@@ -1,12 +1,12 @@
 -- The plain script that a source with procedures in a file expands to.
 use Rattle.std.specs.Prelude.{◌≡◌, ℕ, List, Result, Ok, Err, ◌⊎◌}
-use Rattle.proc_expansion.specs.Answer.{Expands}
+use Rattle.proc_expansion.specs.Answer.{IsWithin, IsWithinOr}
+use Rattle.proc_expansion.specs.Expansion.{expansion}
 use Rattle.proc_names.specs.Named.{written_of}
 use Rattle.proc_names.specs.declared.fault.ProcFault.{ProcFault}
 use Rattle.proc_names.specs.declared.named.PScript.{PScript}
 use Rattle.ts_procs.specs.Reading.{ReadsProcedures}
-use Rattle.ts_syntax.specs.Tree.{ProcedureSource}
-use Rattle.ts_syntax.specs.declared.script.Script.{Script}
+use Rattle.ts_syntax.specs.Tree.{ProcedureSource, Source}
 use Rattle.mate_refusals.specs.ExpansionCauses.{expansion_fault}
 use Rattle.mate_refusals.specs.declared.cause.Cause.TheVariants as cause
 use Rattle.mate_refusals.specs.declared.expansion_cause.ExpansionCause.{ExpansionCause}
@@ -26,15 +26,21 @@ script_with_procedures name bytes =
     judged (λ s. ReadsProcedures bytes (Ok s)) (λ why. ReadsProcedures bytes (Err (expansion_fault why)))
     (λ why. InFile name (cause.Expansion why))
 
--- the plain script that it expands to
-abbrev pub expanded_script : List ℕ → ProcedureSource → Result Script Refusal → Type 0
+-- the plain script that it expands to, within the limits
+abbrev pub expanded_script : List ℕ → ProcedureSource → Result Source Refusal → Type 0
 expanded_script name source =
-    judged (λ s. Expands source (Ok s)) (λ why. Expands source (Err (expansion_fault why))) (λ why. InFile name (cause.Expansion why))
+    judged (λ s. (s ≡ expansion source) × IsWithin source) (λ why. IsWithinOr source (Err (expansion_fault why)))
+    (λ why. InFile name (cause.Expansion why))
 
 -- that of its bytes
-abbrev pub expanded_bytes : List ℕ → List ℕ → Result Script Refusal → Type 0
+abbrev pub expanded_bytes : List ℕ → List ℕ → Result Source Refusal → Type 0
 expanded_bytes name bytes = script_with_procedures name bytes ▸ λ s. expanded_script name (written_of s)
 
 -- that of a source
-abbrev pub expanded_source : Folder → List ℕ → Result Script Refusal → Type 0
+abbrev pub expanded_source : Folder → List ℕ → Result Source Refusal → Type 0
 expanded_source f name = file f name ▸ λ bytes. expanded_bytes name bytes.items
+
+-- the plain script that is answered by the script with procedures that expands to it
+abbrev pub expansion_in : Result PScript Refusal → Result Source Refusal
+expansion_in (Ok s) = Ok (expansion (written_of s))
+expansion_in (Err r) = Err r

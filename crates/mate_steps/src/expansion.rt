@@ -1,39 +1,37 @@
-//! From the file of a source with procedures to the plain script that it expands to.
+//! From the file of a source with procedures to the script that can be expanded.
 
 ghost use Rattle.std.specs.Prelude.{◌≡◌, ◌≤◌, length};
 ghost use Rattle.mate_files.specs.declared.files.TheConstants.{FILE_MAX};
 ghost use Rattle.proc_names.specs.Named.{written_of};
-ghost use Rattle.mate_steps.specs.Expansions.{RefusesExpansion, script_with_procedures, expanded_script, expanded_bytes, expanded_source};
+ghost use Rattle.mate_steps.specs.Expansions.{RefusesExpansion, script_with_procedures, expanded_script, expanded_bytes, expanded_source, expansion_in};
 ghost use Rattle.mate_steps.specs.Parts.{ReadsFiles};
 
 use crate::parts::read_file;
 use mate_files::Files;
 use mate_refusals::{Cause, ExpansionCause, Refusal, in_file};
+use proc_expansion::within_limits;
 use std::alloc::Global;
 use std::mem;
-use ts_procs::{PScript, ProcFault, expand, read};
-use ts_syntax::Script;
+use ts_procs::{PScript, ProcFault, read};
 
-/// The plain script that the source with procedures in a file expands to.
-pub fn expansion_of<F: Files>(alloc: Global, files: &mut F, name: &str) -> Result<Script, Refusal>
-    ensures does { expanded_source (record { told = F.contents files.old; steady = F.steady files.old }) name.now result }
+/// The script with procedures that the source in a file spells, if its expansion is within the limits: that isn't built.
+pub fn expandable_of<F: Files>(alloc: Global, files: &mut F, name: &str) -> Result<PScript, Refusal>
+    ensures does { expanded_source (record { told = F.contents files.old; steady = F.steady files.old }) name.now
+        (expansion_in result) }
     ensures reads { ReadsFiles (F.contents files.old) (F.steady files.old) (F.faults files.old) (F.contents files.new)
         (F.steady files.new) (F.faults files.new) result }
 {
     let bytes = read_file(alloc, files, name)?;
-    expanded_bytes(alloc, name, bytes.as_slice())
+    expandable_bytes(alloc, name, bytes.as_slice())
 }
 
 /// The same for the bytes of the source `name`.
-fn expanded_bytes(alloc: Global, name: &str, bytes: &[u8]) -> Result<Script, Refusal>
+fn expandable_bytes(alloc: Global, name: &str, bytes: &[u8]) -> Result<PScript, Refusal>
     requires { length bytes.now ≤ FILE_MAX }
-    ensures { expanded_bytes name.now bytes.now result }
+    ensures { expanded_bytes name.now bytes.now (expansion_in result) }
 {
     let script = script_with_procedures(alloc, name, bytes)?;
-    let plain = expanded_script(alloc, name, &script);
-    // a command ends soon after this: its memory goes back as a whole, not node by node
-    mem::forget(script);
-    plain
+    expandable(alloc, name, script)
 }
 
 /// The script with procedures that the bytes of the source `name` spell.
@@ -47,13 +45,17 @@ fn script_with_procedures(alloc: Global, name: &str, bytes: &[u8]) -> Result<PSc
     }
 }
 
-/// The plain script that the script of the source `name` expands to.
-fn expanded_script(alloc: Global, name: &str, script: &PScript) -> Result<Script, Refusal>
-    ensures { expanded_script name.now (written_of script.now) result }
+/// The script of the source `name`, if its expansion is within the limits.
+fn expandable(alloc: Global, name: &str, script: PScript) -> Result<PScript, Refusal>
+    ensures { expanded_script name.now (written_of script.entry) (expansion_in result) }
 {
-    match expand(alloc, script) {
-        Ok(plain) => Ok(plain),
-        Err(fault) => Err(refused(alloc, name, fault)),
+    match within_limits(alloc, &script) {
+        Ok(()) => Ok(script),
+        Err(fault) => {
+            // a command ends soon after this: its memory goes back as a whole, not node by node
+            mem::forget(script);
+            Err(refused(alloc, name, fault))
+        }
     }
 }
 

@@ -17,7 +17,7 @@ pub use accepting::accept;
 pub use capsule_file::{VerifiedCapsule, capsule_of};
 pub use code::{CodeFault, CompiledScript, compiled_script};
 pub use code_laws::{code_means_its_tree, compiled_code_is_verified, locks_of_compiled_code};
-pub use expansion::expansion_of;
+pub use expansion::expandable_of;
 pub use parts::{machine_of, read_file};
 pub use refusal::SourceRefusal;
 pub use source::{accepted, compiled_bytes, source_of};

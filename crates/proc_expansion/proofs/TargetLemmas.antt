@@ -46,7 +46,8 @@ target_through procs i p body w es j q t within is becomes runs found less insid
     record { within = target.within; body = target.body ∙ sym same }
 
 -- one more
-each_pushed : (P : ℕ → ℕ → Type 0) (ts : List ℕ) (t : ℕ) → ((i u : ℕ) → slice_get ts i ≡ Some u → P i u) → P (length ts) t → (i u : ℕ) → slice_get (ts ++ t ∷ []) i ≡ Some u → P i u
+pub each_pushed : {X : Type 0} (P : ℕ → X → Type 0) (ts : List X) (t : X) → ((i : ℕ) (u : X) → slice_get ts i ≡ Some u → P i u) → P (length ts) t
+    → (i : ℕ) (u : X) → slice_get (ts ++ t ∷ []) i ≡ Some u → P i u
 each_pushed P [] t are one zero u found = let same : t ≡ u = cc in subst (P 0) same one
 each_pushed P [] t are one (suc i) u found = cc
 each_pushed P (x ∷ ts) t are one zero u found = are zero u found

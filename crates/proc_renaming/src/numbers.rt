@@ -10,7 +10,7 @@ use std::alloc::Global;
 use ts_syntax::{Decl, DeclKind, Decls, Word};
 
 /// The name of the variable that the parameter of this number becomes: `_` and the number.
-pub(crate) fn parameter_name(number: u32) -> Name
+pub fn parameter_name(number: u32) -> Name
     ensures { result ≡ parameter_name number }
 {
     let mut digits = Buffer::new();

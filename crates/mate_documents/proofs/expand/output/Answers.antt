@@ -1,4 +1,6 @@
 use Rattle.std.proofs.Common.{refl}
+use Rattle.proc_expansion.specs.Expansion.{expansion}
+use Rattle.proc_names.specs.Named.{written_of}
 use Rattle.mate_steps.specs.Steps.{goes_on}
 use Rattle.mate_steps.proofs.Laws.{reads-as, reads-err}
 use Rattle.mate_documents.proofs.OwedLemmas.{owed-stops}
@@ -9,7 +11,7 @@ pub returns-in_err-script-clause-does : goal.returns-in_err-script-clause-does
 returns-in_err-script-clause-does g c = owed-stops c.in_err-script.field-0.0 c.from_residual.result c.in_err-script.ensures.does c.from_residual.ensures.1
 
 pub returns-clause-does : goal.returns-clause-does
-returns-clause-does g c = goes_on c.in_ok-script.script c.in_ok-script.ensures.does refl
+returns-clause-does g c = goes_on (expansion (written_of c.in_ok-script.script)) c.in_ok-script.ensures.does refl
 
 pub returns-in_err-script-clause-reads : goal.returns-in_err-script-clause-reads
 returns-in_err-script-clause-reads g c = reads-err c.in_err-script.field-0.0 c.from_residual.result c.in_err-script.ensures.reads c.from_residual.ensures.1

@@ -1,0 +1,6 @@
+pub mod StackLemmas
+pub mod HidingLemmas
+pub mod ProgressLemmas
+pub mod TokenLemmas
+pub mod CallLemmas
+pub mod TextLemmas

@@ -1,0 +1,3 @@
+pub mod Hidings
+pub mod Rest
+pub mod Size
