@@ -35,7 +35,7 @@ BeginsOtherwise (t ∷ ts) = IsStart t → ⊥
 pub held-here : (m : Machine) (r : NodeState) (last : ℕ) (ts : List JournalEntry) → KeepsRules m r last ts → BeginsOtherwise ts → AllHeldBack m r
 held-here m r last [] keeps other = keeps
 held-here m r last (Started n ∷ ts) keeps other = absurd (other tt)
-held-here m r last _ keeps other = keeps.2
+held-here m r last (_ ∷ ts) keeps other = keeps.2
 
 -- what is heard is what is told, whatever the stamps
 pub heard_all-told : (m : Machine) (r : NodeState) (es : List TimedEntry) → state_after_all m r es ≡ state_after_entries m r (untimed es)

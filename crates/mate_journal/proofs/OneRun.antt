@@ -22,7 +22,7 @@ use Rattle.mate_journal.specs.Positions.{TellsAt}
 use Rattle.mate_journal.specs.Devices.{DeviceOf, AsksAt, AsksDevicesInOrder}
 use Rattle.mate_journal.specs.Pace.{Pace, no_pace, paced, gives_way}
 use Rattle.mate_journal.specs.Turns.{ShowsReady, entry_at, Turn, IsTurn, after_step, Settles}
-use Rattle.mate_journal.specs.NodeScript.{Step, Install, Post, Run, Whole, EndsRun, IsRunOf, HaveMade, made_at as at, Installs, Posts}
+use Rattle.mate_journal.specs.NodeScript.{Step, Install, Post, Run, Whole, EndsRun, IsRunOf, HaveMade, made_at as at, Installs, Posts, Occasion}
 
 abbrev empty : ArrayVec ℤ
 empty = record { items = [] }

@@ -410,8 +410,10 @@ procedures_read (q ∷ rest) d ds qs ms ps =
 -- tokens that begin with no declaration
 abbrev NoDecl : List TokenKind → Type 0
 NoDecl [] = Unit {0}
+NoDecl (kind.Shared ∷ ks) = ⊥
+NoDecl (kind.Private ∷ ks) = ⊥
+NoDecl (kind.Buffer ∷ ks) = ⊥
 NoDecl (k ∷ ks) = Unit {0}
-NoDecl _ = ⊥
 
 act_first : (k : TokenKind) → Holds (begins_act k) → (ks : List TokenKind) → NoDecl (k ∷ ks)
 act_first kind.Shared h ks = absurd h
