@@ -1,6 +1,6 @@
 -- What is written of a run has one answer, if its reports have one summary.
 use Rattle.std.proofs.Common.{◌≡◌, inl, inr, Bool, true, false, sym, subst}
-use Rattle.command_laws.specs.SameText.{SameText, IsSameRun}
+use Rattle.command_laws.specs.SameText.{SameText, IsOneRun}
 use Rattle.journal_once_laws.specs.Ending.{EndsByItself}
 use Rattle.mate_cli.specs.Runs.{output_of}
 use Rattle.mate_documents.specs.Owed.{Owed, a_text, a_run, exactly}
@@ -21,7 +21,7 @@ same_outputs a b o n same is is' = subst (λ (x : Owed). SameText x n) (sym is) 
 pub exactly_agrees : (a b : Owed) → SameText a b → AnswersAgree SameText (exactly a) (exactly b)
 exactly_agrees a b same = obtained_agrees SameText (λ o. o ≡ a) (λ o. o ≡ b) (λ o n is is'. same_outputs a b o n same is is')
 
-module _ (d : Description) (Is Has : OfRun) (run run' : Run) (once : (how how' : RunEnd) (r r' : Report) → EndsByItself how → EndsByItself how' → Is how r → Has how' r' → brief d r ≡ brief d r') (same : IsSameRun run run') where
+module _ (d : Description) (Is Has : OfRun) (run run' : Run) (once : (how how' : RunEnd) (r r' : Report) → EndsByItself how → EndsByItself how' → Is how r → Has how' r' → brief d r ≡ brief d r') (same : IsOneRun run run') where
   brief_ended : (r r' : Report) → IsEnded Is r → IsEnded Has r' → brief d r ≡ brief d r'
   brief_ended r r' (inl a) (inl b) = once Whole Whole r r' tt tt a b
   brief_ended r r' (inl a) (inr b) = once Whole Full r r' tt tt a b

@@ -1,6 +1,6 @@
 -- Outputs that are the same have one text.
 use Rattle.std.proofs.Common.{◌≡◌, ℕ, Bool, true, false, List, sym, ◌∙◌, ap, subst}
-use Rattle.command_laws.specs.SameText.{SameText, IsSameNodeRun, IsSameRun, IsSameWorld}
+use Rattle.command_laws.specs.SameText.{SameText, IsSameNodeRun, IsOneRun, IsSameWorld}
 use Rattle.command_laws.specs.Texts.{run_end, IsRunText, IsReportText, IsOutputText}
 use Rattle.journal_once_laws.specs.Ending.{EndsByItself}
 use Rattle.journal_once_laws.proofs.OneText.{text-once}
@@ -57,7 +57,7 @@ world-once law d d' w w' ps ps' same full full' bs bs' is is' =
     ∙ (law d w ps is.ended.right.world (run_end full) (run_end full') is.report is'.report (itself full) (itself full') is.ended.run other).0.text
     ∙ ap (λ (x : Description). text x is'.report) same.machine ∙ sym is'.text_is
 
-report-text : WorldsHaveOneReport → (r r' : Run) → IsSameRun r r' → (full full' : Bool) (bs bs' : List ℕ) → IsReportText full r bs → IsReportText full' r' bs' → bs ≡ bs'
+report-text : WorldsHaveOneReport → (r r' : Run) → IsOneRun r r' → (full full' : Bool) (bs bs' : List ℕ) → IsReportText full r bs → IsReportText full' r' bs' → bs ≡ bs'
 report-text law (run.Script d s ps) (run.Script d' s' ps') same full full' bs bs' is is' = run-once d d' s s' ps ps' same full full' bs bs' is is'
 report-text law (run.Script d s ps) (run.World d' w ps') same full full' bs bs' is is' = absurd same
 report-text law (run.World d w ps) (run.Script d' s ps') same full full' bs bs' is is' = absurd same

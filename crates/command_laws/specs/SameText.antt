@@ -24,13 +24,13 @@ pub record IsSameWorld (d d' : Description) (w w' : World) (ps ps' : List Progra
   pub meaning : source_world d w ps ≡ source_world d' w' ps'
 
 -- the same runs
-abbrev pub IsSameRun : Run → Run → Type 0
-IsSameRun (run.Script d script ps) (run.Script d' script' ps') = IsSameNodeRun d d' script script' ps ps'
-IsSameRun (run.World d w ps) (run.World d' w' ps') = IsSameWorld d d' w w' ps ps'
-IsSameRun _ _ = ⊥
+abbrev pub IsOneRun : Run → Run → Type 0
+IsOneRun (run.Script d script ps) (run.Script d' script' ps') = IsSameNodeRun d d' script script' ps ps'
+IsOneRun (run.World d w ps) (run.World d' w' ps') = IsSameWorld d d' w w' ps ps'
+IsOneRun _ _ = ⊥
 
 -- one text, or the same runs
 abbrev pub SameText : Owed → Owed → Type 0
 SameText (a_text whole bs) (a_text whole' bs') = bs ≡ bs'
-SameText (a_run r) (a_run r') = IsSameRun r r'
+SameText (a_run r) (a_run r') = IsOneRun r r'
 SameText _ _ = ⊥

@@ -61,7 +61,8 @@ fn audit_of<F: Files>(
     name: &str,
 ) -> Result<Output, Refusal>
     requires { AreRightPrograms desc.now programs.now }
-    ensures does { audit_of (record { told = F.contents files.old; steady = F.steady files.old }) desc.now programs.now name.now (owed_in result) }
+    ensures does { audit_of (record { told = F.contents files.old; steady = F.steady files.old }) desc.now programs.now name.now
+        (owed_in result) }
     ensures reads { ReadsFiles (F.contents files.old) (F.steady files.old) (F.faults files.old) (F.contents files.new)
         (F.steady files.new) (F.faults files.new) result }
     ensures writable { IfOk result CanBeWritten }

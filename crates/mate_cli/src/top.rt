@@ -59,7 +59,8 @@ pub fn mate<F: Files, S: Sink, E: Sink>(
 /// What the command of the words is to write.
 #[inline(never)]
 fn output_of<F: Files>(alloc: Global, files: &mut F, words: &Vec<String>) -> Result<Output, Refusal>
-    ensures does { Owes (record { told = F.contents files.old; steady = F.steady files.old }) (map string_bytes words.now.items) (owed_in result) }
+    ensures does { Owes (record { told = F.contents files.old; steady = F.steady files.old }) (map string_bytes words.now.items)
+        (owed_in result) }
     ensures reads { ReadsFiles (F.contents files.old) (F.steady files.old) (F.faults files.old) (F.contents files.new)
         (F.steady files.new) (F.faults files.new) result }
     ensures writable { IfOk result CanBeWritten }

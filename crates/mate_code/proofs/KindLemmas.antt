@@ -11,7 +11,7 @@ use Rattle.mate_code.specs.Kind.{kind_of, instr_of, kind_row, form_of}
 use Rattle.mate_code.specs.Instr.{size_of}
 use Rattle.mate_code.specs.Row.{Row, row_of, width_of}
 use Rattle.mate_code.specs.Table.{Layout, base_instrs, base_kinds, buffer_instrs, buffer_kinds, function_instr, function_instrs, function_kind, function_kinds, instrs_in, kinds_of, kind_at}
-use Rattle.mate_code.specs.Code.{operand_at, made_at, instr_at, with_kind}
+use Rattle.mate_code.specs.Code.{operand_at, instr_made, instr_at, with_kind}
 
 pub row-kind : (i : Instr) → kind_row (kind_of i) ≡ row_of i
 row-kind Halt = refl
@@ -66,7 +66,7 @@ all_make t =
     both_make base_instrs (cond t.buffer buffer_instrs [] ++ function_instrs 0 t.sends) base_kinds (cond t.buffer buffer_kinds [] ++ function_kinds 0 t.sends) base_make
     (both_make (cond t.buffer buffer_instrs []) (function_instrs 0 t.sends) (cond t.buffer buffer_kinds []) (function_kinds 0 t.sends) (group_make t.buffer) (functions_make 0 t.sends))
 
-made_by_kind : (place : ℕ) (o : Option (ℕ → Instr)) (p : Option Kind) (bytes : List ℕ) → Makes o p → made_at place o bytes ≡ with_kind place p bytes
+made_by_kind : (place : ℕ) (o : Option (ℕ → Instr)) (p : Option Kind) (bytes : List ℕ) → Makes o p → instr_made place o bytes ≡ with_kind place p bytes
 made_by_kind place None None bytes same = refl
 made_by_kind place None (Some k) bytes same = absurd same
 made_by_kind place (Some make) None bytes same = absurd same
