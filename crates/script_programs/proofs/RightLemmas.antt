@@ -77,7 +77,7 @@ IsRightProgram-compiled d fold bytes tree x c p accepted is capsule machine code
   version = version;
   image = image;
   verified = IsOk-by (bytes_verification (shape_of d) c.code) _ (ap (bytes_verification (shape_of d)) code_is ∙ is.code_is.verified.1);
-  source = subst (λ (o : _). IfSome o (IsSourceOf (shape_of d) (image_code (shape_of d) p.image))) (sym source) 
+  source = subst (λ (o : _). IfSome o (IsSourceOf (shape_of d) (image_code (shape_of d) p.image))) (sym source)
       (source-of_code (shape_of d) fold tree x c p.image (means-accepted d fold bytes tree x.code accepted is.code_is) is code_is image);
 }
 
