@@ -1,5 +1,5 @@
 -- The programs that the files of a right script give are right, and each is of its line.
-use Rattle.std.proofs.Common.{◌≡◌, ◌<◌, ◌≤◌, ◌++◌, ◌^◌, ℕ, Bool, true, false, List, [], ◌∷◌, length, Option, Some, None, option_to_list, Result, Ok, Err, refl, sym, ap, subst, arith}
+use Rattle.std.proofs.Common.{◌≡◌, ◌≤◌, ◌++◌, ℕ, Bool, true, false, List, [], ◌∷◌, length, Option, Some, None, option_to_list, Result, Ok, Err, refl, sym, ap, subst, arith}
 use Rattle.std.specs.Prelude.{All, IfSome, not, nat_lt, if◌then◌else◌}
 use Rattle.std.specs.Result.{result_unwrap_or}
 use Rattle.std.proofs.lemmas.List.Elements.{All-nil, All-head, All-tail}
@@ -64,8 +64,8 @@ code-low : (shape : Shape) (fold : Bool) (tree : Block) (code : ArrayVec ℕ) �
 code-low shape fold tree code is =
     let new : Block = compiled_tree fold tree in
     let bytes : ArrayVec ℕ = record { items = code_bytes (table_of shape) (translation.script_code new) } in
-    let as : IsCompiled shape new bytes = record { need = is.need; size = is.size; code = refl } in
-    let one : 1 ≤ length bytes.items = filled shape new bytes as in
+    let compiled : IsCompiled shape new bytes = record { need = is.need; size = is.size; code = refl } in
+    let one : 1 ≤ length bytes.items = filled shape new bytes compiled in
     let size : size_of_code (translation.code_of new) ≡ length code.items = (bytes-AreVerified shape code.items (translation.code_of new) is.verified.0 is.bytes is.verified.1).size in
     let same : size_of_code (translation.code_of new) ≡ length bytes.items = size_of_code-placed (table_of shape) 0 (translation.script_code new) in
     omega (arith, one, size, same)
