@@ -33,7 +33,13 @@ impl OpenNode {
         ensures { Tells self.old self.new at
             (Pacing (λ _. PostGives (machine_in self.old.description) (heard_of self.old) handler payload.now result)) }
     {
-        post_in(self.machine.description(), &mut self.parts, handler, payload, at)
+        post_in(
+            self.machine.description(),
+            &mut self.parts,
+            handler,
+            payload,
+            at,
+        )
     }
 
     /// Gives the invocation that waits in the context the answer to its call: it is ready, with its turn after all others.

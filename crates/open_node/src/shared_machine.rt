@@ -52,7 +52,11 @@ impl SharedMachine {
     ) -> Result<SharedMachine, NoMemory>
         ensures { IfOk result (λ shared. shared ≡ description.now) }
     {
-        SharedMachine::of(alloc, description, ready_capsules(alloc, description, programs)?)
+        SharedMachine::of(
+            alloc,
+            description,
+            ready_capsules(alloc, description, programs)?,
+        )
     }
 
     fn of(
@@ -106,11 +110,7 @@ fn is_image(capsule: &ReadyCapsule, bytes: &[u8]) -> bool
 }
 
 /// The capsule for one owner more, if the bytes are its image.
-fn ready_if(
-    description: &Description,
-    capsule: &ReadyCapsule,
-    bytes: &[u8],
-) -> Option<ReadyCapsule>
+fn ready_if(description: &Description, capsule: &ReadyCapsule, bytes: &[u8]) -> Option<ReadyCapsule>
     requires { IsReadyOn description.now capsule.now }
     ensures { IfSome result (IsReady description.now bytes.now) }
 {
