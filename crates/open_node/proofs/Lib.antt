@@ -4,3 +4,4 @@ pub mod StandingLemmas
 pub mod MadeLemmas
 pub mod CallLemmas
 pub mod KeptLemmas
+pub mod ReadyLemmas

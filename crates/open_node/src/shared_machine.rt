@@ -1,6 +1,6 @@
 //! What nodes of one machine share.
 
-ghost use Rattle.std.specs.Prelude.{◌≡◌, All, IfOk, IfSome};
+ghost use Rattle.std.specs.Prelude.{◌≡◌, All, IfOk, IfSome, IsTrue, OnOk};
 ghost use Rattle.node_calls.specs.Installing.{IsReady};
 ghost use Rattle.open_node.specs.Machines.{IsReadyOn};
 
@@ -102,7 +102,29 @@ impl SharedMachine {
     }
 }
 
-/// The first of the capsules whose bytes these are.
+/// Whether the bytes are the capsule's image.
+fn is_image(capsule: &ReadyCapsule, bytes: &[u8]) -> bool
+    ensures { IsTrue result → capsule.now.program.image.items ≡ bytes.now }
+{
+    capsule.program.as_held().image.as_slice() == bytes
+}
+
+/// The capsule for one owner more, if the bytes are its image.
+fn ready_if(description: &Description, capsule: &ReadyCapsule, bytes: &[u8]) -> Option<ReadyCapsule>
+    requires { IsReadyOn description.now capsule.now }
+    ensures { IfSome result (IsReady description.now bytes.now) }
+{
+    let _description = description;
+    if !is_image(capsule, bytes) {
+        return None;
+    }
+    match capsule.share() {
+        Ok(shared) => Some(shared),
+        Err(_) => None,
+    }
+}
+
+/// The first of the capsules whose image the bytes are.
 fn ready_among(
     description: &Description,
     ready: &[ReadyCapsule],
@@ -111,13 +133,29 @@ fn ready_among(
     requires { All (IsReadyOn description.now) ready.now }
     ensures { IfSome result (IsReady description.now bytes.now) }
 {
-    let _description = description;
     for capsule in ready {
-        if capsule.program.as_held().image.as_slice() == bytes {
-            return capsule.share().ok();
+        if let Some(shared) = ready_if(description, capsule, bytes) {
+            return Some(shared);
         }
     }
     None
+}
+
+/// The capsule that the bytes are comes behind the others, if they are one.
+fn add_ready(
+    alloc: Global,
+    description: &Description,
+    bytes: &[u8],
+    ready: &mut Vec<ReadyCapsule>,
+) -> Result<(), NoMemory>
+    requires { All (IsReadyOn description.now) ready.old.items }
+    ensures { OnOk result (All (IsReadyOn description.now) ready.new.items) }
+{
+    let Some(capsule) = ReadyCapsule::of(alloc, description, bytes)? else {
+        return Ok(());
+    };
+    ready.push(capsule)?;
+    Ok(())
 }
 
 /// The capsules among the images of the programs.
@@ -130,9 +168,7 @@ fn ready_capsules(
 {
     let mut ready = Vec::new(alloc);
     for program in programs.as_slice() {
-        if let Some(capsule) = ReadyCapsule::of(alloc, description, program.image.as_slice())? {
-            ready.push(capsule)?;
-        }
+        add_ready(alloc, description, program.image.as_slice(), &mut ready)?;
     }
     Ok(ready)
 }

@@ -1,8 +1,9 @@
-use Rattle.std.proofs.Common.{refl, sym, ◌∙◌, ap, subst, ℕ, []}
+use Rattle.std.proofs.Common.{false, refl, sym, ◌∙◌, ap, subst, ℕ, []}
 use Rattle.capsule_exchange.specs.Knowledge.{knowledge}
 use Rattle.vm_desc.specs.declared.description.Description.{Description}
 use Rattle.vm_desc.proofs.DescriptionLemmas.{trickle_rules}
 use Rattle.sim_mote.specs.Motes.{BeginsMote}
+use Rattle.sim_mote.specs.declared.mote.Mote.{Mote}
 use Rattle.sim_mote.proofs.mote.Mote.new.Goals as goal
 
 pub start-requires-clause-settings : goal.start-requires-clause-settings
@@ -10,7 +11,8 @@ start-requires-clause-settings c = trickle_rules c.description-desc.result.now
 
 pub returns : goal.returns
 returns c =
-    let P : Description → Type 0 = λ d. BeginsMote d c.args.random c.args.node _ in
+    let m : Mote = record { node = c.in_ok-on.field-0; timer = c.start.result; exchange = c.in_ok-new.field-0; pumps = false; calls = c.new-2.result } in
+    let P : Description → Type 0 = λ d. BeginsMote d c.args.random c.args.node m in
     subst P c.description-desc.ensures record {
       description = c.in_ok-on.ensures.0 ∙ c.in_ok-share.ensures ∙ sym c.description-desc.ensures;
       empty = c.in_ok-on.ensures.1;

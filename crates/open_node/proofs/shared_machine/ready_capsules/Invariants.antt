@@ -1,0 +1,6 @@
+use Rattle.std.specs.Prelude.{All}
+use Rattle.open_node.specs.Machines.{IsReadyOn}
+use Rattle.open_node.proofs.shared_machine.ready_capsules.Given as goal
+
+abbrev pub invariant-loop-program : goal.invariant-loop-program
+invariant-loop-program l = All (IsReadyOn l.description) l.ready.items
