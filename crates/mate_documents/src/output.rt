@@ -5,6 +5,7 @@ use crate::document::Document;
 use mate_journal::Programs;
 use report_summary::Summary;
 use script_reader::Steps;
+use std::mem;
 use world_script::World;
 
 /// What a command is to write to standard output, after all that it needs was read and found right.
@@ -30,6 +31,8 @@ pub enum Run {
 impl Drop for Output {
     fn drop(self) {
         match self {
+            // the command ends soon after this: this memory goes back as a whole, not node by node
+            Output::Document(Document::Expansion(script)) => mem::forget(script),
             Output::Document(_document) => {}
             Output::Summary(_machine, _summary) => {}
             Output::Run(_run) => {}

@@ -47,7 +47,7 @@ fn script_with_procedures(alloc: Global, name: &str, bytes: &[u8]) -> Result<PSc
 
 /// The script of the source `name`, if its expansion is within the limits.
 fn expandable(alloc: Global, name: &str, script: PScript) -> Result<PScript, Refusal>
-    ensures { expanded_script name.now (written_of script.entry) (expansion_in result) }
+    ensures { expanded_script name.now (written_of script) (expansion_in result) }
 {
     match within_limits(alloc, &script) {
         Ok(()) => Ok(script),
