@@ -262,7 +262,7 @@ module _ (m : Machine) (version : ℕ) (image : ArrayVec ℕ) where
       shown = none_ready (first_state m) (λ n. refl);
       newer = h.version;
       made = refl;
-      follows = subst (λ (b : Bool). MatchBool b (Occasion m (next_state m (first_state m) (Installed p)) main empty []) ([] ≡ [])) (sym h.not_once) refl;
+      follows = subst (λ (b : Bool). MatchBool b (Occasion m (next_state m (first_state m) (Installed p)) main empty []) (◌≡◌ {A = List JournalEntry} [] [])) (sym h.not_once) refl;
     }
 
     posts : Posts m installed main empty (Posted 1 main first empty ∷ Started 1 ∷ [])
