@@ -47,10 +47,13 @@ use Rattle.node_invariant.specs.Fits.{program_of, IsHeld, AreInstalled}
 use Rattle.node_invariant.specs.Keeps.{reading, Keeps, IsTimely, event_at, Grows}
 use Rattle.node_invariant.specs.Continues.{IsPrepared, AddsTidily}
 use Rattle.node_invariant.specs.Starting.{Rests}
+use Rattle.node_calls.specs.declared.installing.Coming.{Coming}
+use Rattle.node_calls.specs.declared.installing.Coming.TheVariants.{Known, Own, Shared}
+use Rattle.node_calls.specs.declared.installing.Installable.{Installable}
 use Rattle.node_calls.specs.declared.posting.PostAnswer.{PostAnswer}
 use Rattle.node_calls.specs.declared.posting.PostAnswer.TheVariants.{Posted as PostedAnswer, NoCode, AllBusy}
 use Rattle.node_calls.specs.Calls.{RestsAgain, AtPace, TellsStore, IsCleared}
-use Rattle.node_calls.specs.Installing.{IsUnverified, IsNoNewer, Incoming, IsInstallable, InstallsBytes, IsReadAs, HoldsCode}
+use Rattle.node_calls.specs.Installing.{IsUnverified, IsNoNewer, Incoming, IsInstallable, InstallsBytes, IsReadAs, CanInstall, HoldsCode, coming_program, comes, held_with, holding_after}
 use Rattle.node_calls.specs.Posting.{PostGives}
 use Rattle.node_calls.proofs.QuietLemmas.{RestsAgain-then, RestsAgain-as}
 use Rattle.node_calls.proofs.EraLemmas.{BeginsEra, RestsAgain-era}
@@ -226,16 +229,46 @@ IsInstallable-from d bytes c v locks image decoded_is image_is of_machine is_of 
     }
 
 -- one whose code the handler holds: what was verified of it holds of it
-pub IsInstallable-known : (d : Description) (s : Parts) (bytes : List ℕ) (c : Capsule) (y : Held) (image : ArrayVec ℕ) (code : VerifiedCode) → Rests d s → IsReadAs d bytes c → held_at s.handlers.programs c.handler ≡ Some y
-    → HoldsCode (held_at s.handlers.programs c.handler) c.code.items → code ≡ y.code → image.items ≡ bytes
-    → IsInstallable d bytes (record { handler = c.handler; held = record { version = c.version; image = image; code = code; locks = y.locks } })
-IsInstallable-known d s bytes c y image code rests read is known code_is same =
-    let right : IsHeld d y = rests.order.keeps.installed.each c.handler y is in
-    let H : Option Held → Type 0 = λ o. HoldsCode o c.code.items in
-    let L : Code → Type 0 = λ instrs. AreLocksOf (shape_of d) instrs y.locks in
-    let of_code : IsVerificationOf (shape_of d) c.code.items y.code = record { shape_is = right.shape; bytes_are = subst H is known; is_verified = right.verified } in
-    let V : VerifiedCode → Type 0 = λ v. IsInstallable d bytes (record { handler = c.handler; held = record { version = c.version; image = image; code = v; locks = y.locks } }) in
-    subst V (sym code_is) (IsInstallable-from d bytes c y.code y.locks image read.decoded read.image read.of_machine of_code (subst L (sym right.code) right.locks_are) same)
+pub CanInstall-known : (d : Description) (s : Parts) (bytes : List ℕ) (c : Capsule) (image : ArrayVec ℕ) → Rests d s → IsReadAs d bytes c → HoldsCode (held_at s.handlers.programs c.handler) c.code.items → image.items ≡ bytes
+    → CanInstall d bytes (held_at s.handlers.programs c.handler) record { handler = c.handler; program = Known c.version image }
+CanInstall-known d s bytes c image rests read known same = by (held_at s.handlers.programs c.handler) refl known where
+  by : (o : Option Held) → held_at s.handlers.programs c.handler ≡ o → HoldsCode o c.code.items → CanInstall d bytes o record { handler = c.handler; program = Known c.version image }
+  by (Some y) is holds =
+      let right : IsHeld d y = rests.order.keeps.installed.each c.handler y is in
+      let L : Code → Type 0 = λ code. AreLocksOf (shape_of d) code y.locks in
+      let of_code : IsVerificationOf (shape_of d) c.code.items y.code = record { shape_is = right.shape; bytes_are = holds; is_verified = right.verified } in
+      record {
+        x = record y { version = c.version; image = image };
+        after = refl;
+        can = IsInstallable-from d bytes c y.code y.locks image read.decoded read.image read.of_machine of_code (subst L (sym right.code) right.locks_are) same;
+      }
+  by None is holds = absurd holds
+
+-- the program that comes is the one that is held then
+pub comes-held : (held : Option Held) (i : Installable) (x : Held) → holding_after held i ≡ Some x → program_of i.handler x ≡ comes i
+comes-held held i x after = by held i.program after where
+  by : (o : Option Held) (p : Coming) → held_with o p ≡ Some x → program_of i.handler x ≡ coming_program i.handler p
+  by o (Own y) is = let e : y ≡ x = cc in ap (λ (z : Held). program_of i.handler z) (sym e)
+  by o (Shared y) is = let e : y ≡ x = cc in ap (λ (z : Held). program_of i.handler z) (sym e)
+  by (Some y) (Known version image) is = let e : record y { version = version; image = image } ≡ x = cc in ap (λ (z : Held). program_of i.handler z) (sym e)
+  by None (Known version image) is = cc
+
+pub comes-version : (held : Option Held) (i : Installable) (x : Held) → holding_after held i ≡ Some x → x.version ≡ (comes i).version
+comes-version held i x after = ap (λ (p : HeldProgram). p.version) (comes-held held i x after)
+
+-- its image and what is held then take their places, and all is cleared
+pub RestsAgain-comes : (d : Description) (old mid : Parts) (pushed : OpenView) (handlers : HeldPrograms) (at_ : Stamp) (bytes : List ℕ) (i : Installable) → Rests d old → IsTimely at_ old.log.all → last_is_seen false (journal_of old.log.all) ≡ true
+    → CanInstall d bytes (held_at old.handlers.programs i.handler) i → IsInstalledIn old.log.all i.handler (comes i).version (comes i).image at_ pushed.all → old.log.all.spare ≤ pushed.all.spare + 1 → IsCleared d (record old { log = pushed }) mid
+    → handlers.programs ≡ set mid.handlers.programs i.handler.0 (holding_after (held_at mid.handlers.programs i.handler) i) → RestsAgain d old (record mid { handlers = handlers }) at_ (λ told. told ≡ Installed (comes i) ∷ [])
+RestsAgain-comes d old mid pushed handlers at_ bytes i rests timely seen can is room cleared put_is =
+    let x : Held = can.x in
+    let comes_is : program_of i.handler x ≡ comes i = comes-held (held_at old.handlers.programs i.handler) i x can.after in
+    let programs_are : mid.handlers.programs ≡ old.handlers.programs = ap (λ (s : Parts). s.handlers.programs) cleared.same in
+    let after : holding_after (held_at mid.handlers.programs i.handler) i ≡ Some x = ap (λ (ps : List (Option Held)). holding_after (held_at ps i.handler) i) programs_are ∙ can.after in
+    let set_now : handlers.programs ≡ set mid.handlers.programs i.handler.0 (Some x) = put_is ∙ ap (λ (o : Option Held). set mid.handlers.programs i.handler.0 o) after in
+    let I : HeldProgram → Type 0 = λ p. IsInstalledIn old.log.all i.handler p.version p.image at_ pushed.all in
+    let R : HeldProgram → Type 0 = λ p. RestsAgain d old (record mid { handlers = handlers }) at_ (λ told. told ≡ Installed p ∷ []) in
+    subst R comes_is (RestsAgain-begun d old mid pushed handlers at_ i.handler x rests timely seen can.can.is_held can.can.handler (subst I (sym comes_is) is) room cleared set_now)
 
 -- the code is refused
 pub IsUnverified-from : (d : Description) (bytes code : List ℕ) (c : Capsule) (fault : VerifyFault) → capsule_in d bytes ≡ Ok (capsule_parts c) → code ≡ c.code.items → bytes_verification (shape_of d) code ≡ Err (refusal_of fault) → IsUnverified d bytes fault
@@ -320,3 +353,16 @@ IsNoNewer-from d s bytes i version rests can version_is older =
 -- a newer one
 pub newer-than : (d : Description) (s : Parts) (i : Incoming) (version : ℕ) → Rests d s → version ≡ held_version_in (held_at s.handlers.programs i.handler) → version < i.held.version → held (reading d s.log.all) i.handler < i.held.version
 newer-than d s i version rests version_is above = let same = held-version d s i.handler rests in omega arith
+
+pub coming-newer : (d : Description) (s : Parts) (bytes : List ℕ) (i : Installable) (can : CanInstall d bytes (held_at s.handlers.programs i.handler) i) (version : ℕ) → Rests d s → version ≡ held_version_in (held_at s.handlers.programs i.handler) → version < (comes i).version
+    → held (reading d s.log.all) i.handler < can.x.version
+coming-newer d s bytes i can version rests version_is above =
+    let its = comes-version (held_at s.handlers.programs i.handler) i can.x can.after in
+    newer-than d s (record { handler = i.handler; held = can.x }) version rests version_is (omega (arith, its, above))
+
+-- what began with the program that comes began with what is held then
+pub begun-coming : (d : Description) (old mid next : Parts) (at_ : Stamp) (bytes : List ℕ) (i : Installable) (can : CanInstall d bytes (held_at old.handlers.programs i.handler) i) → RestsAgain d mid next at_ (λ told. told ≡ Installed (comes i) ∷ [])
+    → RestsAgain d mid next at_ (λ told. told ≡ Installed (program_of i.handler can.x) ∷ [])
+begun-coming d old mid next at_ bytes i can begun_ =
+    let R : HeldProgram → Type 0 = λ p. RestsAgain d mid next at_ (λ told. told ≡ Installed p ∷ []) in
+    subst R (sym (comes-held (held_at old.handlers.programs i.handler) i can.x can.after)) begun_

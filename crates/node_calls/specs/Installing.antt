@@ -16,6 +16,7 @@ use Rattle.mate_journal.specs.Machine.{HeldProgram}
 use Rattle.mate_journal.specs.Journal.{JournalEntry, NodeState, held}
 use Rattle.mate_journal.specs.NodeScript.{Installs}
 use Rattle.mate_journal.specs.Pace.{Pace}
+use Rattle.node_contexts.specs.Programs.{renewed}
 use Rattle.node_contexts.specs.declared.handlers.Held.{Held}
 use Rattle.node_invariant.specs.Meaning.{machine_in}
 use Rattle.node_invariant.specs.declared.parts.Parts.{Parts}
@@ -25,7 +26,7 @@ use Rattle.node_calls.specs.Calls.{RestsAgain, AtPace}
 use Rattle.node_calls.specs.declared.installing.InstallFault.{InstallFault}
 use Rattle.node_calls.specs.declared.installing.InstallFault.TheVariants.{Capsule, Code, NotNewer}
 use Rattle.node_calls.specs.declared.installing.Coming.{Coming}
-use Rattle.node_calls.specs.declared.installing.Coming.TheVariants.{Own, Shared}
+use Rattle.node_calls.specs.declared.installing.Coming.TheVariants.{Known, Own, Shared}
 use Rattle.node_calls.specs.declared.installing.Installable.{Installable}
 use Rattle.node_calls.specs.declared.ready.ReadyCapsule.{ReadyCapsule}
 
@@ -88,13 +89,29 @@ pub record IsInstallable (d : Description) (bytes : List ℕ) (i : Incoming) : T
   pub program : program_of i.handler i.held ≡ program_by capsule bytes
   pub handler : i.handler.0 < length d.handlers.items
 
--- the program that comes, the node's own or a shared one
-abbrev pub coming_held : Coming → Held
-coming_held (Own x) = x
-coming_held (Shared x) = x
+-- what the handler holds when this has come
+abbrev pub held_with : Option Held → Coming → Option Held
+held_with held (Known version image) = renewed version image held
+held_with held (Own x) = Some x
+held_with held (Shared x) = Some x
 
-abbrev pub incoming : Installable → Incoming
-incoming i = record { handler = i.handler; held = coming_held i.program }
+abbrev pub holding_after : Option Held → Installable → Option Held
+holding_after held i = held_with held i.program
+
+-- the program that comes, as a journal has it
+abbrev pub coming_program : HandlerId → Coming → HeldProgram
+coming_program h (Known version image) = record { handler = h; version = version; image = image }
+coming_program h (Own x) = program_of h x
+coming_program h (Shared x) = program_of h x
+
+abbrev pub comes : Installable → HeldProgram
+comes i = coming_program i.handler i.program
+
+-- with what the handler holds, this can be installed
+pub record CanInstall (d : Description) (bytes : List ℕ) (held : Option Held) (i : Installable) : Type 0 where
+  pub x : Held
+  pub after : holding_after held i ≡ Some x
+  pub can : IsInstallable d bytes (record { handler = i.handler; held = x })
 
 -- the bytes are the capsule that is ready
 abbrev pub IsReady : Description → List ℕ → ReadyCapsule → Type 0

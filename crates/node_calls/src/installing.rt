@@ -1,17 +1,17 @@
 //! Installs: a newer capsule replaces a handler's program, and an era begins.
 
-ghost use Rattle.std.specs.Prelude.{◌≡◌, ◌<◌, ◌≤◌, ◌∷◌, [], true, false, length, slice_set, Some, IfSome, IsTrue};
+ghost use Rattle.std.specs.Prelude.{◌≡◌, ◌<◌, ◌≤◌, ◌∷◌, [], true, false, length, slice_set, IfSome, IsTrue};
+ghost use Rattle.mate_num.specs.declared.id.HandlerId.{HandlerId as Handler};
 ghost use Rattle.mate_journal.specs.Journal.{journal_of, Installed};
 ghost use Rattle.journal_laws.specs.Growth.{last_is_seen};
 ghost use Rattle.vm_desc.specs.Shapes.{shape_of};
 ghost use Rattle.code_verifier.specs.Verified.{IsVerificationOf};
 ghost use Rattle.node_contexts.specs.Programs.{held_at};
-ghost use Rattle.node_invariant.specs.Fits.{program_of};
 ghost use Rattle.node_invariant.specs.Keeps.{IsTimely};
 ghost use Rattle.node_invariant.specs.Meaning.{machine_in};
 ghost use Rattle.node_invariant.specs.Starting.{Rests};
 ghost use Rattle.node_calls.specs.Calls.{RestsAgain};
-ghost use Rattle.node_calls.specs.Installing.{HoldsCode, IsInstallable, IsReadAs, IsReady, InstallGives, coming_held, incoming};
+ghost use Rattle.node_calls.specs.Installing.{CanInstall, HoldsCode, IsInstallable, IsReadAs, IsReady, InstallGives, coming_program, comes, holding_after};
 
 use crate::era::clear;
 use crate::posting::post_in;
@@ -37,20 +37,35 @@ pub enum InstallFault {
     NotNewer { held: u32 },
 }
 
-/// A program that comes to a handler: one of the node's own, or one that nodes share.
+/// What comes to a handler.
 #[derive(Drop)]
 enum Coming {
+    /// The code that the handler holds, with this version and this image.
+    Known { version: u32, image: Image },
+    /// A program of the node's own.
     Own(Held),
+    /// One that nodes share.
     Shared(SharedHeld),
 }
 
 impl Coming {
-    fn held(&self) -> &Held
-        ensures { result.now ≡ coming_held self.now }
+    fn version(&self) -> u32
+        ensures { (h : Handler) → result ≡ (coming_program h self.now).version }
     {
         match self {
-            Coming::Own(held) => held,
-            Coming::Shared(shared) => shared.as_held(),
+            Coming::Known { version, .. } => *version,
+            Coming::Own(held) => held.version,
+            Coming::Shared(shared) => shared.as_held().version,
+        }
+    }
+
+    fn image(&self) -> &Image
+        ensures { (h : Handler) → result.now ≡ (coming_program h self.now).image }
+    {
+        match self {
+            Coming::Known { image, .. } => image,
+            Coming::Own(held) => &held.image,
+            Coming::Shared(shared) => &shared.as_held().image,
         }
     }
 }
@@ -109,20 +124,24 @@ fn holds_code(parts: &Parts, capsule: &Capsule) -> bool
 /// The program of the capsule that the bytes are, whose code the handler holds. What was verified of the code, and its locks, are
 /// still right: they depend on the machine and the code alone.
 #[inline(never)]
-fn known_program(description: &Description, parts: &Parts, bytes: &[u8], capsule: &Capsule) -> Held
+fn known_program(
+    description: &Description,
+    parts: &Parts,
+    bytes: &[u8],
+    capsule: &Capsule,
+) -> Installable
     requires rests { Rests description.now parts.now }
     requires read { IsReadAs description.now bytes.now capsule.now }
     requires known { HoldsCode (held_at parts.now.handlers.programs capsule.now.handler) capsule.now.code.items }
-    ensures { IsInstallable description.now bytes.now (record { handler = capsule.now.handler; held = result }) }
+    ensures { CanInstall description.now bytes.now (held_at parts.now.handlers.programs result.handler) result }
 {
-    let Some(held) = parts.handlers.get(capsule.handler) else {
-        unreachable!()
-    };
-    Held {
-        version: capsule.version,
-        image: image_in(description, bytes, capsule),
-        code: held.code.copy(),
-        locks: held.locks,
+    let _parts = parts;
+    Installable {
+        handler: capsule.handler,
+        program: Coming::Known {
+            version: capsule.version,
+            image: image_in(description, bytes, capsule),
+        },
     }
 }
 
@@ -130,10 +149,12 @@ fn known_program(description: &Description, parts: &Parts, bytes: &[u8], capsule
 #[inline(never)]
 fn put(handlers: &mut Handlers, program: Installable)
     requires { program.handler.0 < length handlers.old.programs }
-    ensures { handlers.new.programs ≡ slice_set handlers.old.programs program.handler.0 (Some (coming_held program.program)) }
+    ensures { handlers.new.programs ≡ slice_set handlers.old.programs program.handler.0
+        (holding_after (held_at handlers.old.programs program.handler) program) }
 {
     let Installable { handler, program } = program;
     match program {
+        Coming::Known { version, image } => handlers.renew(handler, version, &image),
         Coming::Own(held) => handlers.install(handler, held),
         Coming::Shared(shared) => handlers.share(handler, shared),
     }
@@ -153,16 +174,15 @@ fn begin(
     requires room { 1 ≤ parts.old.log.all.spare }
     requires few { length parts.old.log.all.entries < 4100000000 }
     requires seen { last_is_seen false (journal_of parts.old.log.all) ≡ true }
-    requires can { IsInstallable description.now bytes.now (incoming program) }
-    ensures again { RestsAgain description.now parts.old parts.new at
-        (λ told. told ≡ Installed (program_of program.handler (coming_held program.program)) ∷ []) }
+    requires can { CanInstall description.now bytes.now (held_at parts.old.handlers.programs program.handler) program }
+    ensures again { RestsAgain description.now parts.old parts.new at (λ told. told ≡ Installed (comes program) ∷ []) }
     ensures gone { parts.new.log.gone ≡ parts.old.log.gone }
 {
     let _bytes = bytes;
-    let held = program.program.held();
+    let version = program.program.version();
     parts
         .log
-        .push_install(at, program.handler, held.version, &held.image);
+        .push_install(at, program.handler, version, program.program.image());
     clear(description, parts);
     put(&mut parts.handlers, program);
 }
@@ -191,13 +211,13 @@ fn install_program(
     requires timely { IsTimely at parts.old.log.all }
     requires room { 4 ≤ parts.old.log.all.spare }
     requires few { length parts.old.log.all.entries < 4000000000 }
-    requires can { IsInstallable description.now bytes.now (incoming program) }
+    requires can { CanInstall description.now bytes.now (held_at parts.old.handlers.programs program.handler) program }
     ensures installs { InstallGives description.now parts.old parts.new bytes.now at result }
     ensures gone { parts.new.log.gone ≡ parts.old.log.gone }
 {
     let handler = program.handler;
     let held = parts.handlers.version(handler);
-    if program.program.held().version <= held {
+    if program.program.version() <= held {
         return Err(InstallFault::NotNewer { held });
     }
     seen_in(description, parts, at);
@@ -281,8 +301,8 @@ pub fn install_in(
         Err(fault) => return Err(InstallFault::Capsule(*fault)),
     };
     if holds_code(parts, capsule) {
-        let held = known_program(description, parts, bytes, capsule);
-        return install_own(description, parts, bytes, capsule.handler, held, at);
+        let program = known_program(description, parts, bytes, capsule);
+        return install_program(description, parts, bytes, program, at);
     }
     let table = Table::of(&shape(description));
     match verify(&table, description, capsule.code.as_slice()) {

@@ -6,9 +6,10 @@ use Rattle.std.specs.Option.{option_or}
 use Rattle.std.proofs.lemmas.Bool.{cases_lt}
 use Rattle.std.proofs.lemmas.List.{get_or_past}
 use Rattle.std.proofs.lemmas.List.Elements.{All-get_or, All-push}
+use Rattle.arrayvec.specs.ArrayVec.{ArrayVec}
 use Rattle.mate_num.specs.declared.id.HandlerId.{HandlerId}
 use Rattle.node_contexts.specs.declared.handlers.Held.{Held}
-use Rattle.node_contexts.specs.Programs.{held_at, held_either}
+use Rattle.node_contexts.specs.Programs.{held_at, held_either, renewed}
 
 pub nothing-held : (programs : List (Option Held)) → All (λ (held : Option Held). held ≡ None) programs → (h : HandlerId) → held_at programs h ≡ None
 nothing-held programs none h = by (cases_lt h.0 (length programs)) where
@@ -70,3 +71,19 @@ either-share (a ∷ own) [] zero x = refl
 either-share (a ∷ own) [] (suc k) x = refl
 either-share (a ∷ own) (b ∷ shared) zero x = refl
 either-share (a ∷ own) (b ∷ shared) (suc k) x = ap (λ (l : List (Option Held)). option_or a b ∷ l) (either-share own shared k x)
+
+-- a place of its own with a program is below their number
+pub own-below : (own : List (Option Held)) (k : ℕ) (x : Held) → Some x ≡ get_or own k None → k < length own
+own-below own k x is = by (cases_lt k (length own)) where
+  by : (k < length own) ⊎ (length own ≤ k) → k < length own
+  by (inl below) = below
+  by (inr past) = let e : Some x ≡ None = is ∙ get_or_past own k None past in cc
+
+-- one of its own changes, and what it changes to depends on it
+pub either-renew : (own shared : List (Option Held)) (k : ℕ) (x : Held) (version : ℕ) (image : ArrayVec ℕ) → length own ≤ length shared → Some x ≡ get_or own k None
+    → held_either (set own k (renewed version image (get_or own k None))) shared ≡ set (held_either own shared) k (renewed version image (get_or (held_either own shared) k None))
+either-renew [] shared k x version image within is = let e : Some x ≡ None = is in cc
+either-renew (a ∷ own) [] k x version image within is = absurd (omega arith)
+either-renew (Some a ∷ own) (b ∷ shared) zero x version image within is = refl
+either-renew (None ∷ own) (b ∷ shared) zero x version image within is = let e : Some x ≡ None = is in cc
+either-renew (a ∷ own) (b ∷ shared) (suc k) x version image within is = ap (λ (l : List (Option Held)). option_or a b ∷ l) (either-renew own shared k x version image (omega arith) is)

@@ -1,6 +1,7 @@
 -- What is held for each handler.
 use Rattle.std.specs.Prelude.{◌≡◌, ◌≤◌, ℕ, List, [], ◌∷◌, Option, Some, None, slice_index_or}
 use Rattle.std.specs.Option.{option_or}
+use Rattle.arrayvec.specs.ArrayVec.{ArrayVec}
 use Rattle.mate_num.specs.declared.id.HandlerId.{HandlerId}
 use Rattle.node_contexts.specs.declared.handlers.Held.{Held}
 
@@ -34,3 +35,8 @@ held_at programs h = slice_index_or programs h.0 None
 abbrev pub held_version_in : Option Held → ℕ
 held_version_in None = 0
 held_version_in (Some x) = x.version
+
+-- what is held, with another version and another image, and with its code and locks
+abbrev pub renewed : ℕ → ArrayVec ℕ → Option Held → Option Held
+renewed version image None = None
+renewed version image (Some x) = Some (record x { version = version; image = image })

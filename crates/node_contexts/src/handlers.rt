@@ -1,9 +1,9 @@
 //! What is installed for each handler.
 
-ghost use Rattle.std.specs.Prelude.{◌≡◌, ◌<◌, ◌≤◌, Some, None, length, slice_index_or, slice_set, max, vec_capacity, IfOk};
+ghost use Rattle.std.specs.Prelude.{◌≡◌, ◌<◌, ◌≤◌, Some, None, length, slice_index_or, slice_set, max, vec_len, vec_capacity, IfOk};
 ghost use Rattle.std.specs.Option.{option_copied};
 ghost use Rattle.mate_num.specs.declared.id.HandlerId.{HandlerId as Handler};
-ghost use Rattle.node_contexts.specs.Programs.{HaveSame};
+ghost use Rattle.node_contexts.specs.Programs.{HaveSame, renewed};
 
 use crate::shared::SharedHeld;
 use code_verifier::Verified;
@@ -112,6 +112,31 @@ impl Handlers {
         self.shared[place] = Some(program);
     }
 
+    /// Gives what is installed for the handler, if anything is, this version and this image. Its code and its locks stay.
+    pub fn renew(&mut self, handler: HandlerId, version: u32, image: &Image)
+        requires { handler.0 < length self.old.programs }
+        ensures { self.new.programs ≡ slice_set self.old.programs handler.0
+            (renewed version image.now (held_at self.old.programs handler)) }
+    {
+        let place = usize::from(handler.0);
+        match own_at(&self.own, place) {
+            Some(_) => renew_own(&mut self.own, place, version, image),
+            None => self.renew_shared(handler, version, image),
+        }
+    }
+
+    /// Does so by a copy: other nodes hold the program as it is.
+    fn renew_shared(&mut self, handler: HandlerId, version: u32, image: &Image)
+        requires { handler.0 < length self.old.programs }
+        ensures { self.new.programs ≡ slice_set self.old.programs handler.0
+            (renewed version image.now (held_at self.old.programs handler)) }
+    {
+        if let Some(held) = self.get(handler) {
+            let held = renewed_copy(held, version, image);
+            self.install(handler, held);
+        }
+    }
+
     /// The version that is installed for the handler, 0 for none.
     pub fn version(&self, handler: HandlerId) -> u32
         ensures { result ≡ held_version_in (held_at self.now.programs handler) }
@@ -120,6 +145,40 @@ impl Handlers {
             Some(held) => held.version,
             None => 0,
         }
+    }
+}
+
+/// A copy of the image. It takes no memory.
+fn copy_of(image: &Image) -> Image
+    ensures { result ≡ image.now }
+{
+    let Ok(copy) = Image::try_from(image.as_slice()) else {
+        unreachable!()
+    };
+    copy
+}
+
+/// A copy of the program, with this version and this image.
+fn renewed_copy(held: &Held, version: u32, image: &Image) -> Held
+    ensures { result ≡ record held.now { version = version; image = image.now } }
+{
+    Held {
+        version,
+        image: copy_of(image),
+        code: held.code.copy(),
+        locks: held.locks,
+    }
+}
+
+/// Gives the program at the place, if one is there, this version and this image.
+fn renew_own(own: &mut Vec<Option<Held>>, place: usize, version: u32, image: &Image)
+    requires { place < vec_len own.old }
+    ensures items { own.new.items ≡ slice_set own.old.items place (renewed version image.now (slice_index_or own.old.items place None)) }
+    ensures capacity { vec_capacity own.new ≡ vec_capacity own.old }
+{
+    if let Some(held) = &mut own[place] {
+        held.version = version;
+        held.image = copy_of(image);
     }
 }
 

@@ -19,8 +19,8 @@ returns-in-Err-clause-installs c =
 pub verify-requires : goal.verify-requires
 verify-requires c = c.of-table.ensures ∙ ap table_of c.shape.ensures.value
 
-pub known_program-held-requires-clause-read : goal.known_program-held-requires-clause-read
-known_program-held-requires-clause-read c =
+pub known_program-program-requires-clause-read : goal.known_program-program-requires-clause-read
+known_program-program-requires-clause-read c =
     let P : Result Capsule CapsuleFault → Type 0 = λ r. GivesCapsule r (capsule_in c.args.description.now c.args.bytes.now) in
     let Q : Result Capsule CapsuleFault → Type 0 = λ r. IfOk r (λ x. (c.args.bytes.now ≡ capsule_image (capsule_parts x)) × IsOfMachine c.args.description.now (capsule_parts x)) in
     let image = subst Q c.in-Ok.is c.decode-decoded.ensures.image in

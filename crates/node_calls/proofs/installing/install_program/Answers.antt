@@ -1,17 +1,19 @@
 -- The capsule is not newer, or the store and the install are told, and then the post of a handler that runs once.
-use Rattle.std.proofs.Common.{refl, sym, ap, ◌∙◌, arith}
-use Rattle.node_contexts.specs.declared.handlers.Held.{Held}
+use Rattle.std.proofs.Common.{refl, sym, subst, ◌∙◌, arith}
+use Rattle.node_contexts.specs.Programs.{held_at}
 use Rattle.node_invariant.specs.declared.parts.Parts.{Parts}
-use Rattle.node_calls.specs.Installing.{Incoming, incoming}
+use Rattle.node_calls.specs.Installing.{Incoming, CanInstall}
 use Rattle.node_calls.proofs.EraLemmas.{seen-last, told-one}
-use Rattle.node_calls.proofs.InstallLemmas.{IsNoNewer-from, newer-than, RestsAgain-once, RestsAgain-once_none}
+use Rattle.node_calls.proofs.InstallLemmas.{IsNoNewer-from, comes-version, coming-newer, begun-coming, RestsAgain-once, RestsAgain-once_none}
 use Rattle.node_calls.proofs.installing.install_program.Goals as goal
 
-pub returns-then-held-clause-installs : goal.returns-then-held-clause-installs
-returns-then-held-clause-installs c =
-    let version = ap (λ (y : Held). y.version) c.held.ensures in
-    let older = c.if-held.true in
-    (IsNoNewer-from c.args.description.now c.args.parts.now c.args.bytes.now (incoming c.args.program) c.version-held.result c.requires.rests c.requires.can c.version-held.ensures (omega (arith, version, older)), refl)
+pub returns-then-version-held-clause-installs : goal.returns-then-version-held-clause-installs
+returns-then-version-held-clause-installs c =
+    let can = c.requires.can in
+    let version = comes-version (held_at c.args.parts.now.handlers.programs c.args.program.handler) c.args.program can.x can.after in
+    let older = c.if-version-held.true in
+    let its = c.version.ensures c.args.program.handler in
+    (IsNoNewer-from c.args.description.now c.args.parts.now c.args.bytes.now (record { handler = c.args.program.handler; held = can.x }) c.version-held.result c.requires.rests can.can c.version-held.ensures (omega (arith, version, older, its)), refl)
 
 pub seen_in-requires-clause-room : goal.seen_in-requires-clause-room
 seen_in-requires-clause-room c = let room = c.requires.room in omega (arith, room)
@@ -38,6 +40,11 @@ begin-requires-clause-few c =
     let one = told-one c.args.parts.now.log.all c.seen_in.new.parts.log.all c.args.at seen.told _ seen.grows seen.made in
     let few = c.requires.few in
     omega (arith, one.0, few)
+
+pub begin-requires-clause-can : goal.begin-requires-clause-can
+begin-requires-clause-can c =
+    let P : Parts → Type 0 = λ s. CanInstall c.args.description.now c.args.bytes.now (held_at s.handlers.programs c.args.program.handler) c.args.program in
+    subst P (sym c.seen_in.ensures.tells.same) c.requires.can
 
 pub begin-requires-clause-seen : goal.begin-requires-clause-seen
 begin-requires-clause-seen c =
@@ -69,28 +76,28 @@ post_in-requires-clause-few c =
     omega (arith, one.0, more.0, few)
 
 pub post_in-requires-clause-handler : goal.post_in-requires-clause-handler
-post_in-requires-clause-handler c = c.requires.can.handler
+post_in-requires-clause-handler c = c.requires.can.can.handler
 
 pub returns-then-runs_once-clause-installs : goal.returns-then-runs_once-clause-installs
 returns-then-runs_once-clause-installs c =
     let d = c.args.description.now in
     let old : Parts = c.args.parts.now in
-    let i : Incoming = incoming c.args.program in
-    let version = ap (λ (y : Held). y.version) c.held.ensures in
-    let above = c.if-held.false in
-    let newer = newer-than d old i c.version-held.result c.requires.rests c.version-held.ensures (omega (arith, version, above)) in
-    RestsAgain-once d old c.seen_in.new.parts c.begin.new.parts c.args.at c.args.bytes.now i c.requires.can newer c.seen_in.ensures.tells c.begin.ensures.again c.post_in.new.parts c.new.result c.post_in.result (sym c.if-runs_once.ensures) c.new.ensures
+    let can = c.requires.can in
+    let i : Incoming = record { handler = c.args.program.handler; held = can.x } in
+    let newer = coming-newer d old c.args.bytes.now c.args.program can c.version-held.result c.requires.rests c.version-held.ensures (let above = c.if-version-held.false in let its = c.version.ensures c.args.program.handler in omega (arith, above, its)) in
+    RestsAgain-once d old c.seen_in.new.parts c.begin.new.parts c.args.at c.args.bytes.now i can.can newer c.seen_in.ensures.tells
+    (begun-coming d old c.seen_in.new.parts c.begin.new.parts c.args.at c.args.bytes.now c.args.program can c.begin.ensures.again) c.post_in.new.parts c.new.result c.post_in.result (sym c.if-runs_once.ensures) c.new.ensures
     c.post_in.ensures.again
 
 pub returns-else-runs_once-clause-installs : goal.returns-else-runs_once-clause-installs
 returns-else-runs_once-clause-installs c =
     let d = c.args.description.now in
     let old : Parts = c.args.parts.now in
-    let i : Incoming = incoming c.args.program in
-    let version = ap (λ (y : Held). y.version) c.held.ensures in
-    let above = c.if-held.false in
-    let newer = newer-than d old i c.version-held.result c.requires.rests c.version-held.ensures (omega (arith, version, above)) in
-    RestsAgain-once_none d old c.seen_in.new.parts c.begin.new.parts c.args.at c.args.bytes.now i c.requires.can newer c.seen_in.ensures.tells c.begin.ensures.again (sym c.if-runs_once.ensures)
+    let can = c.requires.can in
+    let i : Incoming = record { handler = c.args.program.handler; held = can.x } in
+    let newer = coming-newer d old c.args.bytes.now c.args.program can c.version-held.result c.requires.rests c.version-held.ensures (let above = c.if-version-held.false in let its = c.version.ensures c.args.program.handler in omega (arith, above, its)) in
+    RestsAgain-once_none d old c.seen_in.new.parts c.begin.new.parts c.args.at c.args.bytes.now i can.can newer c.seen_in.ensures.tells
+    (begun-coming d old c.seen_in.new.parts c.begin.new.parts c.args.at c.args.bytes.now c.args.program can c.begin.ensures.again) (sym c.if-runs_once.ensures)
 
 pub returns-then-runs_once-clause-gone : goal.returns-then-runs_once-clause-gone
 returns-then-runs_once-clause-gone c = c.post_in.ensures.gone ∙ c.begin.ensures.gone ∙ c.seen_in.ensures.gone
