@@ -96,7 +96,7 @@ IsReportWritten (run.World d w ps) s t status = IsRunWritten d (IsReportOfWorld 
 
 -- How the writing of what is owed ends.
 abbrev pub IsOwedWritten : Owed → Sinks → Sinks → Status → Type 0
-IsOwedWritten (a_text whole bs) s t status = IsTextWritten bs whole s t status
+IsOwedWritten (a_text all bs) s t status = IsTextWritten bs all s t status
 IsOwedWritten (a_run r) s t status = IsReportWritten r s t status
 
 -- How a call ends, with the counts of the files' faults before it and after it.
