@@ -14,7 +14,7 @@ returns-clause-again c =
     let after = c.push_install.new.self.all in
     let V : ℕ → Type 0 = λ version. IsInstalledIn l h version c.image.result.now c.args.at after in
     let I : ArrayVec ℕ → Type 0 = λ image. IsInstalledIn l h (comes c.args.program).version image c.args.at after in
-    let told = record { entries = c.push_install.ensures.entries; images = c.push_install.ensures.images; stores = c.push_install.ensures.stores } in
+    let told : V c.version-version.result = record { entries = c.push_install.ensures.entries; images = c.push_install.ensures.images; stores = c.push_install.ensures.stores } in
     let is : I (comes c.args.program).image = subst I (c.image.ensures h) (subst V (c.version-version.ensures h) told) in
     RestsAgain-comes c.args.description.now c.args.parts.now c.clear.new.parts c.push_install.new.self c.put.new.handlers c.args.at c.args.bytes.now c.args.program c.requires.rests c.requires.timely c.requires.seen c.requires.can
     is c.push_install.ensures.spare c.clear.ensures c.put.ensures
