@@ -84,7 +84,7 @@ mutual
   expr_inj (Not e) (Not f) p = ap Not (expr_inj e f (ap tail p))
   expr_inj (Two o l r) (Two u m s) p =
       λ i. Two (operator.the_row.coded.inj o u (ap first_part p) i) (expr_inj l m (ap (λ g. head (parts_behind g)) p) i)
-          (expr_inj r s (ap (λ g. tail (parts_behind g)) p) i)
+      (expr_inj r s (ap (λ g. tail (parts_behind g)) p) i)
   expr_inj x y p = absurd (apart (expr_code x) (expr_code y) p refl)
 
   args_inj : (x y : Arguments) → args_code x ≡ args_code y → x ≡ y
@@ -120,7 +120,7 @@ mutual
       λ i. Set (target.the_row.coded.inj x y (ap first_part p) i) (expr_inj e f (ap parts_behind p) i)
   stmt_inj (SetItem a e f) (SetItem b g h) p =
       λ i. SetItem (buffer.the_row.coded.inj a b (ap first_part p) i) (expr_inj e g (ap (λ g. head (parts_behind g)) p) i)
-          (expr_inj f h (ap (λ g. tail (parts_behind g)) p) i)
+      (expr_inj f h (ap (λ g. tail (parts_behind g)) p) i)
   stmt_inj (Append a e) (Append b f) p =
       λ i. Append (buffer.the_row.coded.inj a b (ap first_part p) i) (expr_inj e f (ap parts_behind p) i)
   stmt_inj (Take x a) (Take y b) p =
@@ -134,11 +134,11 @@ mutual
       λ i. If (expr_inj e f (ap first_part p) i) (block_inj a b (ap parts_behind p) i)
   stmt_inj (IfElse e a b) (IfElse f c d) p =
       λ i. IfElse (expr_inj e f (ap first_part p) i) (block_inj a c (ap (λ g. head (parts_behind g)) p) i)
-          (block_inj b d (ap (λ g. tail (parts_behind g)) p) i)
+      (block_inj b d (ap (λ g. tail (parts_behind g)) p) i)
   stmt_inj (For x e f n a) (For y g h m b) p =
       λ i. For (target.the_row.coded.inj x y (ap first_part p) i) (expr_inj e g (ap (λ g. head (head (parts_behind g))) p) i)
-          (expr_inj f h (ap (λ g. tail (head (parts_behind g))) p) i) (coded_ℤ.inj n m (ap (λ g. head (tail (parts_behind g))) p) i)
-          (block_inj a b (ap (λ g. tail (tail (parts_behind g))) p) i)
+      (expr_inj f h (ap (λ g. tail (head (parts_behind g))) p) i) (coded_ℤ.inj n m (ap (λ g. head (tail (parts_behind g))) p) i)
+      (block_inj a b (ap (λ g. tail (tail (parts_behind g))) p) i)
   stmt_inj (While e a) (While f b) p =
       λ i. While (expr_inj e f (ap first_part p) i) (block_inj a b (ap parts_behind p) i)
   stmt_inj x y p = absurd (apart (stmt_code x) (stmt_code y) p refl)
