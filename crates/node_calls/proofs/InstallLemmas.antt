@@ -310,7 +310,7 @@ module _ (d : Description) (old mid next : Parts) (at_ : Stamp) (bytes : List �
   heard-next = reading-grows d old.log.all next.log.all at_ both.adds.told both.adds.grows ∙ ap (λ (ts : List JournalEntry). state_after_all m r (map (event_at at_) ts)) both.adds.made
 
   -- what is after the install, if the handler runs once or doesn't
-  Follows : Bool → List JournalEntry → Type 0
+  abbrev Follows : Bool → List JournalEntry → Type 0
   Follows b rest = MatchBool b (Occasion m (next_state m r (Installed p)) i.handler (record { items = [] }) rest) (rest ≡ [])
 
   installs : (rest told : List JournalEntry) → told ≡ Seen old.heap ∷ Installed p ∷ rest → Follows (m.runs_once i.handler) rest
