@@ -55,10 +55,10 @@ abbrev call_given : List ℕ → List ℕ → ℕ → Tree
 call_given s f v = two op.Add (two op.Add (variable (word s (operand_place s))) (call (word f (sensor_place s)) no_trees)) (number v)
 
 digit_spells : (s : List ℕ) (v : ℕ) → Spells (head_tokens s (digit_tokens (sensor_place s) v)) (given s (digit_given s v))
-digit_spells s v = record { derived = record { decls = (refl, tt); body = ((tt, tt, tt, tt), tt) }; spells = refl; places = refl; within = refl }
+digit_spells s v = record { derived = record { decls = (refl, tt); body = ((omega arith, tt, omega arith, tt), tt) }; spells = refl; places = refl; within = refl }
 
 call_spells : (s f : List ℕ) (v : ℕ) → Spells (head_tokens s (call_tokens (sensor_place s) f v)) (given s (call_given s f v))
-call_spells s f v = record { derived = record { decls = (refl, tt); body = ((tt, (tt, tt, tt, tt), tt, tt), tt) }; spells = refl; places = refl; within = refl }
+call_spells s f v = record { derived = record { decls = (refl, tt); body = ((omega arith, (omega arith, tt, omega arith, tt), omega arith, tt), tt) }; spells = refl; places = refl; within = refl }
 
 -- ---- its checks
 
