@@ -122,11 +122,5 @@ code-fits bytes format size r n is sized n_is whole =
     let fits : CodeFits (drop 16 bytes) = record { low = omega arith; high = omega arith } in
     subst CodeFits (sym (rest-whole bytes)) fits
 
-pub too-long : (code : List ℕ) → CodeFits code → 1040 < length code → ⊥
-too-long code fits long = omega (arith, fits.high)
-
-pub is-filled : (code rest : List ℕ) → code ≡ rest → CodeFits rest → 1 ≤ length code
-is-filled code rest is fits = (subst CodeFits (sym is) fits).low
-
 pub some-version : (version : ℕ) → (version ≡ 0 → ⊥) → 1 ≤ version
 some-version version some = omega (arith, some)

@@ -12,9 +12,10 @@ use Rattle.std.proofs.lemmas.Nat.{be_bytes_2, be_bytes_4, from_be_bytes-to_be_by
 use Rattle.hex.specs.Hex.{IsBytes}
 use Rattle.vm_desc.specs.declared.description.Description.{Description}
 use Rattle.capsule_codec.specs.declared.capsule.Capsule.{Capsule}
+use Rattle.capsule_codec.specs.declared.capsule.CapsuleRef.{CapsuleRef}
 use Rattle.capsule_codec.specs.declared.decoding.CapsuleFault.{CapsuleFault}
-use Rattle.capsule_codec.specs.Image.{CapsuleParts, capsule_parts, magic, format_of, capsule_image, IsCapsule, IsOfMachine}
-use Rattle.capsule_codec.specs.Reading.{format_in, handler_in, vm_id_in, version_field, size_in, is_format, is_size, capsule_in, GivesCapsule}
+use Rattle.capsule_codec.specs.Image.{CapsuleParts, capsule_parts, parts_in_place, magic, format_of, capsule_image, IsCapsule, IsOfMachine}
+use Rattle.capsule_codec.specs.Reading.{format_in, handler_in, vm_id_in, version_field, size_in, is_format, is_size, capsule_in, GivesCapsule, GivesInPlace}
 
 is_format-format_of : (size : ℕ) → is_format (format_of size) ≡ true
 is_format-format_of size = grind (arith, nat_tests)
@@ -174,6 +175,11 @@ pub image_found : (d : Description) (bytes : List ℕ) (r : Result Capsule Capsu
     → IfOk r (λ c. (bytes ≡ capsule_image (capsule_parts c)) × IsOfMachine d (capsule_parts c))
 image_found d bytes (Ok c) fits e = let h = capsule_is d bytes (capsule_parts c) fits e in (h.0, h.2)
 image_found d bytes (Err fault) fits e = tt
+
+pub image_in_place : (d : Description) (bytes : List ℕ) (r : Result CapsuleRef CapsuleFault) → IsBytes bytes → GivesInPlace r (capsule_in d bytes)
+    → IfOk r (λ c. (bytes ≡ capsule_image (parts_in_place c)) × IsOfMachine d (parts_in_place c))
+image_in_place d bytes (Ok c) fits e = let h = capsule_is d bytes (parts_in_place c) fits e in (h.0, h.2)
+image_in_place d bytes (Err fault) fits e = tt
 
 pub only_capsule : (d : Description) (bytes : List ℕ) (r : Result Capsule CapsuleFault) (c : Capsule) → GivesCapsule r (capsule_in d bytes)
     → IsCapsule (capsule_parts c) → IsOfMachine d (capsule_parts c) → bytes ≡ capsule_image (capsule_parts c) → r ≡ Ok c

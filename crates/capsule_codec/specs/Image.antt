@@ -5,6 +5,7 @@ use Rattle.mate_num.specs.declared.bounds.TheConstants.{CODE_MAX, SHORT_CODE}
 pub use Rattle.hex.specs.Hex.{IsBytes}
 use Rattle.vm_desc.specs.declared.description.Description.{Description}
 use Rattle.capsule_codec.specs.declared.capsule.Capsule.{Capsule}
+use Rattle.capsule_codec.specs.declared.capsule.CapsuleRef.{CapsuleRef}
 
 -- a capsule's fields, as numbers and a list
 pub record CapsuleParts : Type 0 where
@@ -15,6 +16,10 @@ pub record CapsuleParts : Type 0 where
 
 abbrev pub capsule_parts : Capsule → CapsuleParts
 capsule_parts c = record { vm_id = c.vm_id; handler = c.handler.0; version = c.version; code = c.code.items }
+
+-- those of a capsule that is in place
+abbrev pub parts_in_place : CapsuleRef → CapsuleParts
+parts_in_place c = record { vm_id = c.vm_id; handler = c.handler.0; version = c.version; code = c.code.now }
 
 -- the four bytes with which every image begins: `MATE`
 abbrev pub magic : List ℕ

@@ -7,7 +7,8 @@ use Rattle.vm_desc.specs.declared.description.Description.{Description}
 use Rattle.capsule_codec.specs.declared.decoding.CapsuleFault.{CapsuleFault}
 use Rattle.capsule_codec.specs.declared.decoding.CapsuleFault.TheVariants.{BadMagic, BadFormat, OtherVm, BadHandler, BadLength, BadVersion}
 use Rattle.capsule_codec.specs.declared.capsule.Capsule.{Capsule}
-use Rattle.capsule_codec.specs.Image.{CapsuleParts, capsule_parts, magic}
+use Rattle.capsule_codec.specs.declared.capsule.CapsuleRef.{CapsuleRef}
+use Rattle.capsule_codec.specs.Image.{CapsuleParts, capsule_parts, parts_in_place, magic}
 
 -- the number in the two bytes from a place on
 abbrev pub u16_at : List ℕ → ℕ → ℕ
@@ -59,3 +60,8 @@ capsule_in d bytes =
 abbrev pub GivesCapsule : Result Capsule CapsuleFault → Result CapsuleParts CapsuleFault → Type 0
 GivesCapsule (Ok c) read = read ≡ Ok (capsule_parts c)
 GivesCapsule (Err e) read = read ≡ Err e
+
+-- the same of a capsule that is in place
+abbrev pub GivesInPlace : Result CapsuleRef CapsuleFault → Result CapsuleParts CapsuleFault → Type 0
+GivesInPlace (Ok c) read = read ≡ Ok (parts_in_place c)
+GivesInPlace (Err e) read = read ≡ Err e

@@ -2,12 +2,12 @@
 
 ghost use Rattle.std.specs.Prelude.{◌≡◌, ◌+◌, ◌≤◌, length, IfOk, Ok};
 ghost use Rattle.capsule_codec.specs.declared.capsule.Capsule.{Capsule};
-ghost use Rattle.capsule_codec.specs.Image.{capsule_parts, capsule_image, IsCapsule, IsOfMachine};
-ghost use Rattle.capsule_codec.specs.Reading.{capsule_in, GivesCapsule, u16_at, u32_at, is_size};
+ghost use Rattle.capsule_codec.specs.Image.{capsule_parts, parts_in_place, capsule_image, IsCapsule, IsOfMachine};
+ghost use Rattle.capsule_codec.specs.Reading.{capsule_in, GivesCapsule, GivesInPlace, u16_at, u32_at, is_size};
 
-use crate::capsule::Capsule;
+use crate::capsule::{Capsule, CapsuleRef};
 use crate::encoding::{HEAD, MAGIC};
-use mate_num::{CODE_MAX, Code, HandlerId, SHORT_CODE};
+use mate_num::{CODE_MAX, HandlerId, SHORT_CODE};
 use vm_desc::Description;
 
 /// Why bytes are no capsule of the machine.
@@ -39,11 +39,27 @@ pub fn decode(desc: &Description, bytes: &[u8]) -> Result<Capsule, CapsuleFault>
     ensures only { (c : Capsule) → IsCapsule (capsule_parts c) → IsOfMachine desc.now (capsule_parts c)
         → bytes.now ≡ capsule_image (capsule_parts c) → result ≡ Ok c }
 {
+    match read(desc, bytes) {
+        Ok(capsule) => Ok(capsule.copy()),
+        Err(fault) => Err(fault),
+    }
+}
+
+/// What `decode` gives, with the code in place.
+pub fn decode_in_place<'a>(
+    desc: &Description,
+    bytes: &'a [u8],
+) -> Result<CapsuleRef<'a>, CapsuleFault>
+    ensures value { GivesInPlace result (capsule_in desc.now bytes.now) }
+
+    // The bytes are the capsule's one image.
+    ensures image { IfOk result (λ c. (bytes.now ≡ capsule_image (parts_in_place c)) × IsOfMachine desc.now (parts_in_place c)) }
+{
     read(desc, bytes)
 }
 
-fn read(desc: &Description, bytes: &[u8]) -> Result<Capsule, CapsuleFault>
-    ensures { GivesCapsule result (capsule_in desc.now bytes.now) }
+fn read<'a>(desc: &Description, bytes: &'a [u8]) -> Result<CapsuleRef<'a>, CapsuleFault>
+    ensures { GivesInPlace result (capsule_in desc.now bytes.now) }
 {
     if !bytes.starts_with(&MAGIC) {
         return Err(CapsuleFault::BadMagic);
@@ -71,14 +87,11 @@ fn read(desc: &Description, bytes: &[u8]) -> Result<Capsule, CapsuleFault>
     if !is_size(format, size) || usize::from(size) + HEAD != bytes.len() {
         return Err(CapsuleFault::BadLength);
     }
-    let Ok(code) = Code::try_from(&bytes[HEAD..]) else {
-        unreachable!()
-    };
-    Ok(Capsule {
+    Ok(CapsuleRef {
         vm_id: id,
         handler,
         version,
-        code,
+        code: &bytes[HEAD..],
     })
 }
 

@@ -6,11 +6,12 @@ pub mod decoding;
 pub mod encoding;
 pub mod fragments;
 pub mod hex_text;
+pub mod in_place;
 pub mod laws;
 
-pub use capsule::Capsule;
-pub use decoding::{CapsuleFault, decode};
-pub use encoding::encode;
+pub use capsule::{Capsule, CapsuleRef};
+pub use decoding::{CapsuleFault, decode, decode_in_place};
+pub use encoding::{encode, encode_in_place};
 pub use fragments::{Piece, count, fragment};
 pub use hex_text::{HexFault, from_hex, read_digits, to_hex};
 pub use laws::{one_image, pieces_make_the_image};

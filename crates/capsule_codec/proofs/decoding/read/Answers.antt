@@ -1,6 +1,6 @@
 -- Each answer is the first fault, or the capsule that passed all tests.
 use Rattle.std.proofs.Common.{◌∙◌}
-use Rattle.capsule_codec.proofs.FaultLemmas.{has-head, is-numbered, no-magic, no-head, no-format, other-vm, no-handler, no-version, no-size, other-size, whole-size, parts-are, rest-whole, code-fits, too-long, is-filled, some-version}
+use Rattle.capsule_codec.proofs.FaultLemmas.{has-head, is-numbered, no-magic, no-head, no-format, other-vm, no-handler, no-version, no-size, other-size, whole-size, parts-are, rest-whole, code-fits, some-version}
 use Rattle.capsule_codec.proofs.decoding.read.Goals as goal
 use Rattle.capsule_codec.proofs.decoding.read.Goals.{then-not-is_size-via-then-not-is_size, then-not-is_size-via-else-not-is_size+then-from-bytes}
 
@@ -41,15 +41,10 @@ returns-then-not-is_size c =
           w.from-else-not-is_size.result w.from-else-not-is_size.ensures w.if-from-bytes.true
     ]
 
-pub unreachable-requires : goal.unreachable-requires
-unreachable-requires c =
-    let fits = code-fits c.args.bytes.now _ c.u16_at-size.result c.is_size.result c.from-else-not-is_size.result c.is_size.ensures c.if-not-is_size.false c.from-else-not-is_size.ensures c.if-from-bytes.false in
-    too-long _ fits c.in_default.ensures
-
 pub invariant_of-result : goal.invariant_of-result
 invariant_of-result c =
     let fits = code-fits c.args.bytes.now _ c.u16_at-size.result c.is_size.result c.from-else-not-is_size.result c.is_size.ensures c.if-not-is_size.false c.from-else-not-is_size.ensures c.if-from-bytes.false in
-    record { numbered = some-version c.u32_at-version.result c.if-version-eq0.false; filled = is-filled c.in-Ok.code.items _ c.in-Ok.ensures.0 fits }
+    record { numbered = some-version c.u32_at-version.result c.if-version-eq0.false; filled = fits.low; fits = fits.high }
 
 pub returns : goal.returns
 returns c =
@@ -57,4 +52,4 @@ returns c =
     let numbered = is-numbered c.args.desc.now c.args.bytes.now head c.u32_at-id.result c.u32_at-id.ensures c.if-id-desc.false c.from.result c.len.result c.from.ensures c.len.ensures.value c.if-from-len.false
     c.u32_at-version.result c.u32_at-version.ensures c.if-version-eq0.false in
     whole-size c.args.desc.now c.args.bytes.now numbered c.u16_at-size.result c.u16_at-size.ensures c.is_size.result c.is_size.ensures c.if-not-is_size.false c.from-else-not-is_size.result c.from-else-not-is_size.ensures c.if-from-bytes.false
-    ∙ parts-are c.args.bytes.now c.in-Ok.code.items c.u32_at-id.result c.u32_at-version.result c.u32_at-id.ensures c.u32_at-version.ensures (c.in-Ok.ensures.0 ∙ rest-whole c.args.bytes.now)
+    ∙ parts-are c.args.bytes.now _ c.u32_at-id.result c.u32_at-version.result c.u32_at-id.ensures c.u32_at-version.ensures (rest-whole c.args.bytes.now)
