@@ -12,7 +12,7 @@ use mate_refusals::{Cause, ExpansionCause, Refusal, in_file};
 use proc_expansion::within_limits;
 use std::alloc::Global;
 use std::mem;
-use ts_procs::{PScript, ProcFault, read};
+use proc_reading::{PScript, ProcFault, read};
 
 /// The script with procedures that the source in a file spells, if its expansion is within the limits: that isn't built.
 pub fn expandable_of<F: Files>(alloc: Global, files: &mut F, name: &str) -> Result<PScript, Refusal>

@@ -5,7 +5,7 @@ use Rattle.ts_syntax.specs.Seen.{source_seen}
 use Rattle.ts_syntax.specs.Tree.{ProcedureSource}
 use Rattle.proc_names.specs.declared.fault.ProcFault.{ProcFault}
 use Rattle.proc_names.specs.declared.fault.ProcFault.TheVariants.{TooLarge, TooNested, NoMemory}
-use Rattle.proc_expansion.specs.declared.expanding.TheConstants.{STATEMENTS_MAX, DEPTH_MAX}
+use Rattle.proc_expansion.specs.declared.limits.TheConstants.{STATEMENTS_MAX, DEPTH_MAX}
 use Rattle.proc_expansion.specs.declared.extent.TheConstants.{COUNT_MAX}
 use Rattle.proc_expansion.specs.Expansion.{expansion}
 use Rattle.proc_expansion.specs.Extent.{acts_count, acts_depth}

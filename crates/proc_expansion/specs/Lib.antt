@@ -3,7 +3,6 @@ pub mod Expansion
 pub mod Extent
 pub mod Extents
 pub mod Plan
-pub mod Pending
 pub mod Live
 pub mod Targets
 pub mod Answer

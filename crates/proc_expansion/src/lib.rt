@@ -1,16 +1,12 @@
-//! The expansion of a TinyScript script with procedures to a plain script.
+//! The expansion of a TinyScript script with procedures to a plain script: its limits, and its plan.
 #![tactic(auto)]
 
-pub mod calls;
-pub mod expanding;
 pub mod extent;
-mod live;
-pub mod pending;
+pub mod limits;
+pub mod live;
 pub mod plan;
-pub mod stack;
-mod statements;
 mod targets;
 
-pub use expanding::{DEPTH_MAX, expand, shorter, within_limits};
-pub use pending::Pending;
+pub use limits::{DEPTH_MAX, STATEMENTS_MAX, within_limits};
+pub use live::shorter;
 pub use plan::Plan;

@@ -1,10 +1,13 @@
 //! Procedures and blocks whose calls were shortened.
 
-ghost use Rattle.std.specs.Prelude.{◌≡◌, ◌≤◌, ◌<◌, length, get_or, take, map, OnOk, IfOk};
-ghost use Rattle.ts_syntax.specs.Seen.{act_of, acts_of, trees_of};
+ghost use Rattle.std.specs.Prelude.{◌≡◌, ◌≤◌, ◌<◌, ◌^◌, length, get_or, take, map, OnOk, IfOk};
+ghost use Rattle.ts_syntax.specs.Seen.{act_of, acts_of, procedure_of, trees_of};
 ghost use Rattle.ts_syntax.specs.Tree.{run_procedure};
+ghost use Rattle.proc_names.specs.Heads.{parameter_count};
+ghost use Rattle.proc_names.specs.Named.{written_of};
 ghost use Rattle.proc_renaming.specs.Renaming.{nothing_hidden};
 ghost use Rattle.proc_renaming.specs.Hidden.{hiding_of};
+ghost use Rattle.proc_expansion.specs.Expansion.{callees};
 ghost use Rattle.proc_expansion.specs.Plan.{bodies_of};
 ghost use Rattle.proc_expansion.specs.Live.{BecomesSame, AddsSame};
 ghost use Rattle.proc_expansion.specs.Targets.{AreTargets};
@@ -12,16 +15,33 @@ ghost use Rattle.proc_expansion.specs.Targets.{AreTargets};
 use crate::plan::Plan;
 use crate::targets::target;
 use mate_num::NoMemory;
+use proc_names::PScript;
 use proc_renaming::Hidden;
 use proc_renaming::copies::{same, same_words};
 use proc_renaming::statements::{for_next, if_else, if_then, run, simple, while_do};
 use std::alloc::Global;
 use ts_syntax::{Args, Block, Proc, Stmt, Word};
 
-/// The procedures with fewer calls: a call that adds nothing is left out, and one of a procedure that does nothing
-/// but run another goes to that other. So a body with many such calls is gone through once, and not at each of its
-/// calls. And for each procedure, one whose body expands to the same.
-pub(crate) fn live_procs(
+/// The procedures and the statements of a script with shorter calls: they expand to the same.
+pub fn shorter(alloc: Global, plan: &Plan, script: &PScript) -> Result<(Vec<Proc>, Block), NoMemory>
+    requires { map procedure_of plan.now.heads.procs.now ≡ (written_of script.now).procs }
+    ensures bodies { IfOk result (λ r. bodies_of r.0.items ≡ callees (written_of script.now).procs) }
+    ensures same { IfOk result (λ r. BecomesSame (callees (written_of script.now).procs) (acts_of r.1) (written_of script.now).body) }
+    ensures counted { IfOk result (λ r. parameter_count (map procedure_of r.0.items) ≡ parameter_count (written_of script.now).procs) }
+    ensures few { IfOk result (λ r. parameter_count (map procedure_of r.0.items) < 2 ^ 32) }
+{
+    let hidden = Hidden::of(alloc, 0, &[])?;
+    let live = live_procs(alloc, plan, &hidden)?;
+    let targets = live.1.as_slice();
+    let count = plan.heads.procs.len();
+    let body = live_block(alloc, plan, targets, count, &hidden, script.body())?;
+    Ok((live.0, body))
+}
+
+// The procedures with fewer calls: a call that adds nothing is left out, and one of a procedure that does nothing
+// but run another goes to that other. So a body with many such calls is gone through once, and not at each of its
+// calls. And for each procedure, one whose body expands to the same.
+fn live_procs(
     alloc: Global,
     plan: &Plan,
     hidden: &Hidden,
@@ -50,9 +70,9 @@ pub(crate) fn live_procs(
     Ok((live, targets))
 }
 
-/// A block after `count` procedures, with its calls shortened.
+// A block after `count` procedures, with its calls shortened.
 #[cycle(live)]
-pub(crate) fn live_block(
+fn live_block(
     alloc: Global,
     plan: &Plan,
     targets: &[usize],

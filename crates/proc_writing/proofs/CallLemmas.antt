@@ -15,7 +15,7 @@ use Rattle.proc_renaming.proofs.WrittenLemmas.{word_at}
 use Rattle.proc_expansion.specs.Expansion.{Callee, callee, body_called}
 use Rattle.proc_expansion.specs.Plan.{bodies_of}
 use Rattle.proc_expansion.proofs.CalleeLemmas.{count_before}
-use Rattle.proc_expansion.proofs.WritingLemmas.{call_written, body_left}
+use Rattle.proc_expansion.proofs.CalledLemmas.{call_written, body_left}
 use Rattle.proc_writing.specs.Hidings.{hiding_at}
 use Rattle.proc_writing.specs.Rest.{block_tokens}
 use Rattle.proc_writing.specs.Size.{body_size, acts_size, block_size, sizes_of_bodies}

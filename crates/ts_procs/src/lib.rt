@@ -1,10 +1,12 @@
 //! TinyScript with procedures: from the bytes of a source to the script whose names pass, and on to its plain expansion.
 #![tactic(auto)]
 
-pub mod law;
-pub mod reading;
+pub mod calls;
+pub mod expanding;
+pub mod pending;
+pub mod stack;
+mod statements;
 
-pub use law::reading_law;
-pub use proc_expansion::expand;
+pub use expanding::expand;
 pub use proc_names::{PScript, ProcFault};
-pub use reading::read;
+pub use proc_reading::{read, reading_law};

@@ -3,7 +3,7 @@ use Rattle.ts_syntax.specs.declared.procedure.Proc.{Proc}
 use Rattle.ts_syntax.specs.Seen.{procedure_of}
 use Rattle.proc_names.specs.Heads.{parameter_count}
 use Rattle.proc_expansion.proofs.CalleeLemmas.{count_before, first_at, firsts-within, fits_all, params_fit}
-use Rattle.proc_expansion.proofs.WritingLemmas.{hides}
+use Rattle.proc_expansion.proofs.CalledLemmas.{hides}
 use Rattle.proc_writing.proofs.HidingLemmas.{hiding_at-place}
 use Rattle.proc_writing.proofs.bodies.hiding.Goals as goal
 
