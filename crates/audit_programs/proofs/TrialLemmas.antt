@@ -11,7 +11,7 @@ use Rattle.mate_journal.specs.Machine.{HeldProgram}
 use Rattle.mate_journal.specs.declared.entry.Entry.{Entry}
 use Rattle.mate_journal.specs.declared.entry.Entry.TheVariants as entry
 use Rattle.mate_journal.specs.declared.entry.Stamped.{Stamped}
-use Rattle.mate_journal.specs.Tidy.{IsEntryInRange}
+use Rattle.mate_journal.specs.Entries.{IsEntryInRange}
 use Rattle.journal_laws.specs.Growth.{event_of, IsNamedBelow, AreNamedBelow}
 use Rattle.journal_laws.proofs.TidyLemmas.{NamesInLog-numbered}
 use Rattle.vm_desc.specs.declared.description.Description.{Description}

@@ -63,7 +63,7 @@ impl<'a> ReadyRoll<'a> {
     ghost use Rattle.vm_desc.specs.declared.description.Description.{Description as Given};
     ghost use Rattle.mate_num.specs.Locks.{is_resource};
     ghost use Rattle.mate_journal.specs.Journal.{journal_entry, no_image};
-    ghost use Rattle.mate_journal.specs.Tidy.{IsEntryInRange};
+    ghost use Rattle.mate_journal.specs.Entries.{IsEntryInRange};
     ghost use Rattle.journal_laws.specs.Growth.{IsNamedBelow};
     ghost use Rattle.audit_rules.specs.Roll.{nobody, rolled};
     ghost use Rattle.audit_rules.specs.Rerun.{run_on};

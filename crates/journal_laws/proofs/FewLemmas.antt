@@ -139,15 +139,9 @@ starts-inside [] all = refl
 starts-inside (t ∷ ts) all = let h = starts-inside ts (All-tail IsStart t ts all) in let one = by t (All-head IsStart t ts all) in omega (arith, h, one) where
   by : (t : JournalEntry) → IsStart t → from_outside t ≡ 0
   by (Started n) is = refl
-  by (Posted n h c payload) is = absurd is
-  by (Dropped h cause) is = absurd is
   by (Asked n f args) is = refl
-  by (Answered n value) is = absurd is
   by (Ended n how) is = refl
-  by (Installed p) is = absurd is
-  by Reset is = absurd is
-  by (Seen store) is = absurd is
-  by (Void cause) is = absurd is
+  by _ is = absurd is
 
 entry-inside : (n : ℕ) (e : End) → from_outside (entry_at n e) ≡ 0
 entry-inside n end.Halt = refl

@@ -3,11 +3,11 @@ use Rattle.std.proofs.Common.{◌≡◌, ◌<◌, ◌≤◌, ℕ, zero, suc, ◌
 use Rattle.std.specs.Prelude.{flat_map, option_to_list, is_some, slice_index_or}
 use Rattle.std.proofs.lemmas.List.{take_all}
 use Rattle.arrayvec.specs.ArrayVec.{ArrayVec}
-use Rattle.mate_num.specs.declared.call.End.TheVariants as end
 use Rattle.mate_num.specs.declared.call.Stamp.{Stamp}
 use Rattle.mate_num.specs.declared.store.Store.{Store}
 use Rattle.mate_journal.specs.Log.{Log, GoesOn}
-use Rattle.mate_journal.specs.Journal.{JournalEntry, Posted, Dropped, Started, Asked, Answered, Ended, Installed, Reset, Seen, Void, TimedEntry, journal_entry, journal_of, no_image, no_store, store_seen}
+use Rattle.mate_journal.specs.Machine.{HeldProgram}
+use Rattle.mate_journal.specs.Journal.{JournalEntry, Installed, TimedEntry, journal_entry, journal_of, no_image, no_store, store_seen, no_program}
 use Rattle.mate_journal.specs.Tidy.{image_named, store_named, names_in, below, NumbersInOrder}
 use Rattle.mate_journal.specs.declared.entry.Entry.{Entry}
 use Rattle.mate_journal.specs.declared.entry.Entry.TheVariants as entry
@@ -72,26 +72,19 @@ told-all l told named xs d each in_order =
 
 -- ---- the entries
 
--- the entry that tells this, with the image or the store that it names
-abbrev entry_with : Option ℕ → Option ℕ → JournalEntry → Entry
-entry_with image store (Posted n h c payload) = entry.Post n h c payload
-entry_with image store (Dropped h cause) = entry.Dropped h cause
-entry_with image store (Started n) = entry.Start n
-entry_with image store (Asked n f args) = entry.Ask n f args
-entry_with image store (Answered n value) = entry.Answer n value
-entry_with image store (Ended n end.Halt) = entry.Halt n
-entry_with image store (Ended n (end.Fault kind)) = entry.Fault n kind
-entry_with image store (Ended n (end.Wants f args)) = entry.Ask n f args
-entry_with (Some image) store (Installed p) = entry.Install p.handler p.version image
-entry_with None store (Installed p) = entry.Reset
-entry_with image store Reset = entry.Reset
-entry_with image (Some store) (Seen s) = entry.Seen store
-entry_with image None (Seen s) = entry.Reset
-entry_with image store (Void cause) = entry.Void cause
+-- the program that is installed, if one is
+abbrev program_told : JournalEntry → HeldProgram
+program_told (Installed p) = p
+program_told _ = no_program
 
-entry-told : (l : Log) (e : Entry) → entry_with (image_named e) (store_named e) (journal_entry l e) ≡ e
-entry-told l (entry.Install h version image) = refl
-entry-told l _ = refl
+-- an entry is known by what it tells, and by the image and the store that it names
+same-entry : (a b : Log) (e f : Entry) → image_named e ≡ image_named f → store_named e ≡ store_named f → journal_entry a e ≡ journal_entry b f → e ≡ f
+same-entry a b (entry.Install h version image) (entry.Install g held place) images stores told =
+    let handlers : h ≡ g = ap (λ (t : JournalEntry). (program_told t).handler) told in
+    let versions : version ≡ held = ap (λ (t : JournalEntry). (program_told t).version) told in
+    cc
+same-entry a b _ (entry.Install g held place) images stores told = cc
+same-entry a b _ _ images stores told = cc
 
 -- one list of names begins another
 pub record Begins (first all : List ℕ) : Type 0 where
@@ -130,10 +123,7 @@ entries-begin a b (e ∷ es) (f ∷ fs) more is images stores =
     (names-image a e.entry ∙ ap (λ (t : JournalEntry). is_some (image_told t)) (sym told) ∙ sym (names-image b f.entry)) images in
     let store = same-next (store_named e.entry) (store_named f.entry) (names_in store_named es) (names_in store_named fs)
     (names-store a e.entry ∙ ap (λ (t : JournalEntry). is_some (store_seen t)) (sym told) ∙ sym (names-store b f.entry)) stores in
-    let same : f.entry ≡ e.entry =
-    sym (entry-told b f.entry) ∙ ap (λ (o : Option ℕ). entry_with o (store_named f.entry) (journal_entry b f.entry)) (sym image.0)
-    ∙ ap (λ (o : Option ℕ). entry_with (image_named e.entry) o (journal_entry b f.entry)) (sym store.0)
-    ∙ ap (λ (t : JournalEntry). entry_with (image_named e.entry) (store_named e.entry) t) told ∙ entry-told a e.entry in
+    let same : f.entry ≡ e.entry = same-entry b a f.entry e.entry (sym image.0) (sym store.0) told in
     let stamped : f ≡ e = ap (λ (s : Stamp). let x : Stamped = record { stamp = s; entry = f.entry } in x) stamp ∙ ap (λ (y : Entry). let x : Stamped = record { stamp = e.stamp; entry = y } in x) same in
     let later = entries-begin a b es fs more tail image.1 store.1 in
     (later.0, ap (λ (ys : List Stamped). f ∷ ys) later.1 ∙ ap (λ (x : Stamped). x ∷ (es ++ later.0)) stamped)

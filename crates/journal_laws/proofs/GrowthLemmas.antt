@@ -9,7 +9,8 @@ use Rattle.arrayvec.specs.ArrayVec.{ArrayVec}
 use Rattle.mate_num.specs.declared.store.Store.{Store}
 use Rattle.mate_journal.specs.Log.{Log, IsEmpty, IsSameLog, GoesOn}
 use Rattle.mate_journal.specs.OpenLog.{Gone, nothing_gone, gone_of, entry_behind, stamped_behind, IsKept}
-use Rattle.mate_journal.specs.Ranges.{HasStampedRanges, HasEntryRanges, HasImageRanges, HasStoreRanges, HasLogRanges}
+use Rattle.mate_journal.specs.Entries.{HasEntryRanges}
+use Rattle.mate_journal.specs.Ranges.{HasStampedRanges, HasImageRanges, HasStoreRanges, HasLogRanges}
 use Rattle.mate_journal.specs.declared.entry.Entry.{Entry}
 use Rattle.mate_journal.specs.declared.entry.Entry.TheVariants as entry
 use Rattle.mate_journal.specs.declared.entry.Stamped.{Stamped}

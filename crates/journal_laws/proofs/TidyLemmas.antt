@@ -10,7 +10,8 @@ use Rattle.vm_desc.specs.declared.description.Description.{Description}
 use Rattle.mate_journal.specs.Log.{Log, IsEmpty}
 use Rattle.mate_journal.specs.WellFormed.{IsInTime, StampsRise}
 use Rattle.mate_journal.specs.Journal.{journal_of}
-use Rattle.mate_journal.specs.Tidy.{image_named, store_named, names_in, below, IsEntryInRange, IsStoreOf, EventsRise, entry_event, NumbersInOrder}
+use Rattle.mate_journal.specs.Entries.{IsEntryInRange}
+use Rattle.mate_journal.specs.Tidy.{image_named, store_named, names_in, below, IsStoreOf, EventsRise, entry_event, NumbersInOrder}
 use Rattle.mate_journal.specs.declared.entry.Entry.{Entry}
 use Rattle.mate_journal.specs.declared.entry.Entry.TheVariants as entry
 use Rattle.mate_journal.specs.declared.entry.Stamped.{Stamped}

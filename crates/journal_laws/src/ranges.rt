@@ -1,15 +1,14 @@
 //! The law that the numbers of a report are in the ranges of their types, part by part. Each function reads what it
 //! is given, and changes nothing.
 
-ghost use Rattle.std.specs.Prelude.{ℤ, All, FitsSigned, drop};
-ghost use Rattle.std.specs.Int.{w16};
+ghost use Rattle.std.specs.Prelude.{ℤ, All, drop};
 ghost use Rattle.arrayvec.specs.ArrayVec.{ArrayVec};
-ghost use Rattle.mate_journal.specs.Ranges.{IsByteList, AreValues, HasStampRange, HasVoidRanges, HasEntryRanges, HasAirRanges, HasImageRanges, HasStoreRanges, HasStampedRanges, HasAiredRanges, HasLogRanges, HasReportRanges};
+ghost use Rattle.mate_journal.specs.Entries.{AreValues};
+ghost use Rattle.mate_journal.specs.Ranges.{IsByteList, HasStampRange, HasAirRanges, HasImageRanges, HasStoreRanges, HasStampedRanges, HasAiredRanges, HasLogRanges, HasReportRanges};
 
-use mate_journal::{
-    Air, Aired, Entry, ImageRef, Images, NodeLog, Report, Stamped, StoreRef, Stores, VoidCause,
-};
-use mate_num::{Payload, Stamp};
+use mate_journal::entry::values_are_in_range;
+use mate_journal::{Air, Aired, ImageRef, Images, NodeLog, Report, Stamped, StoreRef, Stores};
+use mate_num::Stamp;
 
 /// The numbers of every report are in the ranges of their types. So the text of a tidy report is read as that report.
 pub fn report_is_in_range(report: &Report)
@@ -48,7 +47,7 @@ fn stamped_is_in_range(stamped: &Stamped)
     ensures { HasStampedRanges stamped.now }
 {
     stamp_is_in_range(&stamped.stamp);
-    entry_is_in_range(&stamped.entry);
+    stamped.entry.is_in_range();
 }
 
 /// The event and the time of a stamp are in the ranges of their types.
@@ -57,64 +56,6 @@ pub fn stamp_is_in_range(stamp: &Stamp)
 {
     let _event = stamp.event;
     let _time = stamp.time;
-}
-
-fn entry_is_in_range(entry: &Entry)
-    ensures { HasEntryRanges entry.now }
-{
-    match entry {
-        Entry::Post { inv, payload, .. } => {
-            let _inv = *inv;
-            payload_is_in_range(payload);
-        }
-        Entry::Ask { inv, args, .. } => {
-            let _inv = *inv;
-            payload_is_in_range(args);
-        }
-        Entry::Answer { inv, value } => {
-            let _inv = *inv;
-            let _value = *value;
-        }
-        Entry::Start { inv } => {
-            let _inv = *inv;
-        }
-        Entry::Halt { inv } => {
-            let _inv = *inv;
-        }
-        Entry::Fault { inv, .. } => {
-            let _inv = *inv;
-        }
-        Entry::Install { version, .. } => {
-            let _version = *version;
-        }
-        Entry::Void { cause } => cause_is_in_range(cause),
-        Entry::Dropped { .. } | Entry::Reset | Entry::Seen { .. } => {}
-    }
-}
-
-fn cause_is_in_range(cause: &VoidCause)
-    ensures { HasVoidRanges cause.now }
-{
-    match cause {
-        VoidCause::NotNewer { held } => {
-            let _held = *held;
-        }
-        VoidCause::NotReady | VoidCause::NotWaiting => {}
-    }
-}
-
-fn payload_is_in_range(payload: &Payload)
-    ensures { AreValues payload.now.items }
-{
-    values_are_in_range(payload.as_slice());
-}
-
-fn values_are_in_range(values: &[i16])
-    ensures { All (λ v. FitsSigned w16 v) values.now }
-{
-    for value in values {
-        let _value = *value;
-    }
 }
 
 fn bytes_are_in_range(bytes: &[u8])

@@ -12,6 +12,7 @@ pub mod Turns
 pub mod NodeScript
 pub mod Described
 pub mod NodeRun
+pub mod Entries
 pub mod Tidy
 pub mod NodeReport
 pub mod OpenLog

@@ -1,5 +1,5 @@
 -- A log whose front may be forgotten: the whole of it, how much is gone, and the part that is kept.
-use Rattle.std.specs.Prelude.{◌≡◌, ◌≤◌, ◌+◌, ℕ, [], ◌++◌, length, map, drop, ⊤}
+use Rattle.std.specs.Prelude.{◌≡◌, ◌≤◌, ◌<◌, ◌+◌, ℕ, [], ◌++◌, length, map, drop, ⊤}
 use Rattle.mate_journal.specs.Log.{Log}
 use Rattle.mate_journal.specs.declared.entry.Entry.{Entry}
 use Rattle.mate_journal.specs.declared.entry.Entry.TheVariants as entry
@@ -30,6 +30,12 @@ abbrev pub entry_behind : ℕ → ℕ → Entry → Entry
 entry_behind images stores (entry.Install h version image) = entry.Install h version (images + image)
 entry_behind images stores (entry.Seen store) = entry.Seen (stores + store)
 entry_behind images stores e = e
+
+-- after these numbers of images and stores, what the entry names has a number of 32 bits
+abbrev pub NumberFits : ℕ → ℕ → Entry → Type 0
+NumberFits images stores (entry.Install h version image) = images + image < 4294967296
+NumberFits images stores (entry.Seen store) = stores + store < 4294967296
+NumberFits images stores _ = ⊤
 
 abbrev pub stamped_behind : ℕ → ℕ → Stamped → Stamped
 stamped_behind images stores s = record { stamp = s.stamp; entry = entry_behind images stores s.entry }

@@ -2,46 +2,23 @@
 use Rattle.std.specs.Prelude.{◌<◌, ◌≤◌, ◌^◌, ℕ, ℤ, List, length, All, FitsSigned, ⊤}
 use Rattle.std.specs.Int.{w16}
 use Rattle.arrayvec.specs.ArrayVec.{ArrayVec}
-use Rattle.mate_num.specs.declared.bounds.TheConstants.{IMAGE_MAX, PACKET_MAX, PAYLOAD_MAX}
+use Rattle.mate_num.specs.declared.bounds.TheConstants.{IMAGE_MAX, PACKET_MAX}
 use Rattle.mate_num.specs.declared.call.Stamp.{Stamp}
 use Rattle.mate_num.specs.declared.store.Store.{Store}
+use Rattle.mate_journal.specs.Entries.{AreValues, HasEntryRanges}
 use Rattle.mate_journal.specs.Log.{Log}
 use Rattle.mate_journal.specs.declared.air.Air.{Air}
 use Rattle.mate_journal.specs.declared.air.Air.TheVariants as air
 use Rattle.mate_journal.specs.declared.air.Aired.{Aired}
-use Rattle.mate_journal.specs.declared.entry.Entry.{Entry}
-use Rattle.mate_journal.specs.declared.entry.Entry.TheVariants as entry
 use Rattle.mate_journal.specs.declared.entry.Stamped.{Stamped}
-use Rattle.mate_journal.specs.declared.entry.VoidCause.{VoidCause}
-use Rattle.mate_journal.specs.declared.entry.VoidCause.TheVariants as void
 use Rattle.mate_journal.specs.declared.report.Report.{Report}
 
 abbrev pub IsByteList : List ℕ → Type 0
 IsByteList bytes = All (λ b. b < 256) bytes
 
--- at most ten values of 16 bits
-abbrev pub AreValues : List ℤ → Type 0
-AreValues vs = (length vs ≤ PAYLOAD_MAX) × All (λ v. FitsSigned w16 v) vs
-
 pub record HasStampRange (at : Stamp) : Type 0 where
   pub event : at.event < 2 ^ 64
   pub time : at.time < 2 ^ 32
-
-abbrev pub HasVoidRanges : VoidCause → Type 0
-HasVoidRanges (void.NotNewer held) = held < 2 ^ 32
-HasVoidRanges _ = ⊤
-
--- of an entry (an image and a store are named by their places)
-abbrev pub HasEntryRanges : Entry → Type 0
-HasEntryRanges (entry.Post n h c payload) = (n < 2 ^ 32) × AreValues payload.items
-HasEntryRanges (entry.Start n) = n < 2 ^ 32
-HasEntryRanges (entry.Ask n f args) = (n < 2 ^ 32) × AreValues args.items
-HasEntryRanges (entry.Answer n v) = (n < 2 ^ 32) × FitsSigned w16 v
-HasEntryRanges (entry.Halt n) = n < 2 ^ 32
-HasEntryRanges (entry.Fault n kind) = n < 2 ^ 32
-HasEntryRanges (entry.Install h version image) = version < 2 ^ 32
-HasEntryRanges (entry.Void cause) = HasVoidRanges cause
-HasEntryRanges _ = ⊤
 
 abbrev pub HasAirRanges : Air → Type 0
 HasAirRanges (air.Interval length) = length < 2 ^ 32

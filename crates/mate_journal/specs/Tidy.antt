@@ -3,8 +3,8 @@ use Rattle.std.specs.Prelude.{◌≡◌, ◌≤◌, ◌<◌, ℕ, zero, suc, Lis
 use Rattle.arrayvec.specs.ArrayVec.{ArrayVec}
 use Rattle.mate_num.specs.Lists.{Along}
 use Rattle.mate_num.specs.declared.store.Store.{Store}
-use Rattle.vm_desc.specs.Whole.{context_count}
 use Rattle.vm_desc.specs.declared.description.Description.{Description}
+use Rattle.mate_journal.specs.Entries.{IsEntryInRange}
 use Rattle.mate_journal.specs.Log.{Log}
 use Rattle.mate_journal.specs.declared.entry.Entry.{Entry}
 use Rattle.mate_journal.specs.declared.entry.Entry.TheVariants as entry
@@ -28,14 +28,6 @@ names_in named es = flat_map (λ e. option_to_list (named e.entry)) es
 abbrev pub below : ℕ → List ℕ
 below zero = []
 below (suc n) = below n ++ n ∷ []
-
--- each handler, context and function that an entry names is one of the description's
-abbrev pub IsEntryInRange : Description → Entry → Type 0
-IsEntryInRange d (entry.Post n h c payload) = (h.0 < length d.handlers.items) × (c.0 < context_count d)
-IsEntryInRange d (entry.Dropped h cause) = h.0 < length d.handlers.items
-IsEntryInRange d (entry.Ask n f args) = f.0 < length d.functions.items
-IsEntryInRange d (entry.Install h version image) = h.0 < length d.handlers.items
-IsEntryInRange d _ = ⊤
 
 -- each variable and each buffer of the description
 pub record IsStoreOf (d : Description) (s : Store) : Type 0 where

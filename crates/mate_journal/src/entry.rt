@@ -1,6 +1,11 @@
 //! What happens on a node, one entry each.
 
-use mate_num::{ContextId, FaultKind, FunId, HandlerId, Payload, Stamp};
+ghost use Rattle.std.specs.Prelude.{◌≡◌, All, FitsSigned};
+ghost use Rattle.std.specs.Int.{w16};
+ghost use Rattle.mate_journal.specs.Entries.{AreValues, HasVoidRanges, HasEntryRanges};
+ghost use Rattle.mate_journal.specs.OpenLog.{NumberFits, entry_behind};
+
+use mate_num::{ContextId, FaultKind, FunId, HandlerId, Payload, Stamp, copy_of};
 
 /// Why an event for a handler made no invocation.
 #[derive(Clone, Copy)]
@@ -78,6 +83,122 @@ pub enum Entry {
     Void {
         cause: VoidCause,
     },
+}
+
+impl Entry {
+    /// The entry again, if so many images and stores come before those of its own log.
+    #[inline(never)]
+    pub fn behind(&self, images: u32, stores: u32) -> Entry
+        requires { NumberFits images stores self.now }
+        ensures { result ≡ entry_behind images stores self.now }
+    {
+        match self {
+            Entry::Post {
+                inv,
+                handler,
+                ctx,
+                payload,
+            } => Entry::Post {
+                inv: *inv,
+                handler: *handler,
+                ctx: *ctx,
+                payload: copy_of(payload),
+            },
+            Entry::Dropped { handler, cause } => Entry::Dropped {
+                handler: *handler,
+                cause: *cause,
+            },
+            Entry::Start { inv } => Entry::Start { inv: *inv },
+            Entry::Ask { inv, fun, args } => Entry::Ask {
+                inv: *inv,
+                fun: *fun,
+                args: copy_of(args),
+            },
+            Entry::Answer { inv, value } => Entry::Answer {
+                inv: *inv,
+                value: *value,
+            },
+            Entry::Halt { inv } => Entry::Halt { inv: *inv },
+            Entry::Fault { inv, kind } => Entry::Fault {
+                inv: *inv,
+                kind: *kind,
+            },
+            Entry::Install {
+                handler,
+                version,
+                image,
+            } => Entry::Install {
+                handler: *handler,
+                version: *version,
+                image: images + *image,
+            },
+            Entry::Reset => Entry::Reset,
+            Entry::Seen { store } => Entry::Seen {
+                store: stores + *store,
+            },
+            Entry::Void { cause } => Entry::Void { cause: *cause },
+        }
+    }
+
+    /// The law that its numbers are in the ranges of their types. It reads them, and changes nothing.
+    pub fn is_in_range(&self)
+        ensures { HasEntryRanges self.now }
+    {
+        match self {
+            Entry::Post { inv, payload, .. } => {
+                let _inv = *inv;
+                payload_is_in_range(payload);
+            }
+            Entry::Ask { inv, args, .. } => {
+                let _inv = *inv;
+                payload_is_in_range(args);
+            }
+            Entry::Answer { inv, value } => {
+                let _inv = *inv;
+                let _value = *value;
+            }
+            Entry::Start { inv } => {
+                let _inv = *inv;
+            }
+            Entry::Halt { inv } => {
+                let _inv = *inv;
+            }
+            Entry::Fault { inv, .. } => {
+                let _inv = *inv;
+            }
+            Entry::Install { version, .. } => {
+                let _version = *version;
+            }
+            Entry::Void { cause } => cause_is_in_range(cause),
+            _ => {}
+        }
+    }
+}
+
+fn cause_is_in_range(cause: &VoidCause)
+    ensures { HasVoidRanges cause.now }
+{
+    match cause {
+        VoidCause::NotNewer { held } => {
+            let _held = *held;
+        }
+        VoidCause::NotReady | VoidCause::NotWaiting => {}
+    }
+}
+
+fn payload_is_in_range(payload: &Payload)
+    ensures { AreValues payload.now.items }
+{
+    values_are_in_range(payload.as_slice());
+}
+
+/// Each value is in the range of its type.
+pub fn values_are_in_range(values: &[i16])
+    ensures { All (λ v. FitsSigned w16 v) values.now }
+{
+    for value in values {
+        let _value = *value;
+    }
 }
 
 /// An entry, and when it was made.

@@ -11,7 +11,8 @@ use Rattle.mate_journal.specs.Log.{Log}
 use Rattle.mate_journal.specs.Machine.{Machine}
 use Rattle.mate_journal.specs.Journal.{JournalEntry, journal_entry, TimedEntry, journal_of, NodeState, next_state, state_after_all, first_state}
 use Rattle.journal_laws.proofs.TidyLemmas.{NumbersInOrder-push, in_range-push, ordered-in_time}
-use Rattle.mate_journal.specs.Tidy.{image_named, store_named, IsEntryInRange, IsStoreOf}
+use Rattle.mate_journal.specs.Entries.{IsEntryInRange}
+use Rattle.mate_journal.specs.Tidy.{image_named, store_named, IsStoreOf}
 use Rattle.journal_laws.specs.Growth.{event_of, IsPushed, FollowsLast, last_is_seen}
 use Rattle.mate_journal.specs.WellFormed.{MayFollow, IsWellFormed}
 use Rattle.mate_journal.specs.Serial.{EndsAsRun, RunsSoFar, IsSerial}

@@ -19,7 +19,8 @@ use Rattle.mate_journal.specs.Grants.{AllHeldBack}
 use Rattle.journal_laws.specs.Growth.{GrantsBefore}
 use Rattle.journal_laws.proofs.Append.{journal_of-empty}
 use Rattle.journal_laws.proofs.TidyLemmas.{NumbersInOrder-empty}
-use Rattle.mate_journal.specs.Tidy.{IsEntryInRange, IsStoreOf, EventsRise, entry_event}
+use Rattle.mate_journal.specs.Entries.{IsEntryInRange}
+use Rattle.mate_journal.specs.Tidy.{IsStoreOf, EventsRise, entry_event}
 use Rattle.mate_journal.specs.declared.entry.Stamped.{Stamped}
 use Rattle.exec_unit.specs.Step.{HasLengths}
 use Rattle.node_contexts.specs.declared.handlers.Held.{Held}

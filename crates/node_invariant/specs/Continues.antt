@@ -5,7 +5,8 @@ use Rattle.mate_journal.specs.declared.entry.Entry.{Entry}
 use Rattle.mate_journal.specs.Log.{Log}
 use Rattle.mate_journal.specs.Journal.{JournalEntry, journal_entry, journal_of, NodeState, next_state}
 use Rattle.journal_laws.specs.Growth.{IsPushed, last_is_seen}
-use Rattle.mate_journal.specs.Tidy.{IsEntryInRange, IsStoreOf, NumbersInOrder, HasFullImages}
+use Rattle.mate_journal.specs.Entries.{IsEntryInRange}
+use Rattle.mate_journal.specs.Tidy.{IsStoreOf, NumbersInOrder, HasFullImages}
 use Rattle.mate_journal.specs.Serial.{EndsAsRun}
 use Rattle.mate_journal.specs.Stores.{ShowsStore, IsSeenBefore}
 use Rattle.mate_journal.specs.WellFormed.{MayFollow}

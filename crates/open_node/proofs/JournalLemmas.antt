@@ -13,7 +13,8 @@ use Rattle.mate_journal.specs.OpenLog.{OpenView}
 use Rattle.journal_laws.specs.Progress.{GoesForward}
 use Rattle.journal_laws.specs.Growth.{GrantsBefore}
 use Rattle.journal_laws.proofs.Append.{journal_of-same, GrantsInOrder-join}
-use Rattle.mate_journal.specs.Tidy.{IsEntryInRange, IsStoreOf, EventsRise, entry_event, names_in, image_named, store_named, below}
+use Rattle.mate_journal.specs.Entries.{IsEntryInRange}
+use Rattle.mate_journal.specs.Tidy.{IsStoreOf, EventsRise, entry_event, names_in, image_named, store_named, below}
 use Rattle.mate_journal.specs.declared.entry.Stamped.{Stamped}
 use Rattle.mate_num.specs.declared.store.Store.{Store}
 use Rattle.arrayvec.specs.ArrayVec.{ArrayVec}

@@ -10,7 +10,7 @@ use Rattle.mate_journal.specs.declared.entry.Entry.{Entry}
 use Rattle.mate_journal.specs.declared.entry.Entry.TheVariants as entry
 use Rattle.mate_journal.specs.declared.entry.Stamped.{Stamped}
 use Rattle.mate_journal.specs.OpenLog.{OpenView, entry_behind, stamped_behind, IsKept}
-use Rattle.mate_journal.specs.Tidy.{IsEntryInRange}
+use Rattle.mate_journal.specs.Entries.{IsEntryInRange}
 use Rattle.open_node.specs.Calls.{told_by_entries, TellFrom}
 
 module _ (v : OpenView) (kept : Log) (is : IsKept v kept) where

@@ -13,7 +13,7 @@ ghost use Rattle.node_invariant.specs.Starting.{Rests};
 ghost use Rattle.node_calls.specs.Pacing.{SettlesWithin};
 ghost use Rattle.node_calls.specs.Calls.{NobodyWaits};
 ghost use Rattle.mate_journal.specs.OpenLog.{nothing_gone, gone_of, IsKept};
-ghost use Rattle.mate_journal.specs.Tidy.{IsEntryInRange};
+ghost use Rattle.mate_journal.specs.Entries.{IsEntryInRange};
 ghost use Rattle.mate_journal.specs.declared.entry.Stamped.{Stamped as Entered};
 ghost use Rattle.open_node.specs.Journal.{KeepsJournal};
 ghost use Rattle.open_node.specs.Start.{AreNewParts};

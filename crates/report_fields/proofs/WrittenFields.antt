@@ -37,7 +37,8 @@ use Rattle.report_fields.specs.Hex.{is_lower_digit, is_hex_word, hex_of}
 use Rattle.report_fields.specs.Names as names
 use Rattle.report_fields.proofs.FieldLemmas.{position-here, position-later}
 use Rattle.report_fields.specs.Fields.{number_of, node_of, drop_of, fault_of, payload_of}
-use Rattle.mate_journal.specs.Ranges.{IsByteList, AreValues}
+use Rattle.mate_journal.specs.Entries.{AreValues}
+use Rattle.mate_journal.specs.Ranges.{IsByteList}
 use Rattle.report_fields.proofs.NumberLemmas.{value_of-signed, below_of-decimal}
 use Rattle.report_fields.proofs.WrittenWords.{is_written, name-written, lower-encode, written-encode, written-signed, IsValue-fits, bytes-list}
 

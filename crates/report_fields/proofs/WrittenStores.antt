@@ -22,7 +22,7 @@ use Rattle.report_fields.specs.Words.{only_at_end}
 use Rattle.report_fields.specs.Numbers.{value_of}
 use Rattle.report_fields.specs.Stores.{after, closed, shared_value, shared_after, item, items_after, opened, buffer_of, buffers_after, store_with, store_of}
 use Rattle.mate_journal.specs.Tidy.{IsStoreOf}
-use Rattle.mate_journal.specs.Ranges.{AreValues}
+use Rattle.mate_journal.specs.Entries.{AreValues}
 use Rattle.report_fields.proofs.NumberLemmas.{IsValue}
 use Rattle.report_fields.proofs.WrittenWords.{is_above, is_written, in_value, in_value-signed, signed-some, IsValue-fits, name-written, list_all-both}
 use Rattle.report_fields.proofs.WrittenFields.{reads-value}

@@ -28,7 +28,8 @@ use Rattle.capsule_codec.specs.HexText.{bytes_of_digits}
 use Rattle.report_fields.specs.Hex.{is_hex_word, hex_of, image_of, packet_of}
 use Rattle.report_fields.specs.Names.{handler_of, function_of, context_of}
 use Rattle.report_fields.specs.Stores.{after, closed, shared_value, shared_after, item, items_after, opened, buffer_of, buffers_after, store_with, store_of}
-use Rattle.mate_journal.specs.Ranges.{IsByteList, AreValues}
+use Rattle.mate_journal.specs.Entries.{AreValues}
+use Rattle.mate_journal.specs.Ranges.{IsByteList}
 use Rattle.report_reader.specs.Told.{HasToldRanges, HasLineRanges}
 use Rattle.report_reader.specs.Reading.{post_of, dropped_of, ask_of, VoidVerb, ready, waiting, newer, void_word, void_by, told_by, told_of, line_with, line_in}
 use Rattle.report_fields.proofs.OptionLemmas.{steps, when_some, below_some}

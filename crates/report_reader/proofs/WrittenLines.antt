@@ -31,7 +31,8 @@ use Rattle.report_fields.specs.Fields.{named_among, number_of, node_of, drop_of,
 use Rattle.report_reader.specs.Verbs.{verb_word, verb_of}
 use Rattle.report_fields.specs.Hex.{image_of, packet_of}
 use Rattle.report_fields.specs.Names.{handler_of, function_of, context_of}
-use Rattle.mate_journal.specs.Ranges.{HasVoidRanges, HasEntryRanges, HasAirRanges}
+use Rattle.mate_journal.specs.Entries.{HasVoidRanges, HasEntryRanges}
+use Rattle.mate_journal.specs.Ranges.{HasAirRanges}
 use Rattle.report_reader.specs.Told.{told_words, line_words, IsRightTold, IsRightEntry, IsRightAir, IsRightLine, HasToldRanges, HasLineRanges}
 use Rattle.report_reader.specs.Reading.{VoidVerb, ready, waiting, newer, void_word, void_by, told_by, told_of, line_with, line_of_words, line_in}
 use Rattle.report_fields.proofs.NumberLemmas.{unsigned_of-decimal}

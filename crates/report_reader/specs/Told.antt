@@ -12,7 +12,8 @@ use Rattle.mate_journal.specs.declared.air.Air.TheVariants as air
 use Rattle.mate_journal.specs.declared.entry.Entry.{Entry}
 use Rattle.mate_journal.specs.declared.entry.Entry.TheVariants as entry
 use Rattle.report_text.specs.Words.{stamp_words, air_words, entry_words}
-use Rattle.mate_journal.specs.Ranges.{IsByteList, HasEntryRanges, HasAirRanges, HasStoreRanges}
+use Rattle.mate_journal.specs.Entries.{HasEntryRanges}
+use Rattle.mate_journal.specs.Ranges.{IsByteList, HasAirRanges, HasStoreRanges}
 use Rattle.report_reader.specs.declared.line.Told.{Told}
 use Rattle.report_reader.specs.declared.line.Told.TheVariants as told
 use Rattle.report_reader.specs.declared.line.Line.{Line}

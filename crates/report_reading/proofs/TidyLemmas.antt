@@ -11,7 +11,8 @@ use Rattle.vm_desc.specs.declared.description.Description.{Description}
 use Rattle.mate_num.specs.declared.call.Stamp.{Stamp}
 use Rattle.mate_num.specs.declared.store.Store.{Store}
 use Rattle.mate_journal.specs.Log.{Log, IsSameLog}
-use Rattle.mate_journal.specs.Tidy.{image_named, store_named, names_in, below, IsEntryInRange, IsStoreOf, EventsRise, entry_event, IsTidyLog, HasFullImages}
+use Rattle.mate_journal.specs.Entries.{IsEntryInRange}
+use Rattle.mate_journal.specs.Tidy.{image_named, store_named, names_in, below, IsStoreOf, EventsRise, entry_event, IsTidyLog, HasFullImages}
 use Rattle.mate_journal.specs.declared.air.Aired.{Aired}
 use Rattle.mate_journal.specs.declared.entry.Entry.{Entry}
 use Rattle.mate_journal.specs.declared.entry.Entry.TheVariants as entry

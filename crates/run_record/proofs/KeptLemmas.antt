@@ -8,7 +8,7 @@ use Rattle.std.proofs.lemmas.List.Elements.{All-nil, All-cons}
 use Rattle.arrayvec.specs.ArrayVec.{ArrayVec}
 use Rattle.mate_num.specs.declared.store.Store.{Store}
 use Rattle.mate_journal.specs.Log.{Log, IsSameLog, GoesOn}
-use Rattle.mate_journal.specs.OpenLog.{gone_of, entry_behind, stamped_behind, joined, IsKept}
+use Rattle.mate_journal.specs.OpenLog.{gone_of, NumberFits, entry_behind, stamped_behind, joined, IsKept}
 use Rattle.mate_journal.specs.Tidy.{NumbersInOrder}
 use Rattle.mate_journal.specs.declared.air.Aired.{Aired}
 use Rattle.mate_journal.specs.declared.entry.Entry.{Entry}
@@ -16,7 +16,7 @@ use Rattle.mate_journal.specs.declared.entry.Entry.TheVariants as entry
 use Rattle.mate_journal.specs.declared.entry.Stamped.{Stamped}
 use Rattle.journal_laws.specs.Growth.{IsNamedBelow, AreNamedBelow}
 use Rattle.journal_laws.proofs.TidyLemmas.{NamesInLog-numbered, images-few, stores-few}
-use Rattle.run_record.specs.Records.{HasLog, NumberFits, FitsBehind, MayAdd, HasAdded}
+use Rattle.run_record.specs.Records.{HasLog, FitsBehind, MayAdd, HasAdded}
 use Rattle.run_record.specs.declared.record.Record.{Record}
 use Rattle.run_record.proofs.RecordLemmas.{all-then, all-set, same-then, fits-as, joined-as}
 
@@ -28,15 +28,7 @@ names-fit images stores i s (x ∷ es) few short named =
       one : (e : Entry) → IsNamedBelow i s (entry_behind images stores e) → NumberFits images stores e
       one (entry.Install h version image) low = omega (arith, low, few)
       one (entry.Seen store) low = omega (arith, low, short)
-      one (entry.Post n h c payload) low = tt
-      one (entry.Dropped h cause) low = tt
-      one (entry.Start n) low = tt
-      one (entry.Ask n f args) low = tt
-      one (entry.Answer n value) low = tt
-      one (entry.Halt n) low = tt
-      one (entry.Fault n kind) low = tt
-      one entry.Reset low = tt
-      one (entry.Void cause) low = tt
+      one _ low = tt
 
 named-behind : (i s : ℕ) (xs ys : List Stamped) → AreNamedBelow i s (xs ++ ys) → AreNamedBelow i s ys
 named-behind i s [] ys named = named

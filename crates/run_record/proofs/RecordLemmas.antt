@@ -7,9 +7,9 @@ use Rattle.std.proofs.lemmas.Option.{slice_get-get_or}
 use Rattle.arrayvec.specs.ArrayVec.{ArrayVec}
 use Rattle.mate_num.specs.declared.store.Store.{Store}
 use Rattle.mate_journal.specs.Log.{Log, IsSameLog}
-use Rattle.mate_journal.specs.OpenLog.{stamped_behind, joined}
+use Rattle.mate_journal.specs.OpenLog.{NumberFits, stamped_behind, joined}
 use Rattle.mate_journal.specs.declared.entry.Stamped.{Stamped}
-use Rattle.run_record.specs.Records.{NumberFits, FitsBehind}
+use Rattle.run_record.specs.Records.{FitsBehind}
 
 pub same-self : (l : Log) → IsSameLog l l
 same-self l = record { entries = refl; images = refl; stores = refl }

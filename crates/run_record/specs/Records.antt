@@ -1,11 +1,9 @@
 -- What is kept of a run apart from its nodes.
-use Rattle.std.specs.Prelude.{◌≡◌, ◌≢◌, ◌≤◌, ◌<◌, ◌+◌, ◌^◌, ℕ, List, [], ◌++◌, length, slice_get, slice_set, Some, All, ⊤}
+use Rattle.std.specs.Prelude.{◌≡◌, ◌≢◌, ◌≤◌, ◌<◌, ◌+◌, ◌^◌, ℕ, List, [], ◌++◌, length, slice_get, slice_set, Some, All}
 use Rattle.std.specs.List.{AllZip}
 use Rattle.mate_journal.specs.Log.{Log, IsSameLog, IsEmpty}
-use Rattle.mate_journal.specs.OpenLog.{joined}
+use Rattle.mate_journal.specs.OpenLog.{NumberFits, joined}
 use Rattle.mate_journal.specs.declared.air.Aired.{Aired}
-use Rattle.mate_journal.specs.declared.entry.Entry.{Entry}
-use Rattle.mate_journal.specs.declared.entry.Entry.TheVariants as entry
 use Rattle.mate_journal.specs.declared.entry.Stamped.{Stamped}
 use Rattle.run_record.specs.declared.record.Record.{Record}
 
@@ -25,12 +23,6 @@ pub record IsSameRecord (old new : Record) : Type 0 where
   pub logs : AllZip IsSameLog new.logs.items old.logs.items
   pub air : new.air ≡ old.air
   pub places : length new.places ≡ length old.places
-
--- after these numbers of images and stores, what the entry names has a number of 32 bits
-abbrev pub NumberFits : ℕ → ℕ → Entry → Type 0
-NumberFits images stores (entry.Install h version image) = images + image < 4294967296
-NumberFits images stores (entry.Seen store) = stores + store < 4294967296
-NumberFits images stores _ = ⊤
 
 -- the second log fits after the first
 pub record FitsBehind (own told : Log) : Type 0 where

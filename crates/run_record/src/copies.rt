@@ -2,66 +2,11 @@
 
 ghost use Rattle.std.specs.Prelude.{◌≡◌, ◌≤◌, ◌<◌, ◌+◌, ◌++◌, map, length, All};
 ghost use Rattle.mate_journal.specs.Log.{IsSameLog};
-ghost use Rattle.mate_journal.specs.OpenLog.{entry_behind, stamped_behind, joined};
+ghost use Rattle.mate_journal.specs.OpenLog.{NumberFits, stamped_behind, joined};
 ghost use Rattle.mate_journal.specs.declared.entry.Stamped.{Stamped as StampedEntry};
-ghost use Rattle.run_record.specs.Records.{NumberFits, FitsBehind};
+ghost use Rattle.run_record.specs.Records.{FitsBehind};
 
-use mate_journal::{Air, Aired, Entry, Images, NodeLog, Stamped, Stores};
-use mate_num::copy_of;
-
-/// The entry again, if so many images and stores come before those of its own log.
-#[inline(never)]
-fn entry_again(entry: &Entry, images: u32, stores: u32) -> Entry
-    requires { NumberFits images stores entry.now }
-    ensures { result ≡ entry_behind images stores entry.now }
-{
-    match entry {
-        Entry::Post {
-            inv,
-            handler,
-            ctx,
-            payload,
-        } => Entry::Post {
-            inv: *inv,
-            handler: *handler,
-            ctx: *ctx,
-            payload: copy_of(payload),
-        },
-        Entry::Dropped { handler, cause } => Entry::Dropped {
-            handler: *handler,
-            cause: *cause,
-        },
-        Entry::Start { inv } => Entry::Start { inv: *inv },
-        Entry::Ask { inv, fun, args } => Entry::Ask {
-            inv: *inv,
-            fun: *fun,
-            args: copy_of(args),
-        },
-        Entry::Answer { inv, value } => Entry::Answer {
-            inv: *inv,
-            value: *value,
-        },
-        Entry::Halt { inv } => Entry::Halt { inv: *inv },
-        Entry::Fault { inv, kind } => Entry::Fault {
-            inv: *inv,
-            kind: *kind,
-        },
-        Entry::Install {
-            handler,
-            version,
-            image,
-        } => Entry::Install {
-            handler: *handler,
-            version: *version,
-            image: images + *image,
-        },
-        Entry::Reset => Entry::Reset,
-        Entry::Seen { store } => Entry::Seen {
-            store: stores + *store,
-        },
-        Entry::Void { cause } => Entry::Void { cause: *cause },
-    }
-}
+use mate_journal::{Air, Aired, Images, NodeLog, Stamped, Stores};
 
 /// Appends a log behind another, its images and stores numbered anew.
 pub(crate) fn append(own: &mut NodeLog, told: &NodeLog)
@@ -118,7 +63,7 @@ fn copy_entries(own: &mut NodeLog, entries: &[Stamped], images: u32, stores: u32
     for stamped in entries {
         own.push(Stamped {
             stamp: stamped.stamp,
-            entry: entry_again(&stamped.entry, images, stores),
+            entry: stamped.entry.behind(images, stores),
         });
     }
 }

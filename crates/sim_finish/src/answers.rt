@@ -5,7 +5,7 @@ ghost use Rattle.mate_num.specs.declared.bounds.TheConstants.{HOUR};
 ghost use Rattle.mate_num.specs.declared.id.FunId.{FunId as FunName};
 ghost use Rattle.mate_journal.specs.Log.{Log};
 ghost use Rattle.mate_journal.specs.Journal.{journal_entry};
-ghost use Rattle.mate_journal.specs.Tidy.{IsEntryInRange};
+ghost use Rattle.mate_journal.specs.Entries.{IsEntryInRange};
 ghost use Rattle.mate_journal.specs.WellFormed.{IsWaiting};
 ghost use Rattle.mate_journal.specs.declared.entry.Stamped.{Stamped as StampedEntry};
 ghost use Rattle.open_node.specs.View.{heard_of};
@@ -101,16 +101,7 @@ fn asked_in(entry: &Entry) -> Option<(u32, FunId)>
 {
     match entry {
         Entry::Ask { inv, fun, .. } => Some((*inv, *fun)),
-        Entry::Post { .. } => None,
-        Entry::Dropped { .. } => None,
-        Entry::Start { .. } => None,
-        Entry::Answer { .. } => None,
-        Entry::Halt { .. } => None,
-        Entry::Fault { .. } => None,
-        Entry::Install { .. } => None,
-        Entry::Reset => None,
-        Entry::Seen { .. } => None,
-        Entry::Void { .. } => None,
+        _ => None,
     }
 }
 

@@ -4,7 +4,7 @@ use Rattle.std.proofs.lemmas.List.{take_all}
 use Rattle.std.proofs.lemmas.List.Elements.{All-more}
 use Rattle.arrayvec.specs.ArrayVec.{ArrayVec}
 use Rattle.mate_num.specs.Store.{payload}
-use Rattle.mate_journal.specs.Ranges.{AreValues}
+use Rattle.mate_journal.specs.Entries.{AreValues}
 use Rattle.journal_laws.proofs.ranges.buffers_are_in_range.Goals as goal
 
 pub loop-buffer-preserved : goal.loop-buffer-preserved

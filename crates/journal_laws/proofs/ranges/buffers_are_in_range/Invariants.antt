@@ -2,7 +2,7 @@ use Rattle.std.proofs.Common.{take}
 use Rattle.std.specs.Prelude.{All}
 use Rattle.std.specs.Prelude.{ℤ}
 use Rattle.arrayvec.specs.ArrayVec.{ArrayVec}
-use Rattle.mate_journal.specs.Ranges.{AreValues}
+use Rattle.mate_journal.specs.Entries.{AreValues}
 use Rattle.journal_laws.proofs.ranges.buffers_are_in_range.Given as goal
 
 abbrev pub invariant-loop-buffer : goal.invariant-loop-buffer

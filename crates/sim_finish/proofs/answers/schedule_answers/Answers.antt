@@ -3,7 +3,7 @@ use Rattle.std.proofs.lemmas.List.{take_all}
 use Rattle.mate_num.specs.declared.id.FunId.{FunId}
 use Rattle.event_queue.specs.declared.queue.Timed.{Timed}
 use Rattle.mate_journal.specs.Journal.{journal_entry}
-use Rattle.mate_journal.specs.Tidy.{IsEntryInRange}
+use Rattle.mate_journal.specs.Entries.{IsEntryInRange}
 use Rattle.mate_journal.specs.declared.entry.Stamped.{Stamped}
 use Rattle.radio_sim.specs.declared.event.Event.{Event}
 use Rattle.open_node.specs.View.{heard_of}

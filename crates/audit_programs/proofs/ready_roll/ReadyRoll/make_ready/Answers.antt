@@ -1,7 +1,7 @@
 use Rattle.std.proofs.Common.{◌<◌, length, sym, subst, arith}
 use Rattle.mate_journal.specs.Journal.{journal_entry}
 use Rattle.mate_journal.specs.Machine.{HeldProgram}
-use Rattle.mate_journal.specs.Tidy.{IsEntryInRange}
+use Rattle.mate_journal.specs.Entries.{IsEntryInRange}
 use Rattle.mate_journal.specs.declared.entry.Entry.{Entry}
 use Rattle.audit_rules.specs.Roll as told
 use Rattle.audit_rules.specs.Views.{roll_in}

@@ -3,7 +3,7 @@ use Rattle.std.proofs.Common.{◌≡◌, ◌+◌, ◌-◌, ℕ, List, length, dr
 use Rattle.std.specs.Prelude.{All}
 use Rattle.mate_journal.specs.declared.entry.Stamped.{Stamped}
 use Rattle.mate_journal.specs.OpenLog.{OpenView}
-use Rattle.mate_journal.specs.Tidy.{IsEntryInRange}
+use Rattle.mate_journal.specs.Entries.{IsEntryInRange}
 use Rattle.open_node.specs.Calls.{TellFrom}
 use Rattle.open_node.proofs.KeptLemmas.{count-kept, left-kept, tell-from, range-kept}
 use Rattle.open_node.proofs.open_node.OpenNode.told_since.Goals as goal

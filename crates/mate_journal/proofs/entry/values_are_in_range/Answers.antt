@@ -3,7 +3,7 @@ use Rattle.std.specs.Prelude.{All, FitsSigned}
 use Rattle.std.specs.Int.{w16}
 use Rattle.std.proofs.lemmas.List.{take_all}
 use Rattle.std.proofs.lemmas.List.Elements.{All-more}
-use Rattle.journal_laws.proofs.ranges.values_are_in_range.Goals as goal
+use Rattle.mate_journal.proofs.entry.values_are_in_range.Goals as goal
 
 pub loop-value-preserved : goal.loop-value-preserved
 loop-value-preserved c =
