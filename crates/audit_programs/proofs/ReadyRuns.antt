@@ -1,5 +1,7 @@
 -- Programs that are made ready: the code of an image, its run, and conflicts by locks.
 use Rattle.std.proofs.Common.{◌≡◌, ℕ, ℤ, Bool, true, false, List, Result, Ok, Err, refl, sym, ◌∙◌, ap, subst}
+use Rattle.std.specs.Result.{result_unwrap_or}
+use Rattle.mate_num.specs.Results.{result_map}
 use Rattle.std.specs.Prelude.{IfOk, MatchResult, MatchBool, Decides, not, drop, length, nat_lt, if◌then◌else◌}
 use Rattle.std.proofs.lemmas.Bool.{false≢true}
 use Rattle.arrayvec.specs.ArrayVec.{ArrayVec}
@@ -12,12 +14,14 @@ use Rattle.mate_num.specs.declared.shape.Shape.{Shape}
 use Rattle.mate_num.specs.declared.store.Store.{Store}
 use Rattle.mate_code.specs.declared.decoding.DecodeFault.{DecodeFault}
 use Rattle.mate_code.specs.declared.decoding.DecodeFault.TheVariants.{BadOpcode, CutShort}
-use Rattle.mate_code.specs.BytesVerification.{bytes_verification, of_decoded, with_code}
+use Rattle.mate_code.specs.BytesVerification.{bytes_verification, of_decoded}
 use Rattle.mate_code.specs.Code.{decoded}
 use Rattle.mate_code.specs.CodeUses.{uses_of}
 use Rattle.mate_code.specs.Run.{Code, code_run}
 use Rattle.mate_code.specs.Table.{table_of}
-use Rattle.mate_code.specs.Verification.{Marks, Refusal, TooLong, verification}
+use Rattle.mate_code.specs.declared.fault.VerifyFault.{VerifyFault}
+use Rattle.mate_code.specs.declared.fault.VerifyFault.TheVariants.{TooLong}
+use Rattle.mate_code.specs.Verification.{Marks, verification}
 use Rattle.code_verifier.specs.Verified.{VerifiedCode, IsVerificationOf, marks_of}
 use Rattle.lock_inference.specs.Locks.{AreLocksOf}
 use Rattle.capsule_codec.specs.Image.{capsule_parts}
@@ -29,7 +33,7 @@ use Rattle.vm_desc.specs.Shapes.{shape_of}
 use Rattle.vm_desc.specs.declared.description.Description.{Description}
 use Rattle.mate_journal.specs.Machine.{HeldProgram, Meaning}
 use Rattle.mate_journal.specs.declared.program.Program.{Program}
-use Rattle.node_invariant.specs.Meaning.{image_code, code_in}
+use Rattle.node_invariant.specs.Meaning.{image_code}
 use Rattle.node_programs.specs.Right.{IsRightProgram, AreRightPrograms}
 use Rattle.node_programs.specs.Sources.{meaning_by}
 use Rattle.node_programs.proofs.MeaningLemmas.{meaning_by-right}
@@ -48,10 +52,10 @@ capsule-read d p right bytes (Err fault) same gives =
     cc
 
 -- verified bytes spell the code
-code-if : (b : Bool) (n : ℕ) (shape : Shape) (code : Code) (marks : Marks) (r : Result Code DecodeFault) → (if b then Err (TooLong n) else of_decoded shape r) ≡ Ok (code, marks) → code_in r ≡ code
+code-if : (b : Bool) (n : ℕ) (shape : Shape) (code : Code) (marks : Marks) (r : Result Code DecodeFault) → (if b then Err (TooLong n) else of_decoded shape r) ≡ Ok (code, marks) → result_unwrap_or r [] ≡ code
 code-if true n shape code marks r is = cc
 code-if false n shape code marks (Ok found) is = by (verification shape found) is where
-  by : (v : Result Marks Refusal) → with_code found v ≡ Ok (code, marks) → found ≡ code
+  by : (v : Result Marks VerifyFault) → result_map {B = Code × Marks} (λ marks. (found, marks)) v ≡ Ok (code, marks) → found ≡ code
   by (Ok other) is = let pair : (found, other) ≡ (code, marks) = cc in ap (λ (p : Code × Marks). p.0) pair
   by (Err refusal) is = cc
 code-if false n shape code marks (Err (BadOpcode place)) is = cc
@@ -65,11 +69,11 @@ IsImageCode-verified d p right code v same is =
     let S : Shape → Type 0 = λ s. bytes_verification s v.bytes ≡ Ok (v.code, marks_of v) in
     let B : List ℕ → Type 0 = λ bs. bytes_verification shape bs ≡ Ok (v.code, marks_of v) in
     let accepted : bytes_verification shape right.capsule.code ≡ Ok (v.code, marks_of v) = subst B (is.bytes_are ∙ same) (subst S is.shape_is is.is_verified.accepted) in
-    let spelled : code_in (decoded (table_of shape) right.capsule.code) ≡ v.code =
+    let spelled : result_unwrap_or (decoded (table_of shape) right.capsule.code) [] ≡ v.code =
     code-if (nat_lt CODE_MAX (length right.capsule.code)) (length right.capsule.code) shape v.code (marks_of v) (decoded (table_of shape) right.capsule.code) accepted in
     record {
       shape = is.shape_is;
-      code = sym (ap (λ (bs : List ℕ). code_in (decoded (table_of shape) (drop 16 bs))) right.image ∙ spelled);
+      code = sym (ap (λ (bs : List ℕ). result_unwrap_or (decoded (table_of shape) (drop 16 bs)) []) right.image ∙ spelled);
     }
 
 -- the locks are those of the code, by its own shape

@@ -4,24 +4,17 @@ use Rattle.std.specs.Prelude.{◌==◌, nat_lt, if◌then◌else◌, Result, Ok,
 use Rattle.capsule_codec.specs.Image.{CapsuleParts}
 use Rattle.capsule_codec.specs.Reading.{capsule_in}
 use Rattle.capsule_codec.specs.declared.decoding.CapsuleFault.{CapsuleFault}
-use Rattle.code_verifier.specs.Faults.{refusal_of}
-use Rattle.code_verifier.specs.declared.fault.VerifyFault.{VerifyFault}
-use Rattle.code_verifier.specs.declared.fault.VerifyFault.TheVariants as fault
+use Rattle.mate_code.specs.declared.fault.VerifyFault.{VerifyFault}
 use Rattle.mate_code.specs.BytesVerification.{bytes_verification}
 use Rattle.mate_code.specs.Run.{Code}
-use Rattle.mate_code.specs.Verification.{Refusal, Marks}
+use Rattle.mate_code.specs.Verification.{Marks}
 use Rattle.slip_gateway.specs.declared.frames.Frame.{Frame}
 use Rattle.slip_gateway.specs.declared.frames.Frame.TheVariants.{Whole, TooLong, BadEscape}
 use Rattle.vm_desc.specs.Shapes.{shape_of}
 use Rattle.vm_desc.specs.declared.description.Description.{Description}
-use Rattle.capsule_feed.specs.Answers.{Held, if_newer, verify_fault, verified_answer, decoded_answer, answer_to, held_after, answers_from}
+use Rattle.capsule_feed.specs.Answers.{Held, if_newer, verified_answer, decoded_answer, answer_to, held_after, answers_from}
 use Rattle.capsule_feed.specs.declared.answer.Answer.{Answer}
 use Rattle.capsule_feed.specs.declared.answer.Answer.TheVariants.{Installed, NotNewer, NoCapsule, BadCode, Long, Broken}
-
--- the verifier's fault of its own refusal
-pub fault_of-refusal_of : (why : VerifyFault) → verify_fault (refusal_of why) ≡ why
-fault_of-refusal_of (fault.Decode place) = refl
-fault_of-refusal_of _ = refl
 
 -- what is held for each handler decides the answer
 pub same-answer : (d : Description) (f g : Held) (x : Frame) → ((h : ℕ) → f h ≡ g h) → answer_to d f x ≡ answer_to d g x
@@ -29,7 +22,7 @@ same-answer d f g (Whole image) same = by_capsule (capsule_in d image.items) whe
   by_newer : (c : CapsuleParts) → if_newer f c ≡ if_newer g c
   by_newer c = ap (λ (v : ℕ). if nat_lt v c.version then Installed (record { 0 = c.handler }) c.version else NotNewer v) (same c.handler)
 
-  by_code : (c : CapsuleParts) (v : Result (Code × Marks) Refusal) → verified_answer f c v ≡ verified_answer g c v
+  by_code : (c : CapsuleParts) (v : Result (Code × Marks) VerifyFault) → verified_answer f c v ≡ verified_answer g c v
   by_code c (Ok code) = by_newer c
   by_code c (Err why) = refl
 

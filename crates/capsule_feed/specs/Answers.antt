@@ -3,11 +3,9 @@ use Rattle.std.specs.Prelude.{ℕ, ◌==◌, nat_lt, if◌then◌else◌, List, 
 use Rattle.capsule_codec.specs.Image.{CapsuleParts}
 use Rattle.capsule_codec.specs.Reading.{capsule_in}
 use Rattle.capsule_codec.specs.declared.decoding.CapsuleFault.{CapsuleFault}
-use Rattle.code_verifier.specs.declared.fault.VerifyFault.{VerifyFault}
-use Rattle.code_verifier.specs.declared.fault.VerifyFault.TheVariants as fault
+use Rattle.mate_code.specs.declared.fault.VerifyFault.{VerifyFault}
 use Rattle.mate_code.specs.BytesVerification.{bytes_verification}
 use Rattle.mate_code.specs.Run.{Code}
-use Rattle.mate_code.specs.Verification.{Refusal, Decode, BadTarget, BackJump, Underflow, Overflow, DepthDiffers, BadIndex, NoHalt, TooLong}
 use Rattle.mate_code.specs.Verification.{Marks}
 use Rattle.slip_gateway.specs.Stream.{frames}
 use Rattle.slip_gateway.specs.declared.frames.Frame.{Frame}
@@ -27,21 +25,9 @@ no_versions = λ h. 0
 abbrev pub if_newer : Held → CapsuleParts → Answer
 if_newer held c = if nat_lt (held c.handler) c.version then Installed (record { 0 = c.handler }) c.version else NotNewer (held c.handler)
 
--- the refusal of code, as the verifier reports it
-abbrev pub verify_fault : Refusal → VerifyFault
-verify_fault (Decode place) = fault.Decode place
-verify_fault (BadTarget place) = fault.BadTarget place
-verify_fault (BackJump place) = fault.BackJump place
-verify_fault (Underflow place) = fault.Underflow place
-verify_fault (Overflow place) = fault.Overflow place
-verify_fault (DepthDiffers place) = fault.DepthDiffers place
-verify_fault (BadIndex place) = fault.BadIndex place
-verify_fault NoHalt = fault.NoHalt
-verify_fault (TooLong len) = fault.TooLong len
-
-abbrev pub verified_answer : Held → CapsuleParts → Result (Code × Marks) Refusal → Answer
+abbrev pub verified_answer : Held → CapsuleParts → Result (Code × Marks) VerifyFault → Answer
 verified_answer held c (Ok code) = if_newer held c
-verified_answer held c (Err why) = BadCode (verify_fault why)
+verified_answer held c (Err why) = BadCode why
 
 abbrev pub decoded_answer : Description → Held → Result CapsuleParts CapsuleFault → Answer
 decoded_answer d held (Ok c) = verified_answer held c (bytes_verification (shape_of d) c.code)

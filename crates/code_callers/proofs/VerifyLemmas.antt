@@ -5,21 +5,15 @@ use Rattle.mate_num.specs.declared.shape.Shape.{Shape}
 use Rattle.mate_code.specs.BytesVerification.{bytes_verification}
 use Rattle.mate_code.specs.Run.{Code}
 use Rattle.mate_code.specs.Verification.{Marks}
-use Rattle.mate_code.specs.Verification as refusal
 use Rattle.code_verifier.specs.Verified.{VerifiedCode, Verifies}
-use Rattle.code_verifier.specs.Faults.{refusal_of}
-use Rattle.code_verifier.specs.declared.fault.VerifyFault.{VerifyFault}
-use Rattle.code_verifier.specs.declared.fault.VerifyFault.TheVariants.{Decode, BadTarget, BackJump, Underflow, Overflow, DepthDiffers, BadIndex, NoHalt, TooLong}
-
-fault_of_depth : (fault : VerifyFault) (place : ℕ) → refusal_of fault ≡ refusal.DepthDiffers place → fault ≡ DepthDiffers place
-fault_of_depth (Decode at) place is = cc
-fault_of_depth _ place is = cc
+use Rattle.mate_code.specs.declared.fault.VerifyFault.{VerifyFault}
+use Rattle.mate_code.specs.declared.fault.VerifyFault.TheVariants.{DepthDiffers}
 
 pub refused_by_depth : (shape : Shape) (bytes : List ℕ) (place : ℕ) (result : Result VerifiedCode VerifyFault)
-    → bytes_verification shape bytes ≡ Err (refusal.DepthDiffers place) → Verifies shape bytes result → result ≡ Err (DepthDiffers place)
+    → bytes_verification shape bytes ≡ Err (DepthDiffers place) → Verifies shape bytes result → result ≡ Err (DepthDiffers place)
 refused_by_depth shape bytes place (Ok v) is verifies =
     let same = ap₂ bytes_verification verifies.shape_is verifies.bytes_are in let accepted = verifies.is_verified.accepted in cc
-refused_by_depth shape bytes place (Err fault) is verifies = let told : refusal_of fault ≡ refusal.DepthDiffers place = cc in ap (λ (f : VerifyFault). Err f) (fault_of_depth fault place told)
+refused_by_depth shape bytes place (Err fault) is verifies = let told : fault ≡ DepthDiffers place = cc in ap (λ (f : VerifyFault). Err f) told
 
 pub is_accepted : (shape : Shape) (bytes : List ℕ) (code : Code) (marks : Marks) (result : Result VerifiedCode VerifyFault)
     → bytes_verification shape bytes ≡ Ok (code, marks) → Verifies shape bytes result → IsOk result

@@ -3,7 +3,7 @@
 ghost use Rattle.std.specs.Prelude.{◌≡◌, Err, IsOk};
 ghost use Rattle.mate_code.specs.Table.{table_of};
 ghost use Rattle.vm_desc.specs.Shapes.{shape_of};
-ghost use Rattle.code_verifier.specs.declared.fault.VerifyFault.TheVariants.{DepthDiffers};
+ghost use Rattle.mate_code.specs.declared.fault.VerifyFault.TheVariants.{DepthDiffers};
 
 use code_verifier::{Verified, VerifyFault, verify};
 use mate_code::Table;

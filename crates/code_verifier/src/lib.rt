@@ -1,7 +1,7 @@
 //! The verifier of byte code, and code that was verified.
 #![tactic(auto)]
 
-pub mod fault;
+mod fault;
 mod marks;
 mod pass;
 pub mod placed;
@@ -10,8 +10,7 @@ pub mod verification;
 pub mod verified;
 pub mod verifier;
 
-pub use fault::VerifyFault;
-pub use mate_code::args;
+pub use mate_code::{VerifyFault, args};
 pub use placed::Placed;
 pub use verification::verify;
 pub use verified::Verified;

@@ -9,10 +9,9 @@ ghost use Rattle.code_verifier.specs.Flows.{IsTargetBelow};
 ghost use Rattle.code_verifier.specs.Marks.{marks_in};
 ghost use Rattle.code_verifier.specs.Pass.{PassGives, CheckGives};
 
-use crate::fault::VerifyFault;
 use crate::marks::{Mark, begin, depth, give};
 use crate::placed::Placed;
-use mate_code::{Flow, Instr};
+use mate_code::{Flow, Instr, VerifyFault};
 use mate_num::{STACK_MAX, Shape};
 
 /// Goes over the instructions by their places, with marks that it begins anew. Answers the first refusal, and else whether

@@ -5,9 +5,8 @@ ghost use Rattle.mate_code.specs.Table.{table_of};
 ghost use Rattle.vm_desc.specs.Shapes.{shape_of};
 ghost use Rattle.code_verifier.specs.Verified.{Verifies};
 
-use crate::fault::VerifyFault;
 use crate::verified::Verified;
-use mate_code::Table;
+use mate_code::{Table, VerifyFault};
 use vm_desc::{Description, shape};
 
 /// The verified code of the bytes, or their first refusal: `TooLong`, then `Decode`, then those of a pass

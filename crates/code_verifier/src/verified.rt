@@ -8,10 +8,9 @@ ghost use Rattle.mate_code.specs.Verification.{is_start, IsRightInstr};
 ghost use Rattle.mate_num.specs.declared.bounds.TheConstants.{CODE_MAX};
 ghost use Rattle.code_verifier.specs.Verified.{depth_of, IsVerifiedCode, KeepsFitting, Verifies};
 
-use crate::fault::VerifyFault;
 use crate::placed::Placed;
 use crate::verifier::Verifier;
-use mate_code::{Instr, Instrs, Table};
+use mate_code::{Instr, Instrs, Table, VerifyFault};
 use mate_num::{Code, Shape};
 use std::marker::Model;
 

@@ -5,11 +5,11 @@ ghost use Rattle.mate_code.specs.Table.{table_of};
 ghost use Rattle.vm_desc.specs.Shapes.{shape_of};
 ghost use Rattle.code_verifier.specs.Verified.{Accepts, ReadsVerified};
 
-use crate::fault::VerifyFault;
+use crate::fault::of_decode;
 use crate::marks::{MARKS, Mark};
 use crate::pass::pass;
 use crate::placed::Placed;
-use mate_code::Table;
+use mate_code::{Table, VerifyFault};
 use mate_num::{CODE_MAX, Shape};
 use vm_desc::{Description, shape};
 
@@ -57,7 +57,7 @@ impl Verifier {
             return Err(VerifyFault::TooLong { len: bytes.len() });
         }
         if let Err(fault) = self.code.read(table, bytes) {
-            return Err(VerifyFault::of_decode(fault));
+            return Err(of_decode(fault));
         }
         let marks = &mut self.marks[..];
         if pass(shape, &self.code, &mut marks[..bytes.len() + 1])? {

@@ -1,5 +1,6 @@
 -- What a run wrote is found serial.
 use Rattle.std.proofs.Common.{◌≡◌, inl, inr, ℕ, ◌+◌, ◌≤◌, ◌<◌, ◌==◌, Bool, true, false, List, [], ◌∷◌, length, Option, Some, None, Result, Ok, Err, refl, sym, ◌∙◌, subst, arith}
+use Rattle.mate_num.specs.Results.{result_map}
 use Rattle.std.specs.Prelude.{All, IsSomeAnd, codes, if◌then◌else◌}
 use Rattle.std.specs.Global.{Vec}
 use Rattle.std.specs.List.{list_all}
@@ -47,7 +48,7 @@ use Rattle.script_programs.specs.Programs.{script_programs}
 use Rattle.script_programs.specs.SamePrograms.{SamePrograms}
 use Rattle.script_programs.specs.Scripts.{script}
 use Rattle.script_reader.specs.Lines.{lines, split_words, is_skipped}
-use Rattle.script_reader.specs.NodeScript.{node_script_in, after_line, a_line, behind, behind_others, when_said, nothing_yet, Progress}
+use Rattle.script_reader.specs.NodeScript.{node_script_in, after_line, a_line, behind, behind_others, nothing_yet, Progress, Said, with_said}
 use Rattle.script_reader.specs.declared.fault.ScriptFault.{ScriptFault}
 use Rattle.script_reader.specs.declared.fault.ScriptFault.TheVariants as script_fault
 use Rattle.script_reader.specs.Script.{script_from, numbered}
@@ -83,18 +84,18 @@ module _ (d : Description) where
 
   -- no line of it begins with `nodes`
   nodes-refused : (number : ℕ) (p : Progress) (more : List (List ℕ)) (s : NodeScript) (words : List (List ℕ))
-      → numbered number (λ q. NodeLines (number + 1) q more) (when_said p (a_line d p.newest (length p.script.files) (codes "nodes" ∷ words))) ≡ Ok s → ⊥
+      → numbered number (λ q. NodeLines (number + 1) q more) (result_map (λ (t : TakenWords Said). with_said p t.value) (a_line d p.newest (length p.script.files) (codes "nodes" ∷ words))) ≡ Ok s → ⊥
   unfolding a_line behind behind_others
   nodes-refused number p more s words is = let bad : ◌≡◌ {A = Result NodeScript ScriptFault} (Err (script_fault.BadLine number Word)) (Ok s) = is in cc
 
   one-line : (number : ℕ) (p : Progress) (more : List (List ℕ)) (s : NodeScript) (w : List ℕ) (words : List (List ℕ)) (skip : Bool) → ((q : Progress) → NodeLines (number + 1) q more ≡ Ok s → are_of_world more ≡ false)
-      → numbered number (λ q. NodeLines (number + 1) q more) (if skip then Ok p else when_said p (a_line d p.newest (length p.script.files) (w ∷ words))) ≡ Ok s
+      → numbered number (λ q. NodeLines (number + 1) q more) (if skip then Ok p else result_map (λ (t : TakenWords Said). with_said p t.value) (a_line d p.newest (length p.script.files) (w ∷ words))) ≡ Ok s
       → (if skip then are_of_world more else bytes_eq w (codes "nodes")) ≡ false
   one-line number p more s w words true rest is = rest p is
   one-line number p more s w words false rest is =
       not-true (bytes_eq w (codes "nodes"))
       (λ same. nodes-refused number p more s words
-      (subst (λ (v : List ℕ). numbered number (λ q. NodeLines (number + 1) q more) (when_said p (a_line d p.newest (length p.script.files) (v ∷ words))) ≡ Ok s) ((bytes_eq-Decides w (codes "nodes")).0 same) is))
+      (subst (λ (v : List ℕ). numbered number (λ q. NodeLines (number + 1) q more) (result_map (λ (t : TakenWords Said). with_said p t.value) (a_line d p.newest (length p.script.files) (v ∷ words))) ≡ Ok s) ((bytes_eq-Decides w (codes "nodes")).0 same) is))
 
   by-words : (number : ℕ) (p : Progress) (more : List (List ℕ)) (s : NodeScript) (ws : List (List ℕ)) → ((q : Progress) → NodeLines (number + 1) q more ≡ Ok s → are_of_world more ≡ false)
       → numbered number (λ q. NodeLines (number + 1) q more) (after_line d p ws) ≡ Ok s → (if is_skipped ws then are_of_world more else begins_world ws) ≡ false

@@ -18,7 +18,8 @@ use Rattle.ts_checker.specs.declared.fault.CheckFault.{CheckFault}
 use Rattle.ts_checker.specs.declared.fault.CheckFault.TheVariants.{Undeclared, Kind, Arity}
 use Rattle.ts_checker.specs.declared.scope.Symbol.{Symbol}
 use Rattle.ts_checker.specs.declared.scope.Symbol.TheVariants.{Variable, Buffer}
-use Rattle.ts_checker.specs.Refusal.{◌>>=◌, unless_refused}
+use Rattle.mate_num.specs.Results.{◌>>=◌}
+use Rattle.ts_checker.specs.Refusal.{unless_refused}
 use Rattle.ts_checker.specs.Names.{ScriptNames, names_before, symbol_of, declare, declare_all, found_symbol, as_variable, as_buffer, variable, buffer, function, closes_for}
 use Rattle.ts_checker.specs.Checks.{name_alone, sent_name, sent, tree_count, called_function, checked_call, checked_expr, checked_args, checked_step, checked_head, checked_stmt, checked_block, checked_source}
 use Rattle.ts_lexer.specs.Bare.{bare_word, bare_tree, bare_trees, bare_step, bare_act, bare_acts, bare_decl, bare}

@@ -20,7 +20,7 @@ use Rattle.slip_gateway.specs.declared.frames.Frame.TheVariants.{Whole}
 use Rattle.capsule_feed.specs.Answers.{Held, if_newer, verified_answer, decoded_answer, answer_to, answers_from, answers_to, held_after}
 use Rattle.capsule_feed.specs.declared.answer.Answer.{Answer}
 use Rattle.capsule_feed.specs.declared.answer.Answer.TheVariants.{Installed, NotNewer, BadCode}
-use Rattle.capsule_feed.proofs.AnswerLemmas.{fault_of-refusal_of, same-answer, after-same}
+use Rattle.capsule_feed.proofs.AnswerLemmas.{same-answer, after-same}
 use Rattle.feed_laws.specs.Installing.{held_in, frame_answer, IsFrameAnswer, installs, refuses, long, broken, AreAnswered}
 use Rattle.feed_laws.proofs.NoInstalls.{same-all, installs-rest}
 
@@ -34,7 +34,7 @@ by_test h c b e = ap (λ (x : Bool). if x then Installed (capsule_handler c) c.v
 
 refused : (d : Description) (r : NodeState) (image : ArrayVec ℕ) (why : InstallFault) → Refuses d r image.items why → answer_to d (held_in r) (Whole image) ≡ frame_answer why
 refused d r image (fault.Capsule why) h = ap (decoded_answer d (held_in r)) h
-refused d r image (fault.Code why) h = ap (decoded_answer d (held_in r)) h.decoded ∙ ap (verified_answer (held_in r) h.capsule) h.refused ∙ ap BadCode (fault_of-refusal_of why)
+refused d r image (fault.Code why) h = ap (decoded_answer d (held_in r)) h.decoded ∙ ap (verified_answer (held_in r) h.capsule) h.refused
 refused d r image (fault.NotNewer version) h =
     right d r image h.capsule h.right ∙ by_test (held_in r) h.capsule false (le-ltb _ _ h.older) ∙ ap NotNewer (sym h.held_is)
 

@@ -1,6 +1,7 @@
 -- Calls to a device: between the calls of two invocations to one device, the first one ends. So in each era they are in the order in
 -- which the invocations are read.
 use Rattle.std.proofs.Common.{◌≡◌, ◌≢◌, ◌<◌, ◌≤◌, ℕ, zero, suc, Bool, true, false, IsTrue, refl, sym, ◌∙◌, ap, subst, arith, ◌⊎◌, inl, inr, List, [], ◌∷◌, ◌++◌, Some}
+use Rattle.std.specs.Prelude.{MatchBool}
 use Rattle.std.specs.Prelude.{ℤ, ◌||◌}
 use Rattle.std.proofs.lemmas.Bool.Decides.{eqb_tells}
 use Rattle.std.proofs.lemmas.Bool.{cases_order}
@@ -11,13 +12,13 @@ use Rattle.mate_num.specs.declared.id.FunId.{FunId}
 use Rattle.mate_num.specs.declared.resource.Resource.{Resource}
 use Rattle.mate_num.specs.declared.resource.Resource.TheVariants.{Device}
 use Rattle.mate_journal.specs.Machine.{Machine, HeldProgram}
-use Rattle.mate_journal.specs.Journal.{JournalEntry, Posted, Dropped, Started, Asked, Answered, Ended, Installed, Reset, Seen, Void, TimedEntry, Phase, Ready, Waiting, is_live, is_started, Invocation, NodeState, first_state, next_state, state_after_all, AtEachEntry, AtEachPlace}
+use Rattle.mate_journal.specs.Journal.{begins_era, JournalEntry, Posted, Dropped, Started, Asked, Answered, Ended, Installed, Reset, Seen, Void, TimedEntry, Phase, Ready, Waiting, is_live, is_started, Invocation, NodeState, first_state, next_state, state_after_all, AtEachEntry, AtEachPlace}
 use Rattle.mate_journal.specs.WellFormed.{MayFollow, IsWellFormed}
 use Rattle.mate_journal.specs.Serial.{RunsSoFar, IsSerial}
 use Rattle.mate_journal.specs.Stores.{WritesResource}
 use Rattle.mate_journal.specs.Grants.{AreConflicting, started_number, GrantsInOrder}
 use Rattle.journal_laws.specs.Growth.{GrantsBefore, last_start}
-use Rattle.mate_journal.specs.Positions.{TellsAt, EndsAt, StaysInEra, AreOfOneEra}
+use Rattle.mate_journal.specs.Positions.{TellsAt, EndsAt, AreOfOneEra}
 use Rattle.journal_laws.specs.Apart.{IsOrderly}
 use Rattle.mate_journal.specs.Devices.{DeviceOf, WritesWhatItAsks, AsksAt, EndsBefore, CallsInTurn, AsksDevicesInOrder}
 use Rattle.journal_laws.specs.ReadingOrder.{IsReadBefore, NeverEnds, AsksInOrder, ReadsDevicesInOrder}
@@ -56,7 +57,7 @@ pub record IsEndOf (told : JournalEntry) (n : ℕ) : Type 0 where
   pub how : End
   pub is : told ≡ Ended n how
 
-pub writes-step : (m : Machine) (r : NodeState) (told : JournalEntry) (n : ℕ) (at : Resource) → MayFollow m r told → StaysInEra told → IsNumbered r → WritesResource m r n at
+pub writes-step : (m : Machine) (r : NodeState) (told : JournalEntry) (n : ℕ) (at : Resource) → MayFollow m r told → MatchBool (begins_era told) ⊥ ⊤ → IsNumbered r → WritesResource m r n at
     → IsEndOf told n ⊎ WritesResource m (next_state m r told) n at
 writes-step m r (Posted k h c payload) n at follows stays numbered w =
     let posted : n ≤ r.posts = live_posted r n numbered (started_live (r.invocations n).phase w.started) in

@@ -13,7 +13,7 @@ use Rattle.mate_journal.specs.WellFormed.{IsIdle, IsBusy, IsWaiting}
 use Rattle.mate_journal.specs.Pace.{Pace, paced_all}
 use Rattle.mate_journal.specs.Stores.{IsShown}
 use Rattle.mate_journal.specs.Turns.{ShowsReady, Turn, IsTurn, after_step, Settles, told_in, pace_after}
-use Rattle.mate_journal.specs.NodeScript.{Step, Install, Post, StepIn, Run, Answer, Show, ResetNode, IsFirstIdle, DropsNoCode, DropsAllBusy, Posts, Occasion, Installs, IsNotNewer, IsReadyIn, TurnsIn, IsNotReady, AnswersCall, IsNotWaiting, ShowsOnce, Resets, IsPacedBy, Makes}
+use Rattle.mate_journal.specs.NodeScript.{Step, Install, Post, StepIn, Run, Answer, Show, ResetNode, IsFirstIdle, DropsNoCode, DropsAllBusy, Posts, Occasion, Installs, IsNotNewer, IsReadyIn, TurnsIn, IsNotReady, AnswersCall, IsNotWaiting, ShowsOnce, Resets, Makes}
 use Rattle.journal_once_laws.proofs.Rules.{KeepsRules, BeginsOtherwise}
 use Rattle.journal_once_laws.proofs.OneEach.{HasOneEach}
 use Rattle.journal_once_laws.proofs.OneSeen.{seen-once}
@@ -134,7 +134,7 @@ module _ (m : Machine) (r : NodeState) (p : Pace) (last : ℕ) where
 
   -- ---- steps
 
-  pace-once : (xs ys : List JournalEntry) (q q' : Pace) → xs ≡ ys → IsPacedBy p xs q → IsPacedBy p ys q' → (xs ≡ ys) × (q ≡ q')
+  pace-once : (xs ys : List JournalEntry) (q q' : Pace) → xs ≡ ys → q ≡ paced_all p xs → q' ≡ paced_all p ys → (xs ≡ ys) × (q ≡ q')
   pace-once xs ys q q' same is is' = (same, is ∙ ap (paced_all p) same ∙ sym is')
 
   pub step-once : HasOneEach r → (step : Step) (xs : List JournalEntry) (q : Pace) (rest ys : List JournalEntry) (q' : Pace) (rest' : List JournalEntry) → Makes m r p step xs q → Makes m r p step ys q' → KeepsRules m r last (xs ++ rest) → KeepsRules m r last (ys ++ rest')

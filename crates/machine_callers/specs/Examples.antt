@@ -11,7 +11,9 @@ use Rattle.mate_code.specs.declared.instr.Instr.TheVariants.{Halt, PushW, PushB,
 use Rattle.mate_code.specs.declared.instr.Instr.TheVariants.{Or, Eq, Lt, Ge, Jz, Jmp, Back, Drop, MsgGet, MsgSize, BGet, BSet, BAdd, BTake}
 use Rattle.mate_code.specs.declared.instr.Instr.TheVariants.{BSize, BClear, Fun, FunBuf}
 use Rattle.mate_code.specs.Run.{Code, code_run, call_marks}
-use Rattle.mate_code.specs.Verification.{Refusal, BadTarget, BackJump, Underflow, Overflow, DepthDiffers, BadIndex, NoHalt, Marks, depth_at}
+use Rattle.mate_code.specs.declared.fault.VerifyFault.{VerifyFault}
+use Rattle.mate_code.specs.declared.fault.VerifyFault.TheVariants.{BadTarget, BackJump, Underflow, Overflow, DepthDiffers, BadIndex, NoHalt}
+use Rattle.mate_code.specs.Verification.{Marks, depth_at}
 use Rattle.mate_code.specs.Verification.{verification}
 
 abbrev pub a_store : List ℤ → List (List ℤ) → Store
@@ -149,12 +151,12 @@ Answered =
     ∷ a_call 1 (pos 1 ∷ pos 12 ∷ []) (pos 0) ∷ a_call 2 (pos 3 ∷ pos 4 ∷ []) (pos 1) ∷ []) (1 ∷ 5 ∷ 7 ∷ 9 ∷ [])
 
 -- the depths at the places, or the refusal
-abbrev pub depths : Code → Result Marks Refusal → Result (List ℕ) Refusal
+abbrev pub depths : Code → Result Marks VerifyFault → Result (List ℕ) VerifyFault
 depths code (Ok call_marks) = Ok (map (λ p. depth_at call_marks p.0) code)
 depths code (Err refusal) = Err refusal
 
 -- code with the answer of its verification
-abbrev pub VerifiesTo : Shape → Code → Result (List ℕ) Refusal → Type 0
+abbrev pub VerifiesTo : Shape → Code → Result (List ℕ) VerifyFault → Type 0
 VerifiesTo shape code answer = depths code (verification shape code) ≡ answer
 
 -- refusals, each at its place, and code that is verified

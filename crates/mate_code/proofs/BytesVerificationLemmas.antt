@@ -1,5 +1,6 @@
 -- What the verification of bytes says of the code.
 use Rattle.std.proofs.Common.{◌≡◌, ℕ, ◌+◌, ◌≤◌, List, [], ◌∷◌, Bool, true, false, Result, Ok, Err, length, refl, ap, sym, ◌∙◌, subst, length-append}
+use Rattle.mate_num.specs.Results.{result_map}
 use Rattle.std.specs.Prelude.{nat_lt, if◌then◌else◌}
 use Rattle.std.proofs.lemmas.Bool.{ltb-false}
 use Rattle.mate_num.specs.declared.bounds.TheConstants.{CODE_MAX}
@@ -7,12 +8,14 @@ use Rattle.mate_num.specs.declared.shape.Shape.{Shape}
 use Rattle.mate_code.specs.declared.decoding.DecodeFault.{DecodeFault}
 use Rattle.mate_code.specs.declared.decoding.DecodeFault.TheVariants.{BadOpcode, CutShort}
 use Rattle.mate_code.specs.declared.instr.Instr.{Instr}
-use Rattle.mate_code.specs.BytesVerification.{with_code, of_decoded, bytes_verification, AreVerified}
+use Rattle.mate_code.specs.BytesVerification.{of_decoded, bytes_verification, AreVerified}
 use Rattle.mate_code.specs.Code.{code_bytes, instr_bytes, placed, instrs_of, decoded, AreBytes, IsDecoded}
 use Rattle.mate_code.specs.Instr.{size_of}
 use Rattle.mate_code.specs.Run.{Code, size_of_code}
 use Rattle.mate_code.specs.Table.{Layout, table_of}
-use Rattle.mate_code.specs.Verification.{Refusal, TooLong, Marks, verification, AreFrom}
+use Rattle.mate_code.specs.declared.fault.VerifyFault.{VerifyFault}
+use Rattle.mate_code.specs.declared.fault.VerifyFault.TheVariants.{TooLong}
+use Rattle.mate_code.specs.Verification.{Marks, verification, AreFrom}
 use Rattle.mate_code.proofs.CodeLemmas.{length-instr_bytes}
 use Rattle.mate_code.proofs.DecodeLaws.{IsDecoded-decoded}
 
@@ -27,7 +30,7 @@ size_of_code-placed t place (i ∷ instrs) =
     ∙ ap (λ (n : ℕ). n + length (code_bytes t instrs)) (sym (length-instr_bytes t i))
     ∙ sym (length-append (instr_bytes t i) (code_bytes t instrs))
 
-with_code-Ok : (code : Code) (r : Result Marks Refusal) (code' : Code) (marks : Marks) → with_code code r ≡ Ok (code', marks) → (code ≡ code') × (r ≡ Ok marks)
+with_code-Ok : (code : Code) (r : Result Marks VerifyFault) (code' : Code) (marks : Marks) → result_map {B = Code × Marks} (λ marks. (code, marks)) r ≡ Ok (code', marks) → (code ≡ code') × (r ≡ Ok marks)
 with_code-Ok code (Ok m) code' marks e =
     let p : ◌≡◌ {A = Code × Marks} (code, m) (code', marks) = cc in
     (ap (λ (x : Code × Marks). x.0) p, ap (λ (x : Code × Marks). Ok x.1) p)

@@ -10,12 +10,13 @@ use Rattle.std.proofs.lemmas.Grind.{flat_map-append}
 use Rattle.std.proofs.lemmas.List.Elements.{recursion_from_All, All-push}
 use Rattle.std.proofs.lemmas.List.Concat.{flat_map-cons, length-flat_map}
 use Rattle.mate_code.specs.declared.kind.OperandForm.{OperandForm}
+use Rattle.mate_code.specs.declared.row.Opcode.{Opcode}
 use Rattle.mate_code.specs.declared.kind.OperandForm.TheVariants.{Absent, Byte, Word, SignedWord}
 use Rattle.mate_code.specs.declared.kind.Kind.{Kind}
 use Rattle.mate_code.specs.declared.instr.Instr.{Instr}
 use Rattle.mate_code.specs.Kind.{kind_of, instr_of, form_of}
 use Rattle.mate_code.specs.Instr.{operand_of, size_of, FitsForm}
-use Rattle.mate_code.specs.Row.{Row, row_of, width_of}
+use Rattle.mate_code.specs.Row.{row_of, width_of}
 use Rattle.mate_code.specs.Table.{Layout, IsInTable, opcode_in, opcode_of}
 use Rattle.mate_code.specs.Code.{operand_bytes, instr_bytes, code_bytes, placed, operand_at, with_kind, instr_at, decoded_from, decoded, IsWritable}
 use Rattle.mate_code.proofs.KindLemmas.{row-kind, instr_at-kind}
@@ -65,7 +66,7 @@ by_kind t place i rest in_table writable =
 -- an instruction's bytes give it again
 instr_at-instr_bytes : (t : Layout) (place : ℕ) (i : Instr) (rest : List ℕ) → IsInTable t (kind_of i) → IsWritable i → instr_at t place (opcode_in t (row_of i).opcode) (operand_bytes (row_of i).form (operand_of i) ++ rest) ≡ Ok (i, rest)
 instr_at-instr_bytes t place i rest in_table writable =
-    subst (λ (r : Row). instr_at t place (opcode_in t r.opcode) (operand_bytes r.form (operand_of i) ++ rest) ≡ Ok (i, rest)) (row-kind i) (by_kind t place i rest in_table writable)
+    subst (λ (w : Opcode × OperandForm). instr_at t place (opcode_in t w.0) (operand_bytes w.1 (operand_of i) ++ rest) ≡ Ok (i, rest)) (row-kind i) (by_kind t place i rest in_table writable)
 
 -- ---- all instructions
 

@@ -8,6 +8,7 @@ use Rattle.std.proofs.lemmas.List.{length-append, get_or-drop}
 use Rattle.std.proofs.lemmas.List.Elements.{recursion_from_All, All-from_recursion, All-nil}
 use Rattle.std.proofs.lemmas.List.Concat.{flat_map-cons}
 use Rattle.mate_code.specs.declared.kind.OperandForm.{OperandForm}
+use Rattle.mate_code.specs.declared.row.Opcode.{Opcode}
 use Rattle.mate_code.specs.declared.kind.OperandForm.TheVariants.{Absent, Byte, Word, SignedWord}
 use Rattle.mate_code.specs.declared.kind.Kind.{Kind}
 use Rattle.mate_code.specs.declared.instr.Instr.{Instr}
@@ -15,9 +16,10 @@ use Rattle.mate_code.specs.declared.decoding.DecodeFault.{DecodeFault}
 use Rattle.mate_code.specs.declared.decoding.DecodeFault.TheVariants.{BadOpcode, CutShort}
 use Rattle.mate_code.specs.Kind.{kind_of, instr_of, form_of}
 use Rattle.mate_code.specs.Instr.{operand_of, size_of, FitsForm}
-use Rattle.mate_code.specs.Row.{Row, width_of}
+use Rattle.mate_code.specs.Row.{width_of}
 use Rattle.mate_code.specs.Table.{Layout, IsInTable, opcode_in, opcode_of, kind_at}
-use Rattle.mate_code.specs.Code.{operand_bytes, instr_bytes, code_bytes, instrs_of, operand_at, with_kind, instr_at, decoded_from, decoded, IsWritable, ◌>>=◌, AreBytes, IsDecoded, CannotRead, StopsAt}
+use Rattle.mate_num.specs.Results.{◌>>=◌}
+use Rattle.mate_code.specs.Code.{operand_bytes, instr_bytes, code_bytes, instrs_of, operand_at, with_kind, instr_at, decoded_from, decoded, IsWritable, AreBytes, IsDecoded, CannotRead, StopsAt}
 use Rattle.mate_code.proofs.KindLemmas.{row-kind, instr_at-kind}
 use Rattle.mate_code.proofs.ReadLemmas.{kind_of-instr_of, operand_of-instr_of, IsRead, instr_at_ok, size_of-read}
 use Rattle.mate_code.proofs.OpcodeLemmas.{opcode_of-kind_at}
@@ -78,7 +80,7 @@ reads_back t opcode bytes i after fits r =
     let fits_as : Kind → ℕ → Type 0 = λ k m. FitsForm (form_of k) m in
     let back : ReadsBack t opcode bytes made rest = record {
       encoding =
-          ap (λ (r : Row). (opcode_in t r.opcode ∷ operand_bytes r.form (operand_of made)) ++ rest) (sym (row-kind made))
+          ap (λ (w : Opcode × OperandForm). (opcode_in t w.0 ∷ operand_bytes w.1 (operand_of made)) ++ rest) (sym (row-kind made))
           ∙ ap (λ (k : Kind). spelled k (operand_of made)) kind
           ∙ ap (λ (m : ℕ). spelled k m) operand
           ∙ ap (λ (o : ℕ). o ∷ (operand_bytes (form_of k) n ++ rest)) stands.opcode

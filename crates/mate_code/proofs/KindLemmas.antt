@@ -1,8 +1,9 @@
--- A kind's row is that of its instructions, and an opcode gives the instruction of its kind.
+-- A kind's row begins as those of its instructions, and an opcode gives the instruction of its kind.
 use Rattle.std.proofs.Common.{◌≡◌, ℕ, zero, suc, ◌+◌, ltb, Bool, true, false, cond, List, [], ◌∷◌, ◌++◌, length, drop, Option, None, Some, Result, Ok, Err, refl, ap, sym, ◌∙◌}
 use Rattle.std.specs.List.{slice_get}
 use Rattle.mate_code.specs.declared.kind.Kind.{Kind}
 use Rattle.mate_code.specs.declared.kind.OperandForm.{OperandForm}
+use Rattle.mate_code.specs.declared.row.Opcode.{Opcode}
 use Rattle.mate_code.specs.declared.instr.Instr.{Instr}
 use Rattle.mate_code.specs.declared.instr.Instr.TheVariants.{Halt, PushW, PushB, GetS, SetS, GetP, SetP, Add, Sub, Mul, Div, Mod, Neg, Not, And, Or, Eq, Ne, Lt, Gt, Le, Ge, Jz, Jmp, Back, Drop, MsgGet, MsgSize, BGet, BSet, BAdd, BTake, BSize, BClear, Fun, FunBuf}
 use Rattle.mate_code.specs.declared.decoding.DecodeFault.{DecodeFault}
@@ -13,12 +14,16 @@ use Rattle.mate_code.specs.Row.{Row, row_of, width_of}
 use Rattle.mate_code.specs.Table.{Layout, base_instrs, base_kinds, buffer_instrs, buffer_kinds, function_instr, function_instrs, function_kind, function_kinds, instrs_in, kinds_of, kind_at}
 use Rattle.mate_code.specs.Code.{operand_at, instr_made, instr_at, with_kind}
 
-pub row-kind : (i : Instr) → kind_row (kind_of i) ≡ row_of i
+-- what the bytes of an instruction have of its row
+abbrev pub written : Row → Opcode × OperandForm
+written r = (r.opcode, r.form)
+
+pub row-kind : (i : Instr) → written (kind_row (kind_of i)) ≡ written (row_of i)
 row-kind Halt = refl
 row-kind _ = refl
 
 pub size_of-kind : (i : Instr) → size_of i ≡ 1 + width_of (form_of (kind_of i))
-size_of-kind i = ap (λ (r : Row). 1 + width_of r.form) (sym (row-kind i))
+size_of-kind i = ap (λ (w : Opcode × OperandForm). 1 + width_of w.1) (sym (row-kind i))
 
 -- ---- by its kind
 

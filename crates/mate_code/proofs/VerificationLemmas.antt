@@ -1,5 +1,7 @@
 -- What verification says: each instruction is right, with the depths that the pass gave.
 use Rattle.std.proofs.Common.{◌≡◌, ◌≢◌, ℕ, ◌+◌, ◌<◌, ◌≤◌, [], ◌∷◌, Bool, true, false, Option, None, Some, Result, Ok, Err, refl, ap, sym, ◌∙◌, arith, subst}
+use Rattle.mate_num.specs.Results.{◌>>=◌}
+use Rattle.std.specs.Option.{option_map_or}
 use Rattle.std.specs.Prelude.{◌==◌, not, nat_lt, nat_le, is_some, if◌then◌else◌}
 use Rattle.std.proofs.lemmas.Bool.{eqb-true, ne_eqb, eq-eqb, ltb-true, leb-true}
 use Rattle.mate_num.specs.declared.shape.Shape.{Shape}
@@ -9,7 +11,9 @@ use Rattle.mate_code.specs.declared.flow.Flow.TheVariants.{Next, Ends, Branches,
 use Rattle.mate_code.specs.declared.flow.Flow.{Flow}
 use Rattle.mate_code.specs.Instr.{size_of}
 use Rattle.mate_code.specs.Run.{Code, fetch, size_of_code}
-use Rattle.mate_code.specs.Verification.{Refusal, DepthDiffers, BadIndex, BadTarget, BackJump, Underflow, Overflow, DepthMark, Blank, Depth, Clash, Marks, given, depth_in, depth_at, is_clash, mark, first_marks, depth_after, is_start, has_target, has_direction, has_back_depth, demand, refusal_at, marks_after, instr_marks, unless, pass, is_end, halts, if_halts, AreFrom, IsVerified, IsPlace, Flows, IsRightInstr, IsSoundCode}
+use Rattle.mate_code.specs.declared.fault.VerifyFault.{VerifyFault}
+use Rattle.mate_code.specs.declared.fault.VerifyFault.TheVariants.{DepthDiffers, BadIndex, BadTarget, BackJump, Underflow, Overflow, NoHalt}
+use Rattle.mate_code.specs.Verification.{DepthMark, Blank, Depth, Clash, Marks, given, depth_in, depth_at, is_clash, mark, first_marks, depth_after, is_start, has_target, has_direction, has_back_depth, demand, refusal_at, marks_after, instr_marks, pass, is_end, halts, AreFrom, IsVerified, IsPlace, Flows, IsRightInstr, IsSoundCode}
 
 -- ---- code from a place on
 
@@ -112,7 +116,7 @@ marks_after-before (Returns target) place next depth q marks forward later le = 
 
 -- ---- one instruction of the pass
 
-demand-None : (b : Bool) (refusal : Refusal) (rest : Option Refusal) → demand b refusal rest ≡ None → (b ≡ true) × (rest ≡ None)
+demand-None : (b : Bool) (refusal : VerifyFault) (rest : Option VerifyFault) → demand b refusal rest ≡ None → (b ≡ true) × (rest ≡ None)
 demand-None true refusal rest e = (refl, e)
 demand-None false refusal rest e = cc
 
@@ -130,12 +134,12 @@ passes_from : (shape : Shape) (code : Code) (marks : Marks) (place : ℕ) (i : I
 passes_from shape code marks place i none =
     let depth : ℕ = depth_at marks place in
     let after : ℕ = depth_after shape i depth in
-    let r7 : Option Refusal = demand (has_back_depth marks after (flow_of i)) (DepthDiffers place) None in
-    let r6 : Option Refusal = demand (nat_le after 16) (Overflow place) r7 in
-    let r5 : Option Refusal = demand (nat_le (pops_of shape i) depth) (Underflow place) r6 in
-    let r4 : Option Refusal = demand (has_direction place (flow_of i)) (BackJump place) r5 in
-    let r3 : Option Refusal = demand (has_target code (flow_of i)) (BadTarget place) r4 in
-    let r2 : Option Refusal = demand (is_in_range shape i) (BadIndex place) r3 in
+    let r7 : Option VerifyFault = demand (has_back_depth marks after (flow_of i)) (DepthDiffers place) None in
+    let r6 : Option VerifyFault = demand (nat_le after 16) (Overflow place) r7 in
+    let r5 : Option VerifyFault = demand (nat_le (pops_of shape i) depth) (Underflow place) r6 in
+    let r4 : Option VerifyFault = demand (has_direction place (flow_of i)) (BackJump place) r5 in
+    let r3 : Option VerifyFault = demand (has_target code (flow_of i)) (BadTarget place) r4 in
+    let r2 : Option VerifyFault = demand (is_in_range shape i) (BadIndex place) r3 in
     let t1 = demand-None (not (is_clash (marks place))) (DepthDiffers place) r2 none in
     let t2 = demand-None (is_in_range shape i) (BadIndex place) r3 t1.1 in
     let t3 = demand-None (has_target code (flow_of i)) (BadTarget place) r4 t2.1 in
@@ -145,7 +149,7 @@ passes_from shape code marks place i none =
     let t7 = demand-None (has_back_depth marks after (flow_of i)) (DepthDiffers place) None t6.1 in
     record { clear = t1.0; in_range = t2.0; target = t3.0; direction = t4.0; operands = t5.0; room = t6.0; back = t7.0 }
 
-unless-Ok : (o : Option Refusal) (rest : Result Marks Refusal) (final : Marks) → unless o rest ≡ Ok final → (o ≡ None) × (rest ≡ Ok final)
+unless-Ok : (o : Option VerifyFault) (rest : Result Marks VerifyFault) (final : Marks) → option_map_or Err o rest ≡ Ok final → (o ≡ None) × (rest ≡ Ok final)
 unless-Ok None rest final e = (refl, e)
 unless-Ok (Some refusal) rest final e = cc
 
@@ -229,7 +233,7 @@ module _ (shape : Shape) (code : Code) (final : Marks) where
           ends = tail_ends;
         }
 
-    -- the next place, unless the instruction is the last
+    -- the next place the instruction is the last
     next_place : (marks : Marks) (n : ℕ) → pass shape code marks rest ≡ Ok final → rest ≢ [] → Holds n (marks (at + size_of p.1)) → IsPlace code (depth_at final) (at + size_of p.1) n
     next_place marks n e more holds = by rest refl more where
       by : (code' : Code) → rest ≡ code' → code' ≢ [] → IsPlace code (depth_at final) (at + size_of p.1) n
@@ -311,7 +315,7 @@ module _ (shape : Shape) (code : Code) (final : Marks) where
             subst P here (subst Q it (right_first at p rest is marks e))
         by false same found later = later found
 
-if_halts-Ok : (b : Bool) (r : Result Marks Refusal) (final : Marks) → if_halts b r ≡ Ok final → (b ≡ true) × (r ≡ Ok final)
+if_halts-Ok : (b : Bool) (r : Result Marks VerifyFault) (final : Marks) → (r >>= (λ marks. if b then Ok marks else Err NoHalt)) ≡ Ok final → (b ≡ true) × (r ≡ Ok final)
 if_halts-Ok true (Ok marks) final e = (refl, e)
 if_halts-Ok false (Ok marks) final e = cc
 if_halts-Ok true (Err refusal) final e = cc

@@ -3,28 +3,16 @@ use Rattle.std.specs.Prelude.{ℕ, Bool, false, List, Option, None, Some}
 use Rattle.std.specs.List.{list_any}
 use Rattle.mate_num.specs.Uses.{Uses, is_same_resource, is_device_of, function_shape}
 use Rattle.mate_num.specs.declared.resource.Resource.{Resource}
-use Rattle.mate_num.specs.declared.resource.Resource.TheVariants.{Shared, Buffer}
+use Rattle.mate_num.specs.declared.resource.Resource.TheVariants.{Buffer}
 use Rattle.mate_num.specs.declared.shape.Shape.{Shape}
 use Rattle.mate_code.specs.declared.instr.Instr.{Instr}
-use Rattle.mate_code.specs.declared.row.Access.{Access}
-use Rattle.mate_code.specs.declared.row.Access.TheVariants as access
 use Rattle.mate_code.specs.declared.uses.Use.{Use}
-use Rattle.mate_code.specs.declared.uses.Use.TheVariants.{Nothing, Gets, Changes, Calls, Sends}
-use Rattle.mate_code.specs.Instr.{operand_of}
+use Rattle.mate_code.specs.declared.uses.Use.TheVariants.{Gets, Changes, Calls, Sends}
 use Rattle.mate_code.specs.Row.{row_of}
 
--- what an instruction with this access and this operand has to do with what handlers share
-abbrev pub use_by : Access → ℕ → Use
-use_by access.GetsVariable n = Gets (Shared record { 0 = n })
-use_by access.SetsVariable n = Changes (Shared record { 0 = n })
-use_by access.GetsBuffer n = Gets (Buffer record { 0 = n })
-use_by access.SetsBuffer n = Changes (Buffer record { 0 = n })
-use_by (access.Calls f) n = Calls f
-use_by (access.Sends f) n = Sends f record { 0 = n }
-use_by _ n = Nothing
-
+-- what an instruction has to do with what handlers share
 abbrev pub use_of : Instr → Use
-use_of i = use_by (row_of i).access (operand_of i)
+use_of i = (row_of i).uses
 
 -- the cell that an instruction names
 abbrev pub cell_in : Use → Option Resource

@@ -10,6 +10,6 @@ row_in r =
       form = r.form;
       pops = r.pops;
       pushes = r.pushes;
-      way = r.way;
-      access = r.access;
+      flow = r.flow;
+      uses = r.uses;
     }

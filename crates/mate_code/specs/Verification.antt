@@ -1,6 +1,8 @@
 -- Verification: one pass over code, with a depth of the stack at each place, and the first refusal.
 use Rattle.std.specs.Prelude.{◌≡◌, ℕ, ◌+◌, ◌-◌, ◌<◌, ◌≤◌, Bool, true, false, not, IsTrue, ℤ, [], ◌∷◌, length, Option, None, Some, is_some}
+use Rattle.mate_num.specs.Results.{◌>>=◌}
 use Rattle.std.specs.Prelude.{Result, Ok, Err, nat_lt, nat_le, ◌==◌, if◌then◌else◌, ⊤}
+use Rattle.std.specs.Option.{option_map_or}
 use Rattle.mate_num.specs.Lists.{Along}
 use Rattle.mate_num.specs.declared.bounds.TheConstants.{STACK_MAX}
 use Rattle.mate_num.specs.declared.shape.Shape.{Shape}
@@ -8,15 +10,11 @@ use Rattle.mate_code.specs.declared.instr.Instr.{Instr}
 use Rattle.mate_code.specs.Flow.{flow_of, pops_of, pushes_of, is_in_range}
 use Rattle.mate_code.specs.declared.flow.Flow.TheVariants.{Next, Ends, Branches, Jumps, Returns}
 use Rattle.mate_code.specs.declared.flow.Flow.{Flow}
+use Rattle.mate_code.specs.declared.fault.VerifyFault.{VerifyFault}
+use Rattle.mate_code.specs.declared.fault.VerifyFault.TheVariants.{BadTarget, BackJump, Underflow, Overflow, DepthDiffers, BadIndex, NoHalt}
 use Rattle.mate_code.specs.Effect.{Private, Effect, Goes, Writes, Asks, Halts, Faults, Sticks, push}
 use Rattle.mate_code.specs.Instr.{size_of}
 use Rattle.mate_code.specs.Run.{Code, fetch}
-
--- why code is refused, and at which place; or the length of code that is too long
-pub data Refusal : Type 0 where
-  Decode BadTarget BackJump Underflow Overflow DepthDiffers BadIndex : (place : ℕ) → Refusal
-  NoHalt : Refusal
-  TooLong : (len : ℕ) → Refusal
 
 -- the depths that were given to a place: none, one and the same, or two that differ
 pub data DepthMark : Type 0 where
@@ -81,12 +79,12 @@ has_back_depth marks depth (Returns target) = depth_at marks target == depth
 has_back_depth marks depth _ = true
 
 -- the refusal if the test fails, and else what comes after it
-abbrev pub demand : Bool → Refusal → Option Refusal → Option Refusal
+abbrev pub demand : Bool → VerifyFault → Option VerifyFault → Option VerifyFault
 demand true refusal rest = rest
 demand false refusal rest = Some refusal
 
 -- the first refusal at an instruction, in order
-abbrev pub refusal_at : Shape → Code → Marks → ℕ → Instr → Option Refusal
+abbrev pub refusal_at : Shape → Code → Marks → ℕ → Instr → Option VerifyFault
 refusal_at shape code marks place i =
     demand (not (is_clash (marks place))) (DepthDiffers place)
     (demand (is_in_range shape i) (BadIndex place)
@@ -106,15 +104,11 @@ marks_after _ next depth marks = marks
 abbrev pub instr_marks : Shape → ℕ → Instr → Marks → Marks
 instr_marks shape place i marks = marks_after (flow_of i) (place + size_of i) (depth_after shape i (depth_at marks place)) marks
 
--- goes on unless there is a refusal
-abbrev pub unless : Option Refusal → Result Marks Refusal → Result Marks Refusal
-unless None rest = rest
-unless (Some refusal) rest = Err refusal
-
 -- the pass over the rest of the code
-unfoldable pub pass : Shape → Code → Marks → Code → Result Marks Refusal
+unfoldable pub pass : Shape → Code → Marks → Code → Result Marks VerifyFault
 pass shape code marks [] = Ok marks
-pass shape code marks (p ∷ rest) = unless (refusal_at shape code marks p.0 p.1) (pass shape code (instr_marks shape p.0 p.1 marks) rest)
+pass shape code marks (p ∷ rest) =
+    option_map_or Err (refusal_at shape code marks p.0 p.1) (pass shape code (instr_marks shape p.0 p.1 marks) rest)
 
 -- the last instruction halts
 abbrev pub is_end : Flow → Bool
@@ -126,14 +120,9 @@ halts [] = false
 halts (p ∷ []) = is_end (flow_of p.1)
 halts (p ∷ q ∷ rest) = halts (q ∷ rest)
 
-abbrev pub if_halts : Bool → Result Marks Refusal → Result Marks Refusal
-if_halts halts (Err refusal) = Err refusal
-if_halts true (Ok marks) = Ok marks
-if_halts false (Ok marks) = Err NoHalt
-
 -- the depth at each place, or the first refusal
-abbrev pub verification : Shape → Code → Result Marks Refusal
-verification shape code = if_halts (halts code) (pass shape code first_marks code)
+abbrev pub verification : Shape → Code → Result Marks VerifyFault
+verification shape code = pass shape code first_marks code >>= (λ marks. if halts code then Ok marks else Err NoHalt)
 
 -- the instructions are one after another, from this place on
 abbrev pub AreFrom : ℕ → Code → Type 0

@@ -1,13 +1,16 @@
 //! Where an instruction goes on, what it takes from the stack and puts on it, and whether what it names is there.
 
-ghost use Rattle.std.specs.Prelude.{◌≡◌};
+ghost use Rattle.std.specs.Prelude.{◌≡◌, true};
+ghost use Rattle.std.specs.Option.{option_map_or};
+ghost use Rattle.mate_code.specs.CodeUses.{cell_in};
 ghost use Rattle.mate_code.specs.Effect.{args_of};
-ghost use Rattle.mate_code.specs.Flow.{flow_of, pops_of, pushes_of, is_in_range};
+ghost use Rattle.mate_code.specs.Flow.{flow_of, pops_of, pushes_of, is_cell, is_in_range};
 ghost use Rattle.mate_code.specs.Verification.{is_end};
 
 use crate::instr::Instr;
-use crate::row::{Access, Pops, Way};
-use mate_num::{FunId, PRIVATES, Shape};
+use crate::row::Pops;
+use crate::uses::Use;
+use mate_num::{FunId, PRIVATES, Resource, Shape};
 
 /// Where a run goes on after an instruction.
 #[derive(Clone, Copy)]
@@ -40,14 +43,7 @@ impl Instr {
     pub fn flow(self) -> Flow
         ensures { result ≡ flow_of self }
     {
-        let target = self.operand();
-        match self.row().way {
-            Way::Next => Flow::Next,
-            Way::Ends => Flow::Ends,
-            Way::Branches => Flow::Branches(target),
-            Way::Jumps => Flow::Jumps(target),
-            Way::Returns => Flow::Returns(target),
-        }
+        self.row().flow
     }
 
     /// How many values the instruction takes from the stack.
@@ -71,15 +67,34 @@ impl Instr {
     pub fn is_in_range(self, shape: &Shape) -> bool
         ensures { result ≡ is_in_range shape.now self }
     {
-        let number = self.operand();
-        match self.row().access {
-            Access::Nothing | Access::Calls(_) => true,
-            Access::Private => (number as usize) < PRIVATES,
-            Access::GetsVariable | Access::SetsVariable => number < shape.shared as u16,
-            Access::GetsBuffer | Access::SetsBuffer | Access::Sends(_) => {
-                number < shape.buffers as u16
-            }
+        match self {
+            Instr::GetP(private) | Instr::SetP(private) => (private as usize) < PRIVATES,
+            _ => self.uses().is_there(shape),
         }
+    }
+}
+
+impl Use {
+    // Whether the variable or buffer is there, if one is named.
+    fn is_there(self, shape: &Shape) -> bool
+        ensures { result ≡ option_map_or (is_cell shape.now) (cell_in self) true }
+    {
+        match self {
+            Use::Gets(cell) | Use::Changes(cell) => is_cell(shape, cell),
+            Use::Sends(_, buffer) => buffer.0 < shape.buffers,
+            Use::Nothing | Use::Calls(_) => true,
+        }
+    }
+}
+
+// Whether the variable or buffer is there.
+fn is_cell(shape: &Shape, cell: Resource) -> bool
+    ensures { result ≡ is_cell shape.now cell }
+{
+    match cell {
+        Resource::Shared(variable) => variable.0 < shape.shared,
+        Resource::Buffer(buffer) => buffer.0 < shape.buffers,
+        Resource::Device(_) => true,
     }
 }
 

@@ -3,11 +3,8 @@
 ghost use Rattle.std.specs.Prelude.{◌≡◌};
 ghost use Rattle.mate_code.specs.Kind.{kind_of, instr_of, form_of};
 ghost use Rattle.mate_code.specs.Instr.{operand_of, size_of, FitsForm};
-ghost use Rattle.mate_code.specs.Row.{row_of};
-ghost use Rattle.mate_code.specs.RowValue.{row_in};
 
 use crate::kind::Kind;
-use crate::row::Row;
 use mate_num::{BufId, FunId, VarId};
 
 /// One instruction. A number that names a variable, a buffer, a function or a place may be out of range:
@@ -199,13 +196,6 @@ impl Instr {
             Kind::Fun(fun) => Instr::Fun(fun),
             Kind::FunBuf(fun) => Instr::FunBuf(fun, BufId(operand as u8)),
         }
-    }
-
-    /// The row of the instruction's kind.
-    pub fn row(self) -> Row
-        ensures { row_in result ≡ row_of self }
-    {
-        self.kind().row()
     }
 
     /// How many bytes the instruction takes, from 1 to 3.

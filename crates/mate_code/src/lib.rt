@@ -5,6 +5,7 @@
 pub mod codec_laws;
 pub mod decoding;
 pub mod encoding;
+pub mod fault;
 pub mod flow;
 pub mod instr;
 pub mod instrs;
@@ -18,6 +19,7 @@ pub mod uses;
 pub use codec_laws::{each_opcode_once, one_encoding};
 pub use decoding::{DecodeFault, decode, read_instr};
 pub use encoding::{TooLong, encode};
+pub use fault::VerifyFault;
 pub use flow::{Flow, args};
 pub use instr::Instr;
 pub use instrs::Instrs;
@@ -27,6 +29,6 @@ pub use laws::{
     is_sound_where_verified, sees_what_it_uses,
 };
 pub use printing::listing;
-pub use row::{Access, Opcode, Pops, Row, Way};
+pub use row::{Opcode, Pops, Row};
 pub use table::Table;
 pub use uses::Use;

@@ -1,19 +1,23 @@
-//! The table of instructions: all that is said of a kind in one row. (What an instruction does is in the specs' `Effect`.)
+//! The table of instructions: all that is said of an instruction in one row. (What an instruction does is in the specs' `Effect`.)
 
 ghost use Rattle.std.specs.Prelude.{◌≡◌};
-ghost use Rattle.mate_code.specs.Row.{columns};
+ghost use Rattle.mate_code.specs.Row.{columns, row_of};
 ghost use Rattle.mate_code.specs.Kind.{kind_row};
 ghost use Rattle.mate_code.specs.RowValue.{row_in};
 
+use crate::flow::Flow;
+use crate::instr::Instr;
 use crate::kind::{Kind, OperandForm};
-use Access::{Calls, GetsBuffer, GetsVariable, Nothing, Private, Sends, SetsBuffer, SetsVariable};
+use crate::uses::Use;
+use Flow::{Branches, Ends, Jumps, Next, Returns};
 use Opcode::{Base, Function, Group};
 use OperandForm::{Absent, Byte, SignedWord, Word};
 use Pops::{Args, Values};
-use Way::{Branches, Ends, Jumps, Next, Returns};
-use mate_num::FunId;
+use Resource::{Buffer, Shared};
+use Use::{Calls, Changes, Gets, Nothing, Sends};
+use mate_num::{FunId, Resource};
 
-/// Which opcode a kind has, and in which tables.
+/// Which opcode an instruction has, and in which tables.
 #[derive(Clone, Copy)]
 pub enum Opcode {
     /// This one, in each table.
@@ -24,7 +28,7 @@ pub enum Opcode {
     Function(FunId, bool),
 }
 
-/// How many values a kind takes from the stack.
+/// How many values an instruction takes from the stack.
 #[derive(Clone, Copy)]
 pub enum Pops {
     /// This many.
@@ -33,43 +37,7 @@ pub enum Pops {
     Args(FunId),
 }
 
-/// Where a run goes on after a kind; the operand is the target.
-#[derive(Clone, Copy)]
-pub enum Way {
-    /// To the next place.
-    Next,
-    /// Nowhere.
-    Ends,
-    /// To the next place or the target.
-    Branches,
-    /// To the target.
-    Jumps,
-    /// To the target, if a turn is left to pay.
-    Returns,
-}
-
-/// What the operand names, or a function, and how a kind uses it.
-#[derive(Clone, Copy)]
-pub enum Access {
-    /// It names nothing.
-    Nothing,
-    /// A private variable.
-    Private,
-    /// A shared variable, which it gets.
-    GetsVariable,
-    /// A shared variable, which it sets.
-    SetsVariable,
-    /// A buffer, which it leaves as it is.
-    GetsBuffer,
-    /// A buffer, which it changes.
-    SetsBuffer,
-    /// A function, which it calls with values of the stack.
-    Calls(FunId),
-    /// A buffer, which it sends by the function.
-    Sends(FunId),
-}
-
-/// A kind's row.
+/// An instruction's row.
 #[derive(Clone, Copy)]
 pub struct Row {
     /// Which opcode it has, and in which tables.
@@ -83,62 +51,87 @@ pub struct Row {
     /// How many values it puts on the stack, 0 or 1; a function's answer is one.
     pub pushes: u8,
     /// Where a run goes on.
-    pub way: Way,
-    /// What it names, and how it uses that.
-    pub access: Access,
+    pub flow: Flow,
+    /// What it has to do with what handlers share.
+    pub uses: Use,
 }
 
 impl Kind {
-    /// The kind's row. The columns are those of `Row`, in their order: the opcode, the name, what comes after the opcode,
-    /// how many values it pops and pushes, where a run goes on, and what it names. A row by `plain` or `of_byte` leaves out
-    /// the columns that all of its sort share.
+    /// The row of the kind's instruction with the operand 0: its first columns are those of each instruction of the kind.
     pub fn row(self) -> Row
         ensures { row_in result ≡ kind_row self }
     {
+        Instr::of(self, 0).row()
+    }
+}
+
+impl Instr {
+    /// The instruction's row. The columns are those of `Row`, in their order: the opcode, the name, what comes after the
+    /// opcode, how many values it pops and pushes, where a run goes on, and what it uses. A row by `plain` or `of_byte`
+    /// leaves out the columns that all of its sort share.
+    pub fn row(self) -> Row
+        ensures { row_in result ≡ row_of self }
+    {
         match self {
-            Kind::Halt => columns(Base(0x00), "HALT", Absent, Values(0), 0, Ends, Nothing),
-            Kind::PushW => columns(Base(0x01), "PUSHW", SignedWord, Values(0), 1, Next, Nothing),
-            Kind::PushB => of_byte(Base(0x02), "PUSHB", 0, 1, Nothing),
-            Kind::GetS => of_byte(Base(0x03), "GETS", 0, 1, GetsVariable),
-            Kind::SetS => of_byte(Base(0x04), "SETS", 1, 0, SetsVariable),
-            Kind::GetP => of_byte(Base(0x05), "GETP", 0, 1, Private),
-            Kind::SetP => of_byte(Base(0x06), "SETP", 1, 0, Private),
-            Kind::Add => plain(0x07, "ADD", 2, 1),
-            Kind::Sub => plain(0x08, "SUB", 2, 1),
-            Kind::Mul => plain(0x09, "MUL", 2, 1),
-            Kind::Div => plain(0x0a, "DIV", 2, 1),
-            Kind::Mod => plain(0x0b, "MOD", 2, 1),
-            Kind::Neg => plain(0x0c, "NEG", 1, 1),
-            Kind::Not => plain(0x0d, "NOT", 1, 1),
-            Kind::And => plain(0x0e, "AND", 2, 1),
-            Kind::Or => plain(0x0f, "OR", 2, 1),
-            Kind::Eq => plain(0x10, "EQ", 2, 1),
-            Kind::Ne => plain(0x11, "NE", 2, 1),
-            Kind::Lt => plain(0x12, "LT", 2, 1),
-            Kind::Gt => plain(0x13, "GT", 2, 1),
-            Kind::Le => plain(0x14, "LE", 2, 1),
-            Kind::Ge => plain(0x15, "GE", 2, 1),
-            Kind::Jz => columns(Base(0x16), "JZ", Word, Values(1), 0, Branches, Nothing),
-            Kind::Jmp => columns(Base(0x17), "JMP", Word, Values(0), 0, Jumps, Nothing),
-            Kind::Back => columns(Base(0x18), "BACK", Word, Values(0), 0, Returns, Nothing),
-            Kind::Drop => plain(0x19, "DROP", 1, 0),
-            Kind::MsgGet => plain(0x1a, "MSGGET", 1, 1),
-            Kind::MsgSize => plain(0x1b, "MSGSIZE", 0, 1),
-            Kind::BGet => of_byte(Group(0x1c), "BGET", 1, 1, GetsBuffer),
-            Kind::BSet => of_byte(Group(0x1d), "BSET", 2, 0, SetsBuffer),
-            Kind::BAdd => of_byte(Group(0x1e), "BADD", 1, 0, SetsBuffer),
-            Kind::BTake => of_byte(Group(0x1f), "BTAKE", 0, 1, SetsBuffer),
-            Kind::BSize => of_byte(Group(0x20), "BSIZE", 0, 1, GetsBuffer),
-            Kind::BClear => of_byte(Group(0x21), "BCLEAR", 0, 0, SetsBuffer),
-            Kind::Fun(f) => columns(Function(f, false), "", Absent, Args(f), 1, Next, Calls(f)),
-            Kind::FunBuf(f) => of_byte(Function(f, true), "", 0, 1, Sends(f)),
+            Instr::Halt => columns(Base(0x00), "HALT", Absent, Values(0), 0, Ends, Nothing),
+            Instr::PushW(_) => columns(
+                Base(0x01),
+                "PUSHW",
+                SignedWord,
+                Values(0),
+                1,
+                Next,
+                Nothing,
+            ),
+            Instr::PushB(_) => of_byte(Base(0x02), "PUSHB", 0, 1, Nothing),
+            Instr::GetS(v) => of_byte(Base(0x03), "GETS", 0, 1, Gets(Shared(v))),
+            Instr::SetS(v) => of_byte(Base(0x04), "SETS", 1, 0, Changes(Shared(v))),
+            Instr::GetP(_) => of_byte(Base(0x05), "GETP", 0, 1, Nothing),
+            Instr::SetP(_) => of_byte(Base(0x06), "SETP", 1, 0, Nothing),
+            Instr::Add => plain(0x07, "ADD", 2, 1),
+            Instr::Sub => plain(0x08, "SUB", 2, 1),
+            Instr::Mul => plain(0x09, "MUL", 2, 1),
+            Instr::Div => plain(0x0a, "DIV", 2, 1),
+            Instr::Mod => plain(0x0b, "MOD", 2, 1),
+            Instr::Neg => plain(0x0c, "NEG", 1, 1),
+            Instr::Not => plain(0x0d, "NOT", 1, 1),
+            Instr::And => plain(0x0e, "AND", 2, 1),
+            Instr::Or => plain(0x0f, "OR", 2, 1),
+            Instr::Eq => plain(0x10, "EQ", 2, 1),
+            Instr::Ne => plain(0x11, "NE", 2, 1),
+            Instr::Lt => plain(0x12, "LT", 2, 1),
+            Instr::Gt => plain(0x13, "GT", 2, 1),
+            Instr::Le => plain(0x14, "LE", 2, 1),
+            Instr::Ge => plain(0x15, "GE", 2, 1),
+            Instr::Jz(to) => columns(Base(0x16), "JZ", Word, Values(1), 0, Branches(to), Nothing),
+            Instr::Jmp(to) => columns(Base(0x17), "JMP", Word, Values(0), 0, Jumps(to), Nothing),
+            Instr::Back(to) => columns(
+                Base(0x18),
+                "BACK",
+                Word,
+                Values(0),
+                0,
+                Returns(to),
+                Nothing,
+            ),
+            Instr::Drop => plain(0x19, "DROP", 1, 0),
+            Instr::MsgGet => plain(0x1a, "MSGGET", 1, 1),
+            Instr::MsgSize => plain(0x1b, "MSGSIZE", 0, 1),
+            Instr::BGet(b) => of_byte(Group(0x1c), "BGET", 1, 1, Gets(Buffer(b))),
+            Instr::BSet(b) => of_byte(Group(0x1d), "BSET", 2, 0, Changes(Buffer(b))),
+            Instr::BAdd(b) => of_byte(Group(0x1e), "BADD", 1, 0, Changes(Buffer(b))),
+            Instr::BTake(b) => of_byte(Group(0x1f), "BTAKE", 0, 1, Changes(Buffer(b))),
+            Instr::BSize(b) => of_byte(Group(0x20), "BSIZE", 0, 1, Gets(Buffer(b))),
+            Instr::BClear(b) => of_byte(Group(0x21), "BCLEAR", 0, 0, Changes(Buffer(b))),
+            Instr::Fun(f) => columns(Function(f, false), "", Absent, Args(f), 1, Next, Calls(f)),
+            Instr::FunBuf(f, b) => of_byte(Function(f, true), "", 0, 1, Sends(f, b)),
         }
     }
 }
 
-// The row of a kind with no operand, which goes on at the next place and names nothing.
+// The row of an instruction with no operand, which goes on at the next place and names nothing.
 fn plain(opcode: u8, name: &'static str, pops: u8, pushes: u8) -> Row
-    ensures { row_in result ≡ columns (Opcode.Base opcode) name.now OperandForm.Absent (Pops.Values pops) pushes Way.Next Access.Nothing }
+    ensures { row_in result ≡ columns (Opcode.Base opcode) name.now OperandForm.Absent (Pops.Values pops) pushes Flow.Next Use.Nothing }
 {
     columns(
         Base(opcode),
@@ -151,11 +144,11 @@ fn plain(opcode: u8, name: &'static str, pops: u8, pushes: u8) -> Row
     )
 }
 
-// The row of a kind with an operand of a byte, which goes on at the next place.
-fn of_byte(opcode: Opcode, name: &'static str, pops: u8, pushes: u8, access: Access) -> Row
-    ensures { row_in result ≡ columns opcode name.now OperandForm.Byte (Pops.Values pops) pushes Way.Next access }
+// The row of an instruction with an operand of a byte, which goes on at the next place.
+fn of_byte(opcode: Opcode, name: &'static str, pops: u8, pushes: u8, uses: Use) -> Row
+    ensures { row_in result ≡ columns opcode name.now OperandForm.Byte (Pops.Values pops) pushes Flow.Next uses }
 {
-    columns(opcode, name, Byte, Values(pops), pushes, Next, access)
+    columns(opcode, name, Byte, Values(pops), pushes, Next, uses)
 }
 
 // The row of these columns.
@@ -165,10 +158,10 @@ fn columns(
     form: OperandForm,
     pops: Pops,
     pushes: u8,
-    way: Way,
-    access: Access,
+    flow: Flow,
+    uses: Use,
 ) -> Row
-    ensures { row_in result ≡ columns opcode name.now form pops pushes way access }
+    ensures { row_in result ≡ columns opcode name.now form pops pushes flow uses }
 {
     Row {
         opcode,
@@ -176,7 +169,7 @@ fn columns(
         form,
         pops,
         pushes,
-        way,
-        access,
+        flow,
+        uses,
     }
 }

@@ -4,8 +4,7 @@ ghost use Rattle.std.specs.Prelude.{◌≡◌};
 ghost use Rattle.mate_code.specs.CodeUses.{use_of};
 
 use crate::instr::Instr;
-use crate::row::Access;
-use mate_num::{BufId, FunId, Resource, VarId};
+use mate_num::{BufId, FunId, Resource};
 
 /// What an instruction has to do with what handlers share.
 #[derive(Clone, Copy)]
@@ -27,15 +26,6 @@ impl Instr {
     pub fn uses(self) -> Use
         ensures { result ≡ use_of self }
     {
-        let number = self.operand();
-        match self.row().access {
-            Access::Nothing | Access::Private => Use::Nothing,
-            Access::GetsVariable => Use::Gets(Resource::Shared(VarId(number as u8))),
-            Access::SetsVariable => Use::Changes(Resource::Shared(VarId(number as u8))),
-            Access::GetsBuffer => Use::Gets(Resource::Buffer(BufId(number as u8))),
-            Access::SetsBuffer => Use::Changes(Resource::Buffer(BufId(number as u8))),
-            Access::Calls(fun) => Use::Calls(fun),
-            Access::Sends(fun) => Use::Sends(fun, BufId(number as u8)),
-        }
+        self.row().uses
     }
 }

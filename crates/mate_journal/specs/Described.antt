@@ -23,10 +23,6 @@ is_once _ = false
 abbrev pub runs_once : Option Handler → Bool
 runs_once handler = option_map_or (λ h. is_once h.kind) handler false
 
--- the device that a function speaks to, if any
-abbrev pub device_for : Option Function → Option DeviceId
-device_for fun = option_and_then (λ f. f.device) fun
-
 -- a description's machine, with what its programs mean
 abbrev pub machine_of : Description → Meaning → Machine
 machine_of d meaning = record {
@@ -36,6 +32,6 @@ machine_of d meaning = record {
   first_context = λ h. first_context d.handlers.items h.0;
   contexts = λ h. contexts_of (slice_get d.handlers.items h.0);
   runs_once = λ h. runs_once (slice_get d.handlers.items h.0);
-  device_of = λ f. device_for (slice_get d.functions.items f.0);
+  device_of = λ f. option_and_then (λ fun. fun.device) (slice_get d.functions.items f.0);
   meaning = meaning;
 }

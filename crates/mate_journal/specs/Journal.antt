@@ -37,11 +37,6 @@ abbrev pub started_by : JournalEntry → Option ℕ
 started_by (Started n) = Some n
 started_by _ = None
 
--- the invocation that an entry ends, and how, if any
-abbrev pub ended_by : JournalEntry → Option (ℕ × End)
-ended_by (Ended n how) = Some (n, how)
-ended_by _ = None
-
 -- the store that an entry shows, if any
 abbrev pub store_seen : JournalEntry → Option Store
 store_seen (Seen store) = Some store

@@ -1,5 +1,6 @@
 -- Events and posts of a node script: which entries each step of the script makes, and the pace after it.
 use Rattle.std.specs.Prelude.{◌≡◌, ◌≢◌, ◌≤◌, ◌<◌, ℕ, suc, ◌+◌, List, [], ◌∷◌, ◌++◌, ℤ, length, map, All, IsSome, IsNone, ◌⊎◌, MatchBool}
+use Rattle.mate_num.specs.Store.{payload}
 use Rattle.arrayvec.specs.ArrayVec.{ArrayVec}
 use Rattle.mate_num.specs.declared.id.HandlerId.{HandlerId}
 use Rattle.mate_num.specs.declared.id.ContextId.{ContextId}
@@ -65,7 +66,7 @@ pub record Installs (m : Machine) (r : NodeState) (p : Pace) (x : HeldProgram) (
   pub newer : held r x.handler < x.version
   pub made : entries ≡ Seen seen ∷ Installed x ∷ rest
   -- a handler that runs once is posted then
-  pub follows : MatchBool (m.runs_once x.handler) (Occasion m (next_state m r (Installed x)) x.handler (record { items = [] }) rest) (rest ≡ [])
+  pub follows : MatchBool (m.runs_once x.handler) (Occasion m (next_state m r (Installed x)) x.handler (payload []) rest) (rest ≡ [])
 
 -- an older one, or the same, is not
 pub record IsNotNewer (r : NodeState) (x : HeldProgram) (entries : List JournalEntry) : Type 0 where
@@ -112,19 +113,15 @@ pub record Resets (m : Machine) (r : NodeState) (p : Pace) (entries : List Journ
   pub shown : ShowsReady m r p seen
   pub made : entries ≡ Seen seen ∷ Reset ∷ []
 
--- the entries change the pace one by one: no instruction is executed
-abbrev pub IsPacedBy : Pace → List JournalEntry → Pace → Type 0
-IsPacedBy p told q = q ≡ paced_all p told
-
 -- the entries that a step makes, at the state and the pace before it, and the pace after it
 abbrev pub Makes : Machine → NodeState → Pace → Step → List JournalEntry → Pace → Type 0
-Makes m r p (Install x) told q = (Installs m r p x told ⊎ IsNotNewer r x told) × IsPacedBy p told q
-Makes m r p (Post h payload) told q = Occasion m r h payload told × IsPacedBy p told q
-Makes m r p (StepIn c n) told q = TurnsIn m r p c n told q ⊎ (IsNotReady r c told × IsPacedBy p told q)
+Makes m r p (Install x) told q = (Installs m r p x told ⊎ IsNotNewer r x told) × (q ≡ paced_all p told)
+Makes m r p (Post h payload) told q = Occasion m r h payload told × (q ≡ paced_all p told)
+Makes m r p (StepIn c n) told q = TurnsIn m r p c n told q ⊎ (IsNotReady r c told × (q ≡ paced_all p told))
 Makes m r p Run told q = Settles m r p told q
-Makes m r p (Answer c value) told q = (AnswersCall r c value told ⊎ IsNotWaiting r c told) × IsPacedBy p told q
-Makes m r p Show told q = ShowsOnce m r p told × IsPacedBy p told q
-Makes m r p ResetNode told q = Resets m r p told × IsPacedBy p told q
+Makes m r p (Answer c value) told q = (AnswersCall r c value told ⊎ IsNotWaiting r c told) × (q ≡ paced_all p told)
+Makes m r p Show told q = ShowsOnce m r p told × (q ≡ paced_all p told)
+Makes m r p ResetNode told q = Resets m r p told × (q ≡ paced_all p told)
 
 -- an entry of this event, at time 0
 abbrev pub made_at : ℕ → JournalEntry → TimedEntry

@@ -15,10 +15,6 @@ pub record EndsAt (es : List TimedEntry) (n : ℕ) (p : ℕ) : Type 0 where
   pub how : End
   pub tells : TellsAt es p (Ended n how)
 
--- the entry begins no era
-abbrev pub StaysInEra : JournalEntry → Type 0
-StaysInEra told = MatchBool (begins_era told) ⊥ ⊤
-
 -- the events are of one era: none begins another
 abbrev pub AreOfOneEra : List TimedEntry → Type 0
-AreOfOneEra = Each (λ e. StaysInEra e.told)
+AreOfOneEra = Each (λ e. MatchBool (begins_era e.told) ⊥ ⊤)

@@ -4,12 +4,13 @@ use Rattle.arrayvec.specs.ArrayVec.{ArrayVec}
 use Rattle.mate_num.specs.declared.call.End.TheVariants as end
 use Rattle.mate_num.specs.declared.id.FunId.{FunId}
 use Rattle.mate_journal.specs.Machine.{Machine}
-use Rattle.mate_journal.specs.Journal.{JournalEntry, ended_by, TimedEntry, Waiting, is_started, NodeState, whole_run, AtEachEntry, AtEachPlace}
+use Rattle.mate_journal.specs.Journal.{JournalEntry, Ended, TimedEntry, Waiting, is_started, NodeState, whole_run, AtEachEntry, AtEachPlace}
 
 -- where an invocation ends, its whole run on the serial store ends so, with the calls that were recorded.
 -- (The store that the run leaves is the next serial store.)
 abbrev pub EndsAsRun : Machine → NodeState → JournalEntry → Type 0
-EndsAsRun m r told = IfSome (ended_by told) (λ e. ((whole_run m r e.0).end ≡ e.1) × ((whole_run m r e.0).calls ≡ (r.invocations e.0).calls))
+EndsAsRun m r (Ended n how) = ((whole_run m r n).end ≡ how) × ((whole_run m r n).calls ≡ (r.invocations n).calls)
+EndsAsRun m r _ = Unit {0}
 
 -- the whole run of each started live invocation gives exactly the calls that it made so far, and if it waits,
 -- the run wants that call's answer

@@ -7,3 +7,4 @@ pub mod Uses
 pub mod Locks
 pub mod Shapes
 pub mod Lists
+pub mod Results

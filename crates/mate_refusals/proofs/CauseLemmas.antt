@@ -1,16 +1,18 @@
 -- A refusal has one cause.
-use Rattle.std.proofs.Common.{◌≡◌, Option, Some, None, refl, sym, ap, ◌∙◌}
+use Rattle.std.proofs.Common.{◌≡◌, ℕ, List, Option, Some, None, refl, sym, ap, ◌∙◌}
+use Rattle.vm_desc.specs.declared.description.Description.{Description}
 use Rattle.vm_desc.specs.declared.fault.DescFault.{DescFault}
 use Rattle.vm_desc.specs.declared.fault.DescFault.TheVariants as desc
 use Rattle.ts_syntax.specs.Cut.{bad_byte, big_literal}
-use Rattle.ts_checker.specs.Accepted.{TextRefusal, by_bytes, unexpected, too_deep, by_check}
+use Rattle.ts_checker.specs.Accepted.{TextRefusal, IsRefusedBy, by_bytes, unexpected, too_deep, by_check}
 use Rattle.ts_checker.specs.declared.fault.CheckFault.TheVariants as check
 use Rattle.mate_refusals.specs.DescriptionCauses.{fault_told}
-use Rattle.mate_refusals.specs.SourceCauses.{refusal_told}
+use Rattle.mate_refusals.specs.SourceCauses.{IsBadSource}
 use Rattle.mate_refusals.specs.declared.description_cause.DescriptionCause.{DescriptionCause}
 use Rattle.mate_refusals.specs.declared.description_cause.DescriptionCause.TheVariants as description
 use Rattle.mate_refusals.specs.declared.source_cause.SourceCause.{SourceCause}
 use Rattle.mate_refusals.specs.declared.source_cause.SourceCause.TheVariants as source
+use Rattle.mate_refusals.specs.declared.spelling_cause.SpellingCause.{SpellingCause}
 use Rattle.mate_refusals.specs.declared.spelling_cause.SpellingCause.TheVariants as spelling
 use Rattle.mate_refusals.specs.declared.expansion_cause.ExpansionCause.{ExpansionCause}
 use Rattle.mate_refusals.specs.declared.expansion_cause.ExpansionCause.TheVariants as expansion
@@ -34,6 +36,35 @@ description_in-told _ = refl
 
 pub fault_told-once : (a b : DescriptionCause) → fault_told a ≡ fault_told b → a ≡ b
 fault_told-once a b e = let h : Some a ≡ Some b = sym (description_in-told a) ∙ ap description_in e ∙ description_in-told b in cc
+
+abbrev spelling_told : SpellingCause → TextRefusal
+spelling_told (spelling.BadByte place) = by_bytes (bad_byte place)
+spelling_told (spelling.BigLiteral place) = by_bytes (big_literal place)
+spelling_told (spelling.Unexpected place) = unexpected place
+spelling_told (spelling.TooDeep place) = too_deep place
+
+-- the refusal that a cause reports
+abbrev pub refusal_told : SourceCause → TextRefusal
+refusal_told (source.Spelling why) = spelling_told why
+refusal_told (source.Undeclared name place) = by_check (check.Undeclared name place)
+refusal_told (source.NotInVm name) = by_check (check.NotInVm name)
+refusal_told (source.Twice name) = by_check (check.Twice name)
+refusal_told (source.Kind place) = by_check (check.Kind place)
+refusal_told (source.Arity place) = by_check (check.Arity place)
+refusal_told source.TooManyPrivates = by_check check.TooManyPrivates
+
+-- a cause is that of the refusal that it reports
+pub refused-by : (d : Description) (bytes : List ℕ) (why : SourceCause) → IsBadSource d bytes why → IsRefusedBy d bytes (refusal_told why)
+refused-by d bytes (source.Spelling (spelling.BadByte place)) h = h
+refused-by d bytes (source.Spelling (spelling.BigLiteral place)) h = h
+refused-by d bytes (source.Spelling (spelling.Unexpected place)) h = h
+refused-by d bytes (source.Spelling (spelling.TooDeep place)) h = h
+refused-by d bytes (source.Undeclared name place) h = h
+refused-by d bytes (source.NotInVm name) h = h
+refused-by d bytes (source.Twice name) h = h
+refused-by d bytes (source.Kind place) h = h
+refused-by d bytes (source.Arity place) h = h
+refused-by d bytes source.TooManyPrivates h = h
 
 -- what tells a refusal of a source, but want of memory
 source_in : TextRefusal → Option SourceCause

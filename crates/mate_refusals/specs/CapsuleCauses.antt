@@ -4,8 +4,8 @@ use Rattle.capsule_codec.specs.declared.decoding.CapsuleFault.{CapsuleFault}
 use Rattle.capsule_codec.specs.declared.decoding.CapsuleFault.TheVariants.{BadMagic, BadFormat, OtherVm, BadHandler, BadLength, BadVersion}
 use Rattle.capsule_codec.specs.declared.hex_text.HexFault.{HexFault}
 use Rattle.capsule_codec.specs.declared.hex_text.HexFault.TheVariants as hex
-use Rattle.code_verifier.specs.declared.fault.VerifyFault.{VerifyFault}
-use Rattle.code_verifier.specs.declared.fault.VerifyFault.TheVariants as verify
+use Rattle.mate_code.specs.declared.fault.VerifyFault.{VerifyFault}
+use Rattle.mate_code.specs.declared.fault.VerifyFault.TheVariants as verify
 use Rattle.mate_refusals.specs.LineEnds.{number_line}
 use Rattle.mate_refusals.specs.declared.capsule_cause.CapsuleCause.{CapsuleCause}
 use Rattle.mate_refusals.specs.declared.capsule_cause.CapsuleCause.TheVariants.{Digits, Image, Code}

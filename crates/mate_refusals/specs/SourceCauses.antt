@@ -1,8 +1,8 @@
 -- Why a source's text is refused, as the program reports it, apart from lack of memory.
-use Rattle.std.specs.Prelude.{ℕ, List, codes}
+use Rattle.std.specs.Prelude.{◌≡◌, ℕ, List, Err, codes}
 use Rattle.vm_desc.specs.declared.description.Description.{Description}
-use Rattle.ts_syntax.specs.Cut.{bad_byte, big_literal}
-use Rattle.ts_checker.specs.Accepted.{TextRefusal, IsRefusedBy, by_bytes, unexpected, too_deep, by_check}
+use Rattle.ts_syntax.specs.Cut.{cut, bad_byte, big_literal}
+use Rattle.ts_checker.specs.Accepted.{IsMisspelled, IsSpelledTooDeep, IsChecked}
 use Rattle.ts_checker.specs.declared.fault.CheckFault.TheVariants as check
 use Rattle.ts_compiler.specs.declared.fault.CompileFault.{CompileFault}
 use Rattle.ts_compiler.specs.declared.fault.CompileFault.TheVariants.{StackDepth, TooLong}
@@ -13,25 +13,22 @@ use Rattle.mate_refusals.specs.declared.spelling_cause.SpellingCause.TheVariants
 use Rattle.mate_refusals.specs.declared.source_cause.SourceCause.{SourceCause}
 use Rattle.mate_refusals.specs.declared.source_cause.SourceCause.TheVariants as cause
 
-abbrev pub spelling_told : SpellingCause → TextRefusal
-spelling_told (spelling.BadByte place) = by_bytes (bad_byte place)
-spelling_told (spelling.BigLiteral place) = by_bytes (big_literal place)
-spelling_told (spelling.Unexpected place) = unexpected place
-spelling_told (spelling.TooDeep place) = too_deep place
-
--- the refusal that a cause reports
-abbrev pub refusal_told : SourceCause → TextRefusal
-refusal_told (cause.Spelling why) = spelling_told why
-refusal_told (cause.Undeclared name place) = by_check (check.Undeclared name place)
-refusal_told (cause.NotInVm name) = by_check (check.NotInVm name)
-refusal_told (cause.Twice name) = by_check (check.Twice name)
-refusal_told (cause.Kind place) = by_check (check.Kind place)
-refusal_told (cause.Arity place) = by_check (check.Arity place)
-refusal_told cause.TooManyPrivates = by_check check.TooManyPrivates
+-- this is the first fault of the bytes' spelling
+abbrev pub IsBadSpelling : List ℕ → SpellingCause → Type 0
+IsBadSpelling bytes (spelling.BadByte place) = cut bytes ≡ Err (bad_byte place)
+IsBadSpelling bytes (spelling.BigLiteral place) = cut bytes ≡ Err (big_literal place)
+IsBadSpelling bytes (spelling.Unexpected place) = IsMisspelled bytes place
+IsBadSpelling bytes (spelling.TooDeep place) = IsSpelledTooDeep bytes place
 
 -- this is the first refusal of the bytes as a source for the machine
 abbrev pub IsBadSource : Description → List ℕ → SourceCause → Type 0
-IsBadSource d bytes why = IsRefusedBy d bytes (refusal_told why)
+IsBadSource d bytes (cause.Spelling why) = IsBadSpelling bytes why
+IsBadSource d bytes (cause.Undeclared name place) = IsChecked d bytes (Err (check.Undeclared name place))
+IsBadSource d bytes (cause.NotInVm name) = IsChecked d bytes (Err (check.NotInVm name))
+IsBadSource d bytes (cause.Twice name) = IsChecked d bytes (Err (check.Twice name))
+IsBadSource d bytes (cause.Kind place) = IsChecked d bytes (Err (check.Kind place))
+IsBadSource d bytes (cause.Arity place) = IsChecked d bytes (Err (check.Arity place))
+IsBadSource d bytes cause.TooManyPrivates = IsChecked d bytes (Err check.TooManyPrivates)
 
 abbrev pub source_words : SourceCause → List ℕ
 source_words (cause.Spelling why) = spelling_words why

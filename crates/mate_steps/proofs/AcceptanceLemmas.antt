@@ -36,8 +36,8 @@ origin : (d : Description) (bytes : List ℕ) (x : Result Block TextRefusal) →
 unfolding IsSaid of_checks of_verdict
 origin d bytes (Ok tree) h = judged h.tokens (verdict.spelled h.source) h.cuts h.spells (ap of_checks (sym h.checks))
 origin d bytes (Err (by_bytes fault)) h = uncut fault h refl
-origin d bytes (Err (unexpected place)) h = judged h.tokens (verdict.unexpected place) h.cuts h.stops refl
-origin d bytes (Err (too_deep place)) h = judged h.tokens (verdict.too_deep place) h.cuts h.deep refl
+origin d bytes (Err (unexpected place)) h = judged h.0 (verdict.unexpected place) h.1 h.2 refl
+origin d bytes (Err (too_deep place)) h = judged h.0 (verdict.too_deep place) h.1 h.2 refl
 origin d bytes (Err (by_check fault)) h = judged h.tokens (verdict.spelled h.source) h.cuts h.spells (ap of_checks (sym h.checks))
 
 same_origin : (d : Description) (bytes : List ℕ) (x y : Result Block TextRefusal) → Origin d bytes x → Origin d bytes y → x ≡ y
@@ -77,8 +77,8 @@ of_spelled d bytes ts (verdict.spelled s) e so = by (checked_source d s) refl wh
   by : (o : Result Block CheckFault) → checked_source d s ≡ o → Said d bytes
   by (Ok tree) h = inl (tree, record { tokens = ts; source = s; cuts = e; spells = so; checks = h })
   by (Err f) h = inr (by_check f, record { tokens = ts; source = s; cuts = e; spells = so; checks = h }, λ is. checks_told d s (h ∙ ap Err (fault_same f is)))
-of_spelled d bytes ts (verdict.unexpected place) e so = inr (unexpected place, record { tokens = ts; cuts = e; stops = so }, λ is. cc)
-of_spelled d bytes ts (verdict.too_deep place) e so = inr (too_deep place, record { tokens = ts; cuts = e; deep = so }, λ is. cc)
+of_spelled d bytes ts (verdict.unexpected place) e so = inr (unexpected place, (ts, e, so), λ is. cc)
+of_spelled d bytes ts (verdict.too_deep place) e so = inr (too_deep place, (ts, e, so), λ is. cc)
 
 pub some : (d : Description) (bytes : List ℕ) → ((tree : Block) × IsAccepted d bytes tree) ⊎ ((r : TextRefusal) × IsRefusedBy d bytes r × (r ≢ by_check NoMemory))
 unfolding Said

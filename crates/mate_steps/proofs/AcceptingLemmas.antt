@@ -46,8 +46,8 @@ tokens_refused d bytes tokens f is_cut h = handed_on d bytes f (told f h)
     told : (f : SourceFault) → Answers tokens (length bytes) (Err f) → IsMisspelt d bytes f
     told (fault.BadByte place) h = absurd h
     told (fault.BigLiteral place) h = absurd h
-    told (fault.Unexpected place) h = record { tokens = tokens; cuts = is_cut; stops = h }
-    told (fault.TooDeep place) h = record { tokens = tokens; cuts = is_cut; deep = h }
+    told (fault.Unexpected place) h = (tokens, is_cut, h)
+    told (fault.TooDeep place) h = (tokens, is_cut, h)
     told fault.NoMemory h = tt
 
 pub text_refused : (d : Description) (bytes : List ℕ) (f : SourceFault) → ReadsScript bytes (Err f) → (r : Result ScriptTree SourceRefusal) → IsErrAnd r (λ x. x ≡ Spelling f) → TellsAcceptance d bytes r

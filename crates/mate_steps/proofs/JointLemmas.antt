@@ -11,7 +11,7 @@ use Rattle.ts_meaning.specs.Translation.{code_of}
 use Rattle.ts_meaning.proofs.UsesLemmas.{UsesAsItsScript-script_code}
 use Rattle.ts_compiler.specs.Compiled.{AreAccepted}
 use Rattle.code_verifier.specs.Verified.{VerifiedCode, Verifies, marks_of}
-use Rattle.code_verifier.specs.declared.fault.VerifyFault.{VerifyFault}
+use Rattle.mate_code.specs.declared.fault.VerifyFault.{VerifyFault}
 use Rattle.lock_inference.specs.Locks.{AreLocksOf, held_uses}
 
 pub taken : (shape : Shape) (tree : Block) (bytes : ArrayVec ℕ) (fault : VerifyFault) → AreAccepted shape tree bytes → Verifies shape bytes.items (Err fault) → ⊥

@@ -7,12 +7,9 @@ use Rattle.capsule_codec.specs.Image.{CapsuleParts}
 use Rattle.capsule_codec.specs.Reading.{capsule_in}
 use Rattle.capsule_codec.specs.declared.decoding.CapsuleFault.{CapsuleFault}
 use Rattle.capsule_codec.specs.declared.hex_text.HexFault.{HexFault}
-use Rattle.code_verifier.specs.Faults.{refusal_of}
-use Rattle.code_verifier.specs.declared.fault.VerifyFault.{VerifyFault}
-use Rattle.code_verifier.specs.declared.fault.VerifyFault.TheVariants as verify
+use Rattle.mate_code.specs.declared.fault.VerifyFault.{VerifyFault}
 use Rattle.mate_code.specs.BytesVerification.{bytes_verification}
 use Rattle.mate_code.specs.Run.{Code}
-use Rattle.mate_code.specs.Verification as refusal
 use Rattle.mate_num.specs.declared.shape.Shape.{Shape}
 use Rattle.mate_files.specs.Files.{Names}
 use Rattle.mate_steps.proofs.JointLemmas.{first_same}
@@ -35,28 +32,8 @@ pub record SameCapsule (a b : CapsuleParts × Code) : Type 0 where
 not_both : {A E : Type 0} (a : A) (e : E) (x : Result A E) → x ≡ Ok a → x ≡ Err e → ⊥
 not_both a e x p q = let h : Ok a ≡ Err e = sym p ∙ q in cc
 
--- the fault of a refusal
-fault_in : refusal.Refusal → VerifyFault
-fault_in (refusal.Decode place) = verify.Decode place
-fault_in (refusal.BadTarget place) = verify.BadTarget place
-fault_in (refusal.BackJump place) = verify.BackJump place
-fault_in (refusal.Underflow place) = verify.Underflow place
-fault_in (refusal.Overflow place) = verify.Overflow place
-fault_in (refusal.DepthDiffers place) = verify.DepthDiffers place
-fault_in (refusal.BadIndex place) = verify.BadIndex place
-fault_in refusal.NoHalt = verify.NoHalt
-fault_in (refusal.TooLong len) = verify.TooLong len
-
-fault_in-refusal_of : (f : VerifyFault) → fault_in (refusal_of f) ≡ f
-unfolding fault_in
-fault_in-refusal_of (verify.Decode place) = refl
-fault_in-refusal_of _ = refl
-
-refused_once : (shape : Shape) (bytes : List ℕ) (f g : VerifyFault) → bytes_verification shape bytes ≡ Err (refusal_of f) → bytes_verification shape bytes ≡ Err (refusal_of g) → f ≡ g
-refused_once shape bytes f g p q =
-    let e : Err (refusal_of f) ≡ Err (refusal_of g) = sym p ∙ q in
-    let same : refusal_of f ≡ refusal_of g = cc in
-    sym (fault_in-refusal_of f) ∙ ap fault_in same ∙ fault_in-refusal_of g
+refused_once : (shape : Shape) (bytes : List ℕ) (f g : VerifyFault) → bytes_verification shape bytes ≡ Err f → bytes_verification shape bytes ≡ Err g → f ≡ g
+refused_once shape bytes f g p q = let e : Err f ≡ Err g = sym p ∙ q in cc
 
 -- ---- texts
 
@@ -93,8 +70,8 @@ not_refused d bytes a (Digits f) p q = let e : Ok p.spells.image ≡ Err f = sym
 not_refused d bytes a (Image f) p q = no_capsule d bytes a.0 f p.spells q
 not_refused d bytes a (BadCode f) p q =
     let same = one_capsule d bytes a.0 q.capsule p.spells q.spells in
-    let y = subst (λ (c : CapsuleParts). bytes_verification (shape_of d) c.code ≡ Err (refusal_of f)) (sym same) q.refused in
-    not_both (a.1, p.marks) (refusal_of f) _ p.accepted y
+    let y = subst (λ (c : CapsuleParts). bytes_verification (shape_of d) c.code ≡ Err f) (sym same) q.refused in
+    not_both (a.1, p.marks) f _ p.accepted y
 
 no_image : {A : Type 0} (text : List ℕ) (a : ArrayVec ℕ) (f : HexFault) → image_in text ≡ Ok a → image_in text ≡ Err f → A
 no_image text a f p q = let e : Ok a ≡ Err f = sym p ∙ q in absurd cc
@@ -110,7 +87,7 @@ refused_so d bytes (BadCode f) (Digits g) p q = no_image bytes p.spells.image g 
 refused_so d bytes (BadCode f) (Image g) p q = absurd (no_capsule d bytes p.capsule g p.spells q)
 refused_so d bytes (BadCode f) (BadCode g) p q =
     let same = one_capsule d bytes p.capsule q.capsule p.spells q.spells in
-    let y = subst (λ (c : CapsuleParts). bytes_verification (shape_of d) c.code ≡ Err (refusal_of g)) (sym same) q.refused in
+    let y = subst (λ (c : CapsuleParts). bytes_verification (shape_of d) c.code ≡ Err g) (sym same) q.refused in
     ap BadCode (refused_once (shape_of d) p.capsule.code f g p.refused y)
 
 spelled_agrees : (d : Description) (name bytes : List ℕ) → AnswersAgree SameCapsule (spelled_capsule d name bytes) (spelled_capsule d name bytes)

@@ -15,8 +15,8 @@ use Rattle.mate_steps.specs.declared.code.CompiledScript.{CompiledScript}
 use Rattle.vm_desc.specs.Shapes.{shape_of}
 use Rattle.vm_desc.specs.declared.description.Description.{Description}
 use Rattle.mate_files.specs.Files.{Names}
-use Rattle.mate_refusals.specs.SourceCauses.{IsBadSource, refusal_told}
-use Rattle.mate_refusals.proofs.CauseLemmas.{refusal_told-once}
+use Rattle.mate_refusals.specs.SourceCauses.{IsBadSource}
+use Rattle.mate_refusals.proofs.CauseLemmas.{refusal_told, refused-by, refusal_told-once}
 use Rattle.mate_refusals.specs.declared.source_cause.SourceCause.{SourceCause}
 use Rattle.mate_steps.specs.OneAnswer.{AnswersAgree, steady}
 use Rattle.mate_steps.specs.Sources.{accepted, compiled, compiled_bytes, source}
@@ -25,10 +25,10 @@ use Rattle.mate_steps.proofs.OneAnswer.{then_agrees, judged_agrees, SameBytes, f
 accepted_agrees : (d : Description) (name bytes : List ℕ) → AnswersAgree ◌≡◌ (accepted d name bytes) (accepted d name bytes)
 accepted_agrees d name bytes = judged_agrees ◌≡◌ _ _ _ (one_tree d bytes) not same where
   not : (a : Block) (e : SourceCause) → IsAccepted d bytes a → IsBadSource d bytes e → ⊥
-  not a e p q = apart d bytes a (refusal_told e) p q
+  not a e p q = apart d bytes a (refusal_told e) p (refused-by d bytes e q)
 
   same : (e h : SourceCause) → IsBadSource d bytes e → IsBadSource d bytes h → e ≡ h
-  same e h p q = refusal_told-once e h (one_refusal d bytes (refusal_told e) (refusal_told h) p q)
+  same e h p q = refusal_told-once e h (one_refusal d bytes (refusal_told e) (refusal_told h) (refused-by d bytes e p) (refused-by d bytes h q))
 
 -- ---- code
 

@@ -6,8 +6,7 @@ use Rattle.capsule_codec.specs.Image.{CapsuleParts, capsule_image}
 use Rattle.capsule_codec.specs.Reading.{capsule_in}
 use Rattle.capsule_codec.specs.HexText.{image_in}
 use Rattle.capsule_codec.specs.declared.decoding.CapsuleFault.{CapsuleFault}
-use Rattle.code_verifier.specs.Faults.{refusal_of}
-use Rattle.code_verifier.specs.declared.fault.VerifyFault.{VerifyFault}
+use Rattle.mate_code.specs.declared.fault.VerifyFault.{VerifyFault}
 use Rattle.mate_code.specs.BytesVerification.{bytes_verification}
 use Rattle.mate_code.specs.Run.{Code}
 use Rattle.mate_code.specs.Verification.{Marks}
@@ -46,7 +45,7 @@ pub record SpellsNoCapsule (d : Description) (text : List ℕ) (fault : CapsuleF
 pub record SpellsUnverified (d : Description) (text : List ℕ) (fault : VerifyFault) : Type 0 where
   pub capsule : CapsuleParts
   pub spells : SpellsCapsule d text capsule
-  pub refused : bytes_verification (shape_of d) capsule.code ≡ Err (refusal_of fault)
+  pub refused : bytes_verification (shape_of d) capsule.code ≡ Err fault
 
 -- the first refusal of a text: of its digits, of the image that they spell, or of the capsule's code
 abbrev pub RefusesText : Description → List ℕ → CapsuleCause → Type 0

@@ -12,7 +12,7 @@ ghost use Rattle.ts_meaning.specs.Translation.{code_of};
 ghost use Rattle.ts_checker.specs.Accepted.{IsAccepted};
 ghost use Rattle.ts_compiler.specs.Compiled.{AreAccepted};
 ghost use Rattle.code_verifier.specs.Verified.{VerifiedCode, Verifies};
-ghost use Rattle.code_verifier.specs.declared.fault.VerifyFault.{VerifyFault as VerifyFaultValue};
+ghost use Rattle.mate_code.specs.declared.fault.VerifyFault.{VerifyFault as VerifyFaultValue};
 ghost use Rattle.lock_inference.specs.Locks.{AreLocksOf, held_uses};
 ghost use Rattle.mate_steps.specs.SourceCode.{IsCodeOf, MeansTree};
 ghost use Rattle.vm_desc.specs.Shapes.{shape_of};

@@ -1,5 +1,7 @@
 -- An install: the program that the bytes are takes the place of what was held, and an era begins.
 use Rattle.std.proofs.Common.{◌≡◌, ◌≢◌, ◌⊎◌, ℕ, ◌+◌, ◌≤◌, ◌<◌, Bool, true, false, cond, eqb, List, [], ◌∷◌, ◌++◌, Option, Some, None, Result, Ok, Err, length, map, set, drop, ℤ, refl, sym, ◌∙◌, ap, subst, arith, inl, inr, get_or-set_same, get_or-set_other, length-set}
+use Rattle.std.specs.Result.{result_unwrap_or}
+use Rattle.mate_num.specs.Results.{result_map}
 use Rattle.std.specs.Prelude.{All, IsTrue, nat_lt, MatchBool, Bool}
 use Rattle.std.specs.Option.{option_map}
 use Rattle.std.proofs.Math.Seq.{get_or-append_seam}
@@ -15,16 +17,16 @@ use Rattle.capsule_codec.specs.declared.capsule.Capsule.{Capsule}
 use Rattle.capsule_codec.specs.Image.{CapsuleParts, capsule_parts, capsule_image, IsOfMachine}
 use Rattle.capsule_codec.specs.Reading.{capsule_in}
 use Rattle.code_verifier.specs.Verified.{VerifiedCode, marks_of, IsVerificationOf}
-use Rattle.code_verifier.specs.Faults.{refusal_of}
-use Rattle.code_verifier.specs.declared.fault.VerifyFault.{VerifyFault}
+use Rattle.mate_code.specs.declared.fault.VerifyFault.{VerifyFault}
 use Rattle.lock_inference.specs.Locks.{AreLocksOf}
 use Rattle.mate_code.specs.declared.decoding.DecodeFault.{DecodeFault}
 use Rattle.mate_code.specs.declared.decoding.DecodeFault.TheVariants.{BadOpcode, CutShort}
-use Rattle.mate_code.specs.BytesVerification.{with_code, of_decoded, bytes_verification}
+use Rattle.mate_code.specs.BytesVerification.{of_decoded, bytes_verification}
 use Rattle.mate_code.specs.Code.{decoded}
 use Rattle.mate_code.specs.Run.{Code}
 use Rattle.mate_code.specs.Table.{table_of}
-use Rattle.mate_code.specs.Verification.{Refusal, Marks, TooLong, verification}
+use Rattle.mate_code.specs.declared.fault.VerifyFault.TheVariants.{TooLong}
+use Rattle.mate_code.specs.Verification.{Marks, verification}
 use Rattle.std.proofs.lemmas.List.Elements.{All-nil, All-cons, All-append}
 use Rattle.mate_journal.specs.Tidy.{IsStoreOf}
 use Rattle.journal_laws.proofs.TidyLemmas.{NumbersInOrder-install, NamesInLog-numbered}
@@ -42,7 +44,7 @@ use Rattle.node_contexts.specs.declared.handlers.Held.{Held}
 use Rattle.node_contexts.specs.At.{AreIdle}
 use Rattle.node_contexts.specs.Programs.{HeldPrograms, held_at, held_version_in}
 use Rattle.node_invariant.specs.declared.parts.Parts.{Parts}
-use Rattle.node_invariant.specs.Meaning.{machine_in, code_in, image_code}
+use Rattle.node_invariant.specs.Meaning.{machine_in, image_code}
 use Rattle.node_invariant.specs.Fits.{program_of, IsHeld, AreInstalled}
 use Rattle.node_invariant.specs.Keeps.{reading, Keeps, IsTimely, event_at, Grows}
 use Rattle.node_invariant.specs.Continues.{IsPrepared, AddsTidily}
@@ -62,16 +64,16 @@ use Rattle.mate_journal.specs.OpenLog.{OpenView}
 -- ---- from bytes to code
 
 -- the verified code is what the bytes decode to
-decoded-with : (code : Code) (found : Code) (marks : Marks) (o : Result Marks Refusal) → with_code found o ≡ Ok (code, marks) → found ≡ code
+decoded-with : (code : Code) (found : Code) (marks : Marks) (o : Result Marks VerifyFault) → result_map {B = Code × Marks} (λ marks. (found, marks)) o ≡ Ok (code, marks) → found ≡ code
 decoded-with code found marks (Ok m) e = let f : (found, m) ≡ (code, marks) = cc in ap (λ (p : Code × Marks). p.0) f
 decoded-with code found marks (Err refusal) e = cc
 
-decoded-of : (shape : Shape) (code : Code) (marks : Marks) (o : Result Code DecodeFault) → of_decoded shape o ≡ Ok (code, marks) → code_in o ≡ code
+decoded-of : (shape : Shape) (code : Code) (marks : Marks) (o : Result Code DecodeFault) → of_decoded shape o ≡ Ok (code, marks) → result_unwrap_or o [] ≡ code
 decoded-of shape code marks (Ok found) e = decoded-with code found marks (verification shape found) e
 decoded-of shape code marks (Err (BadOpcode place)) e = cc
 decoded-of shape code marks (Err (CutShort place)) e = cc
 
-decoded-if : (b : Bool) (n : ℕ) (shape : Shape) (code : Code) (marks : Marks) (o : Result Code DecodeFault) → cond b (Err (TooLong n)) (of_decoded shape o) ≡ Ok (code, marks) → code_in o ≡ code
+decoded-if : (b : Bool) (n : ℕ) (shape : Shape) (code : Code) (marks : Marks) (o : Result Code DecodeFault) → cond b (Err (TooLong n)) (of_decoded shape o) ≡ Ok (code, marks) → result_unwrap_or o [] ≡ code
 decoded-if true n shape code marks o e = cc
 decoded-if false n shape code marks o e = decoded-of shape code marks o e
 
@@ -215,7 +217,7 @@ IsInstallable-from d bytes c v locks image decoded_is image_is of_machine is_of 
     let behind : drop 16 image.items ≡ c.code.items = ap (drop 16) (same ∙ image_is) ∙ code-behind (capsule_parts c) in
     let code_is : v.code ≡ image_code (shape_of d) image =
     sym (decoded-if (nat_lt CODE_MAX (length c.code.items)) (length c.code.items) (shape_of d) v.code (marks_of v) (decoded (table_of (shape_of d)) c.code.items) accepted)
-    ∙ ap (λ (bs : List ℕ). code_in (decoded (table_of (shape_of d)) bs)) (sym behind) in
+    ∙ ap (λ (bs : List ℕ). result_unwrap_or (decoded (table_of (shape_of d)) bs) []) (sym behind) in
     let long = ap length (same ∙ image_is) in
     let some : 0 < length (capsule_image (capsule_parts c)) = begins-some _ _ (capsule_image (capsule_parts c)) refl in
     let full : 0 < length image.items = omega arith in
@@ -271,9 +273,9 @@ RestsAgain-comes d old mid pushed handlers at_ bytes i rests timely seen can is 
     subst R comes_is (RestsAgain-begun d old mid pushed handlers at_ i.handler x rests timely seen can.can.is_held can.can.handler (subst I (sym comes_is) is) room cleared set_now)
 
 -- the code is refused
-pub IsUnverified-from : (d : Description) (bytes code : List ℕ) (c : Capsule) (fault : VerifyFault) → capsule_in d bytes ≡ Ok (capsule_parts c) → code ≡ c.code.items → bytes_verification (shape_of d) code ≡ Err (refusal_of fault) → IsUnverified d bytes fault
+pub IsUnverified-from : (d : Description) (bytes code : List ℕ) (c : Capsule) (fault : VerifyFault) → capsule_in d bytes ≡ Ok (capsule_parts c) → code ≡ c.code.items → bytes_verification (shape_of d) code ≡ Err fault → IsUnverified d bytes fault
 IsUnverified-from d bytes code c fault decoded_is same refused =
-    let B : List ℕ → Type 0 = λ bs. bytes_verification (shape_of d) bs ≡ Err (refusal_of fault) in
+    let B : List ℕ → Type 0 = λ bs. bytes_verification (shape_of d) bs ≡ Err fault in
     record { capsule = capsule_parts c; decoded = decoded_is; refused = subst B same refused }
 
 -- ---- the whole install

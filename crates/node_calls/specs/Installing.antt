@@ -5,8 +5,7 @@ use Rattle.mate_num.specs.declared.id.HandlerId.{HandlerId}
 use Rattle.capsule_codec.specs.declared.capsule.Capsule.{Capsule as DecodedCapsule}
 use Rattle.capsule_codec.specs.Image.{CapsuleParts, capsule_parts, capsule_image, IsOfMachine}
 use Rattle.capsule_codec.specs.Reading.{capsule_in}
-use Rattle.code_verifier.specs.Faults.{refusal_of}
-use Rattle.code_verifier.specs.declared.fault.VerifyFault.{VerifyFault}
+use Rattle.mate_code.specs.declared.fault.VerifyFault.{VerifyFault}
 use Rattle.mate_code.specs.BytesVerification.{bytes_verification}
 use Rattle.mate_code.specs.Run.{Code as InstrCode}
 use Rattle.mate_code.specs.Verification.{Marks}
@@ -49,7 +48,7 @@ program_by c bytes = record { handler = capsule_handler c; version = c.version; 
 pub record IsUnverified (d : Description) (bytes : List ℕ) (fault : VerifyFault) : Type 0 where
   pub capsule : CapsuleParts
   pub decoded : capsule_in d bytes ≡ Ok capsule
-  pub refused : bytes_verification (shape_of d) capsule.code ≡ Err (refusal_of fault)
+  pub refused : bytes_verification (shape_of d) capsule.code ≡ Err fault
 
 -- the bytes are a right capsule, and the node holds a version that isn't older
 pub record IsNoNewer (d : Description) (r : NodeState) (bytes : List ℕ) (version : ℕ) : Type 0 where

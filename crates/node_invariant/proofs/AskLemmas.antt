@@ -1,6 +1,8 @@
 -- A run that wants a call fetched an instruction that calls the function: so a program that asks a device writes it, and the
 -- function is one of the machine's.
 use Rattle.std.proofs.Common.{◌≡◌, ◌<◌, ℕ, zero, suc, ◌+◌, ℤ, Bool, true, false, List, [], ◌∷◌, Option, None, Some, Result, Ok, Err, refl, sym, ◌∙◌, ap, subst, arith, length, drop, map}
+use Rattle.std.specs.Option.{option_and_then}
+use Rattle.std.specs.Result.{result_unwrap_or}
 use Rattle.std.proofs.lemmas.List.{length-map}
 use Rattle.std.specs.Prelude.{◌==◌, slice_get, slice_set, nat_lt, if◌then◌else◌}
 use Rattle.arrayvec.specs.ArrayVec.{ArrayVec}
@@ -23,7 +25,8 @@ use Rattle.mate_code.specs.Effect.{Private, Effect, Goes, Writes, Asks, Halts, F
 use Rattle.mate_num.specs.Operators.{sum_of, difference_of, product_of, quotient_of, remainder_of, negative_of, not_of, and_of, or_of, eq_of, ne_of, lt_of, gt_of, le_of, ge_of}
 use Rattle.mate_code.specs.Run.{Code, fetch, Status, Going, Over, Stuck, Own, Run, asked, own_after_effect, effect_in, executed_at, step_at, step, after, begun_run, bound, end_of, code_run, whole_code_run}
 use Rattle.mate_code.specs.declared.decoding.DecodeFault.{DecodeFault}
-use Rattle.mate_code.specs.Code.{◌>>=◌, decoded, decoded_from, instr_at, operand_at}
+use Rattle.mate_num.specs.Results.{◌>>=◌}
+use Rattle.mate_code.specs.Code.{decoded, decoded_from, instr_at, operand_at}
 use Rattle.mate_code.specs.Kind.{kind_of, form_of}
 use Rattle.mate_code.specs.Instr.{size_of}
 use Rattle.mate_code.specs.Table.{Layout, IsInTable, table_of}
@@ -32,9 +35,8 @@ use Rattle.mate_code.proofs.ReadLemmas.{kind_of-instr_of, instr_at_ok}
 use Rattle.vm_desc.specs.declared.description.Description.{Description}
 use Rattle.vm_desc.specs.declared.function.Function.{Function}
 use Rattle.vm_desc.specs.Shapes.{shape_of, fun_shape}
-use Rattle.mate_journal.specs.Described.{device_for}
 use Rattle.mate_journal.specs.Devices.{WritesWhatItAsks}
-use Rattle.node_invariant.specs.Meaning.{image_code, code_in, meaning_of, machine_in}
+use Rattle.node_invariant.specs.Meaning.{image_code, meaning_of, machine_in}
 use Rattle.mate_code.proofs.CellLemmas.{is_same-refl}
 use Rattle.mate_code.proofs.RunLemmas.{fetch-Any}
 
@@ -189,7 +191,7 @@ CallsOf-writes shape code f x d calls is speaks =
 
 -- ---- a program that asks a device writes it
 
-device-shaped : (fs : List Function) (k : ℕ) (d : DeviceId) → device_for (slice_get fs k) ≡ Some d → (x : FunShape) × (slice_get (map fun_shape fs) k ≡ Some x) × (x.device ≡ Some d)
+device-shaped : (fs : List Function) (k : ℕ) (d : DeviceId) → option_and_then (λ (f : Function). f.device) (slice_get fs k) ≡ Some d → (x : FunShape) × (slice_get (map fun_shape fs) k ≡ Some x) × (x.device ≡ Some d)
 device-shaped [] k d speaks = cc
 device-shaped (f ∷ fs) zero d speaks = (fun_shape f, refl, speaks)
 device-shaped (f ∷ fs) (suc k) d speaks = device-shaped fs k d speaks
@@ -229,7 +231,7 @@ decoded_from-in_table (suc count) t place (opcode ∷ bytes) code is = first (λ
         subst (AllInTable t) same (AllInTable-cons t place head.0 others (subst (IsInTable t) (sym kind) (opcode_of-kind_at t opcode r.kind r.known).in_table)
         (lower (place + size_of head.0) head.1 others rest))
 
-code_in-in_table : (t : Layout) (bytes : List ℕ) (r : Result Code DecodeFault) → decoded t bytes ≡ r → AllInTable t (code_in r)
+code_in-in_table : (t : Layout) (bytes : List ℕ) (r : Result Code DecodeFault) → decoded t bytes ≡ r → AllInTable t (result_unwrap_or r [])
 code_in-in_table t bytes (Ok code) is = decoded_from-in_table (length bytes) t 0 bytes code is
 code_in-in_table t bytes (Err fault) is = λ k i found. cc
 

@@ -1,5 +1,6 @@
 -- What the programs of a node mean: the runs of their images' code.
 use Rattle.std.specs.Prelude.{ℕ, [], Result, Ok, Err, drop}
+use Rattle.std.specs.Result.{result_unwrap_or}
 use Rattle.arrayvec.specs.ArrayVec.{ArrayVec}
 use Rattle.mate_num.specs.declared.shape.Shape.{Shape}
 use Rattle.mate_code.specs.declared.decoding.DecodeFault.{DecodeFault}
@@ -12,13 +13,9 @@ use Rattle.mate_journal.specs.Machine.{Machine, Meaning}
 use Rattle.vm_desc.specs.declared.description.Description.{Description}
 use Rattle.vm_desc.specs.Shapes.{shape_of}
 
-abbrev pub code_in : Result Code DecodeFault → Code
-code_in (Ok code) = code
-code_in (Err fault) = []
-
 -- the code of an image, which is after the first 16 bytes
 unfoldable pub image_code : Shape → ArrayVec ℕ → Code
-image_code shape image = code_in (decoded (table_of shape) (drop 16 image.items))
+image_code shape image = result_unwrap_or (decoded (table_of shape) (drop 16 image.items)) []
 
 -- a program's run is that of its code, in which it comes as far as its code does, and it uses what its code uses
 abbrev pub meaning_of : Shape → Meaning

@@ -1,5 +1,6 @@
 -- The steps of a node that a script gives with its programs.
 use Rattle.std.specs.Prelude.{◌≡◌, ℕ, List, Option, Some, None, length, map, slice_get, All, IsSome, IsNone, IsSomeAnd, ⊤}
+use Rattle.std.specs.Option.{option_map_or}
 use Rattle.vm_desc.specs.declared.description.Description.{Description}
 use Rattle.script_reader.specs.declared.steps.Step.{Step}
 use Rattle.script_reader.specs.declared.steps.Step.TheVariants as step
@@ -13,8 +14,7 @@ use Rattle.node_programs.specs.Sources.{held_as}
 
 -- the program of a file, as a node would hold it
 abbrev pub held_or_none : Option Program → HeldProgram
-held_or_none None = no_program
-held_or_none (Some p) = held_as p
+held_or_none program = option_map_or held_as program no_program
 
 abbrev pub program_at : List Program → ℕ → HeldProgram
 program_at ps k = held_or_none (slice_get ps k)

@@ -7,7 +7,7 @@ use Rattle.ts_checked.specs.Statement.{Statement, Block, no_statements, statemen
 use Rattle.ts_syntax.specs.Tree.{Act}
 use Rattle.ts_syntax.specs.Seen.{acts}
 use Rattle.ts_checker.specs.declared.fault.CheckFault.{CheckFault}
-use Rattle.ts_checker.specs.Refusal.{◌>>=◌}
+use Rattle.mate_num.specs.Results.{◌>>=◌}
 use Rattle.ts_checker.specs.Names.{ScriptNames}
 use Rattle.ts_checker.specs.Checks.{CheckedHead, checked_stmt, checked_block}
 use Rattle.ts_meaning.specs.State.{ScriptState, Evaluation, Done, Over, then_do, with_variable, loop_does, choose}

@@ -15,7 +15,8 @@ use Rattle.ts_checked.specs.Expression.{Arguments, argument, Item, Size, MsgItem
 use Rattle.ts_checked.specs.Statement.{Do, DoSend}
 use Rattle.ts_checker.specs.declared.fault.CheckFault.{CheckFault}
 use Rattle.ts_checker.specs.declared.fault.CheckFault.TheVariants.{Kind, Arity}
-use Rattle.ts_checker.specs.Refusal.{◌>>=◌, unless_refused}
+use Rattle.mate_num.specs.Results.{◌>>=◌}
+use Rattle.ts_checker.specs.Refusal.{unless_refused}
 use Rattle.ts_checker.specs.Names.{ScriptNames, variable, buffer, function}
 use Rattle.ts_checker.specs.Checks.{variable_expression, Called, sends, calls, as_expression, as_statement, name_alone, sent_name, sent, tree_count, called_function, checked_call, checked_expr, checked_args, checked_step, CheckedHead, checked_head}
 use Rattle.ts_meaning.specs.Meaning.{run_stmt}

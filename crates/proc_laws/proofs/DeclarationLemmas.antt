@@ -17,7 +17,8 @@ use Rattle.ts_checker.specs.declared.scope.Symbol.TheVariants.{Variable, Buffer}
 use Rattle.ts_checker.specs.declared.scope.Entry.{Entry}
 use Rattle.ts_checker.specs.declared.fault.CheckFault.{CheckFault}
 use Rattle.ts_checker.specs.declared.fault.CheckFault.TheVariants.{Twice, TooManyPrivates, Undeclared}
-use Rattle.ts_checker.specs.Refusal.{◌>>=◌, unless_refused}
+use Rattle.mate_num.specs.Results.{◌>>=◌}
+use Rattle.ts_checker.specs.Refusal.{unless_refused}
 use Rattle.ts_checker.specs.Names.{ScriptNames, symbol_of, is_private_symbol, private_count, listed, made, with_name, declare, declare_all, as_variable, as_buffer, variable, function}
 use Rattle.proc_names.specs.declared.fault.ProcFault.TheVariants.{Reserved}
 use Rattle.proc_names.specs.NameFaults.{is_reserved, refused_if, word_fault}

@@ -15,7 +15,7 @@ use Rattle.ts_checked.specs.Statement.{Statement, Block, Set, SetItem, Append, T
 use Rattle.ts_syntax.specs.Tree.{Trees, Act, set, set_item, append, take_last, clear, call_alone, if_then, if_else, for_next, while_do, run_procedure, Acts, no_acts, act_then, Procedure, ProcedureSource, Source}
 use Rattle.ts_syntax.specs.Seen.{acts}
 use Rattle.ts_checker.specs.declared.fault.CheckFault.{CheckFault}
-use Rattle.ts_checker.specs.Refusal.{◌>>=◌}
+use Rattle.mate_num.specs.Results.{◌>>=◌}
 use Rattle.ts_checker.specs.Names.{ScriptNames, names_before, declare_all, variable, buffer, private_count, closes_for}
 use Rattle.ts_checker.specs.Checks.{as_statement, checked_call, checked_expr, checked_args, checked_head, checked_stmt, checked_block, checked_source}
 use Rattle.ts_meaning.specs.State.{Evaluation, Done, Over, then_do, begun_state}

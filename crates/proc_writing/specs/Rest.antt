@@ -69,7 +69,8 @@ pub record PrintsUpTo (bytes : Option (List ℕ)) (faults : ℕ) (old : Printer)
 -- all tokens are printed, or the first ones of them
 abbrev pub PrintsAllOrSome : Option (List ℕ) → ℕ → Printer → Option (List ℕ) → ℕ → Printer → Bool → List TokenKind → Type 0
 PrintsAllOrSome bytes faults old bytes' faults' new true all = PrintsTokens bytes faults old bytes' faults' new all
-PrintsAllOrSome bytes faults old bytes' faults' new false all = (left : List TokenKind) × PrintsUpTo bytes faults old bytes' faults' new left all
+PrintsAllOrSome bytes faults old bytes' faults' new false all =
+    (left : List TokenKind) × PrintsUpTo bytes faults old bytes' faults' new left all
 
 -- why a text is not written to its end: the first fault, or else want of memory
 abbrev pub why_stopped : Result (Unit {0}) SinkFault → Result (Unit {0}) SinkFault

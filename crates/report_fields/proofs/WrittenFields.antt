@@ -1,5 +1,6 @@
 -- The fields of a line are read as they are written.
 use Rattle.std.proofs.Common.{◌≡◌, ℕ, zero, suc, ◌+◌, ◌*◌, ◌%◌, ◌^◌, ◌<◌, ◌≤◌, ◌==◌, nat_lt, nat_le, Bool, true, false, not, ◌&&◌, ◌||◌, cond, List, [], ◌∷◌, ◌++◌, length, map, Option, Some, None, Result, refl, sym, ap, subst, ◌∙◌, arith, inl, inr, append-nil, append_assoc}
+use Rattle.std.specs.Option.{option_or}
 use Rattle.std.specs.Prelude.{ℤ, All, FitsSigned}
 use Rattle.std.specs.Int.{w16}
 use Rattle.std.specs.List.{list_all, slice_get, position}
@@ -20,7 +21,7 @@ use Rattle.mate_num.specs.declared.id.HandlerId.{HandlerId}
 use Rattle.mate_num.specs.declared.id.FunId.{FunId}
 use Rattle.mate_num.specs.declared.id.ContextId.{ContextId}
 use Rattle.mate_num.specs.Shapes.{is_device}
-use Rattle.vm_desc.specs.Limits.{is_handler, is_function, is_kind, function_args, first_of_two}
+use Rattle.vm_desc.specs.Limits.{is_handler, is_function, is_kind, function_args}
 use Rattle.vm_desc.specs.Names.{is_name, between, stands_in, repeat_after, first_repeat}
 use Rattle.vm_desc.specs.Whole.{context_count}
 use Rattle.vm_desc.specs.declared.description.Description.{Description}
@@ -137,7 +138,7 @@ position-named name (x ∷ xs) seen (suc i) word once h =
           ]
     ]
 
-none-first : (a b : Option (List ℕ)) → first_of_two a b ≡ None → (a ≡ None) × (b ≡ None)
+none-first : (a b : Option (List ℕ)) → option_or a b ≡ None → (a ≡ None) × (b ≡ None)
 none-first None b h = (refl, h)
 none-first (Some n) b h = absurd cc
 
@@ -152,8 +153,8 @@ once_each d =
     let functions : Option (List ℕ) = first_repeat (map names.name_of_function d.functions.items) in
     let devices : Option (List ℕ) = first_repeat d.devices.items in
     let variables : Option (List ℕ) = first_repeat (d.shared.items ++ d.buffers.items) in
-    let a = none-first variables (first_of_two devices (first_of_two handlers functions)) (items_of d).distinct in
-    let b = none-first devices (first_of_two handlers functions) a.1 in
+    let a = none-first variables (option_or devices (option_or handlers functions)) (items_of d).distinct in
+    let b = none-first devices (option_or handlers functions) a.1 in
     let c = none-first handlers functions b.1 in
     record { handlers = c.0; functions = c.1 }
 

@@ -7,8 +7,7 @@ use Rattle.capsule_codec.specs.Image.{CapsuleParts}
 use Rattle.capsule_codec.specs.Reading.{capsule_in}
 use Rattle.capsule_codec.specs.declared.decoding.CapsuleFault.{CapsuleFault}
 use Rattle.capsule_codec.proofs.ImageLemmas.{capsule_again}
-use Rattle.code_verifier.specs.Faults.{refusal_of}
-use Rattle.code_verifier.specs.declared.fault.VerifyFault.{VerifyFault}
+use Rattle.mate_code.specs.declared.fault.VerifyFault.{VerifyFault}
 use Rattle.mate_code.specs.BytesVerification.{bytes_verification}
 use Rattle.vm_desc.specs.Shapes.{shape_of}
 use Rattle.vm_desc.specs.declared.description.Description.{Description}
@@ -84,7 +83,7 @@ module _ (d : Description) (p : Program) (right : IsRightProgram d p) where
   is-verified : (fault : VerifyFault) → IsUnverified d p.image.items fault → ⊥
   is-verified fault u =
       let same : u.capsule ≡ right.capsule = same_ok (capsule_in d p.image.items) u.capsule right.capsule u.decoded decodes in
-      not_refused (bytes_verification (shape_of d) right.capsule.code) (refusal_of fault) right.verified
+      not_refused (bytes_verification (shape_of d) right.capsule.code) fault right.verified
       (ap (λ (c : CapsuleParts). bytes_verification (shape_of d) c.code) (sym same) ∙ u.refused)
 
   -- no install of it is refused for its capsule or its code

@@ -1,12 +1,13 @@
 -- The steps of a script that was read name its files in order.
 use Rattle.std.proofs.Common.{◌≡◌, ℕ, ◌+◌, Bool, true, false, List, [], ◌∷◌, ◌++◌, length, Option, Some, None, Result, Ok, Err, refl, sym, ◌∙◌, subst}
+use Rattle.mate_num.specs.Results.{result_map}
 use Rattle.std.specs.Prelude.{if◌then◌else◌, codes, slice_index}
 use Rattle.std.specs.Str.{bytes_eq}
 use Rattle.std.proofs.lemmas.List.{length_push}
 use Rattle.vm_desc.specs.declared.description.Description.{Description}
 use Rattle.script_reader.specs.Lines.{split_words, lines, is_skipped}
 use Rattle.script_reader.specs.NodeReader.{files_after}
-use Rattle.script_reader.specs.NodeScript.{Said, Progress, an_install, a_load, a_post, a_step, an_answer, behind_others, behind, a_line, with_file, with_said, when_said, after_line, nothing_yet, node_script_in}
+use Rattle.script_reader.specs.NodeScript.{Said, Progress, an_install, a_load, a_post, a_step, an_answer, behind_others, behind, a_line, with_file, with_said, after_line, nothing_yet, node_script_in}
 use Rattle.script_reader.specs.Script.{numbered, script_from}
 use Rattle.script_reader.specs.Steps.{NodeScript}
 use Rattle.script_reader.specs.Words.{TakenWords, WordReading, ◌>>=◌, and_then, give, found, a_word, nothing_more, a_number, a_value, a_payload, a_handler, a_version, a_context}
@@ -122,7 +123,7 @@ said-in_order p said is names =
 after_line-in_order : (d : Description) (p q : Progress) (words : List (List ℕ)) → NamesInOrder p.script → after_line d p words ≡ Ok q → NamesInOrder q.script
 unfolding after_line
 after_line-in_order d p q words is next = by (is_skipped words) (a_line d p.newest (length p.script.files) words) refl next where
-  by : (b : Bool) (r : Result (TakenWords Said) Cause) → a_line d p.newest (length p.script.files) words ≡ r → (if b then Ok p else when_said p r) ≡ Ok q → NamesInOrder q.script
+  by : (b : Bool) (r : Result (TakenWords Said) Cause) → a_line d p.newest (length p.script.files) words ≡ r → (if b then Ok p else result_map (λ (t : TakenWords Said). with_said p t.value) r) ≡ Ok q → NamesInOrder q.script
   by true r read next = let same : p ≡ q = cc in subst (λ (x : Progress). NamesInOrder x.script) same is
   by false (Ok t) read next =
       let same : with_said p t.value ≡ q = cc in

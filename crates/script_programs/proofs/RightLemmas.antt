@@ -1,17 +1,21 @@
 -- Programs that come from files are right.
 use Rattle.std.proofs.Common.{◌≡◌, ℕ, Bool, true, false, List, Option, None, Result, Ok, Err, refl, sym, ◌∙◌, ap, subst}
+use Rattle.std.specs.Result.{result_unwrap_or}
+use Rattle.mate_num.specs.Results.{result_map}
 use Rattle.std.specs.Prelude.{IsOk, IfSome, drop, length, if◌then◌else◌, nat_lt}
 use Rattle.arrayvec.specs.ArrayVec.{ArrayVec}
 use Rattle.mate_num.specs.declared.bounds.TheConstants.{CODE_MAX}
 use Rattle.mate_num.specs.declared.shape.Shape.{Shape}
 use Rattle.mate_code.specs.declared.decoding.DecodeFault.{DecodeFault}
 use Rattle.mate_code.specs.declared.decoding.DecodeFault.TheVariants.{BadOpcode, CutShort}
-use Rattle.mate_code.specs.BytesVerification.{bytes_verification, of_decoded, with_code}
+use Rattle.mate_code.specs.BytesVerification.{bytes_verification, of_decoded}
 use Rattle.mate_code.specs.Code.{decoded}
 use Rattle.mate_code.specs.CodeUses.{uses_of as code_uses}
 use Rattle.mate_code.specs.Run.{Code, code_run}
 use Rattle.mate_code.specs.Table.{table_of}
-use Rattle.mate_code.specs.Verification.{Marks, Refusal, TooLong, verification}
+use Rattle.mate_code.specs.declared.fault.VerifyFault.{VerifyFault}
+use Rattle.mate_code.specs.declared.fault.VerifyFault.TheVariants.{TooLong}
+use Rattle.mate_code.specs.Verification.{Marks, verification}
 use Rattle.ts_checked.specs.Statement.{Block}
 use Rattle.ts_checker.specs.Accepted.{IsAccepted}
 use Rattle.ts_meaning.specs.Meaning.{run_of}
@@ -24,14 +28,14 @@ use Rattle.mate_steps.proofs.CodeLemmas.{means-accepted}
 use Rattle.vm_desc.specs.Shapes.{shape_of}
 use Rattle.vm_desc.specs.declared.description.Description.{Description}
 use Rattle.mate_journal.specs.declared.program.Program.{Program}
-use Rattle.node_invariant.specs.Meaning.{image_code, code_in}
+use Rattle.node_invariant.specs.Meaning.{image_code}
 use Rattle.node_programs.specs.Right.{IsSourceOf, IsRightProgram}
 
 -- verified bytes spell the code
-code-if : (b : Bool) (n : ℕ) (shape : Shape) (code : Code) (marks : Marks) (r : Result Code DecodeFault) → (if b then Err (TooLong n) else of_decoded shape r) ≡ Ok (code, marks) → code_in r ≡ code
+code-if : (b : Bool) (n : ℕ) (shape : Shape) (code : Code) (marks : Marks) (r : Result Code DecodeFault) → (if b then Err (TooLong n) else of_decoded shape r) ≡ Ok (code, marks) → result_unwrap_or r [] ≡ code
 code-if true n shape code marks r is = cc
 code-if false n shape code marks (Ok found) is = by (verification shape found) is where
-  by : (v : Result Marks Refusal) → with_code found v ≡ Ok (code, marks) → found ≡ code
+  by : (v : Result Marks VerifyFault) → result_map {B = Code × Marks} (λ marks. (found, marks)) v ≡ Ok (code, marks) → found ≡ code
   by (Ok other) is = let pair : (found, other) ≡ (code, marks) = cc in ap (λ (p : Code × Marks). p.0) pair
   by (Err refusal) is = cc
 code-if false n shape code marks (Err (BadOpcode place)) is = cc
@@ -45,8 +49,8 @@ code-behind c = refl
 image-code : (shape : Shape) (c : CapsuleParts) (image : ArrayVec ℕ) (code : Code) (marks : Marks) → image.items ≡ capsule_image c → bytes_verification shape c.code ≡ Ok (code, marks) → image_code shape image ≡ code
 unfolding image_code
 image-code shape c image code marks is verified =
-    ap (λ (bs : List ℕ). code_in (decoded (table_of shape) (drop 16 bs))) is
-    ∙ ap (λ (bs : List ℕ). code_in (decoded (table_of shape) bs)) (code-behind c)
+    ap (λ (bs : List ℕ). result_unwrap_or (decoded (table_of shape) (drop 16 bs)) []) is
+    ∙ ap (λ (bs : List ℕ). result_unwrap_or (decoded (table_of shape) bs) []) (code-behind c)
     ∙ code-if (nat_lt CODE_MAX (length c.code)) (length c.code) shape code marks (decoded (table_of shape) c.code) verified
 
 IsOk-by : {A E : Type 0} (r : Result A E) (a : A) → r ≡ Ok a → IsOk r

@@ -1,5 +1,6 @@
 -- A line of a node script, and its end.
 use Rattle.std.proofs.Common.{◌≡◌, ℕ, ◌+◌, ◌<◌, ◌≤◌, false, List, [], ◌∷◌, length, replicate, None, Result, Ok, Err, OnOk, IfOk, IfErr, lit<, refl, sym, ◌∙◌, ap, subst, arith}
+use Rattle.mate_num.specs.Results.{result_map}
 use Rattle.vm_desc.specs.declared.description.Description.{Description}
 use Rattle.script_reader.specs.declared.fault.Cause.{Cause}
 use Rattle.script_reader.specs.declared.fault.ScriptFault.{ScriptFault}
@@ -8,7 +9,8 @@ use Rattle.script_reader.specs.Lines.{lines, split_words, is_skipped}
 use Rattle.script_reader.specs.Script.{FollowsLine}
 use Rattle.script_reader.specs.declared.steps.Step.{Step}
 use Rattle.script_reader.specs.Steps.{IsRightStep, IsRightSteps}
-use Rattle.script_reader.specs.NodeScript.{Said, Progress, a_line, with_said, when_said, after_line, nothing_yet, node_script_in}
+use Rattle.script_reader.specs.Words.{TakenWords}
+use Rattle.script_reader.specs.NodeScript.{Said, Progress, a_line, with_said, after_line, nothing_yet, node_script_in}
 use Rattle.script_reader.specs.declared.node.Said.{Said as Line}
 use Rattle.script_reader.specs.NodeReader.{said_of, files_after, IsNewer, IsRightSaid, KeepsProgress}
 use Rattle.script_reader.proofs.LineLemmas.{IsAt, goes_on}
@@ -28,7 +30,7 @@ line_added d n old new words rest said (Ok u) few k skip read right adds refused
     let P : Progress → Type 0 = λ p. KeepsProgress d p in
     let len : length new.script.files ≡ files_after (length old.script.files) said.file = ap (λ (p : Progress). length p.script.files) adds ∙ length-with_file old.script.files said.file in
     record {
-      value = rw skip (ap (when_said old) read ∙ ap (λ p. Ok p) (sym adds));
+      value = rw skip (ap (result_map (λ (t : TakenWords Said). with_said old t.value)) read ∙ ap (λ p. Ok p) (sym adds));
       files = omega (arith, len, few_files (length old.script.files) said.file);
       keeps = subst P (sym adds) (keeps_more d old said k right);
     }

@@ -1,5 +1,6 @@
 -- Numbers in words.
 use Rattle.std.proofs.Common.{sym, ◌≡◌, ℕ, ℤ, pos, neg_ℤ, ◌^◌, ◌<◌, ◌≤◌, Bool, true, false, ◌&&◌, ◌==◌, not, nat_le, cond, List, [], ◌∷◌, length, Result, Ok, Err, zero, suc, get_or, take, take_all, ◌+◌, ◌*◌, lit<, lit≤, refl, ◌∙◌, ap, subst, arith}
+use Rattle.mate_num.specs.Results.{result_map}
 use Rattle.std.specs.List.{list_all}
 use Rattle.std.specs.Char.{is_ascii_digit, digit_value}
 use Rattle.std.specs.Cmp.Derive.{both_true}
@@ -14,7 +15,7 @@ use Rattle.std.specs.Int.{w16}
 use mir.Val.{SFits}
 use Rattle.script_reader.specs.declared.fault.Cause.{Cause}
 use Rattle.script_reader.specs.declared.fault.Cause.TheVariants.{Number, Range}
-use Rattle.script_reader.specs.Words.{TakenWords, and_then, found, printed, within, is_numeral, signed, number_read, a_number, value_read, a_value, is_printable}
+use Rattle.script_reader.specs.Words.{TakenWords, and_then, found, printed, within, is_numeral, number_read, a_number, value_read, a_value, is_printable}
 
 -- where a digit more is too much, so are all
 pub overflows : (w : List ℕ) (place n : ℕ) → n ≡ digits_value 10 (take place w) → place < length w
@@ -87,7 +88,7 @@ within_high low high outside (Ok m) n e = by (nat_le low m && nat_le m high) ref
     by false t e = absurd (cc)
 within_high low high outside (Err cause) n e = absurd (cc)
 
-signed_fits : (sign : ℕ → ℤ) (r : Result ℕ Cause) (v : ℤ) → signed sign r ≡ Ok v → ((n : ℕ) → r ≡ Ok n → SFits w16 (sign n)) → SFits w16 v
+signed_fits : (sign : ℕ → ℤ) (r : Result ℕ Cause) (v : ℤ) → result_map sign r ≡ Ok v → ((n : ℕ) → r ≡ Ok n → SFits w16 (sign n)) → SFits w16 v
 signed_fits sign (Ok n) v e fits =
     let same : sign n ≡ v = cc in
     let P : ℤ → Type 0 = λ z. SFits w16 z in
@@ -102,7 +103,7 @@ value_of_fits : (w : List ℕ) (v : ℤ) → value_read w ≡ Ok v → SFits w16
 value_of_fits [] v e = absurd (cc)
 value_of_fits (byte ∷ bytes) v e = by (byte == 45) e
   where
-    by : (b : Bool) → cond b (signed (λ n. neg_ℤ (pos n)) (within 0 32768 Range (number_read bytes))) (signed pos (within 0 32767 Range (number_read (byte ∷ bytes)))) ≡ Ok v → SFits w16 v
+    by : (b : Bool) → cond b (result_map (λ n. neg_ℤ (pos n)) (within 0 32768 Range (number_read bytes))) (result_map pos (within 0 32767 Range (number_read (byte ∷ bytes)))) ≡ Ok v → SFits w16 v
     by true e = signed_fits (λ n. neg_ℤ (pos n)) (within 0 32768 Range (number_read bytes)) v e (λ n h. minus_fits n (within_high 0 32768 Range (number_read bytes) n h))
     by false e = signed_fits pos (within 0 32767 Range (number_read (byte ∷ bytes))) v e
         (λ n h. let small : n ≤ 32767 = within_high 0 32767 Range (number_read (byte ∷ bytes)) n h in record { sfits = omega arith })

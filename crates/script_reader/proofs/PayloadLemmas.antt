@@ -1,10 +1,11 @@
 -- Values in words.
 use Rattle.std.proofs.Common.{◌≡◌, ℕ, suc, ◌+◌, ◌-◌, ◌<◌, ◌≤◌, ℤ, List, [], ◌∷◌, ◌++◌, length, take, drop, Result, Ok, Err, refl, sym, ◌∙◌, ap, arith, length-append}
+use Rattle.mate_num.specs.Results.{result_map}
 use Rattle.std.proofs.Math.Seq.{take-nil, drop-nil}
 use Rattle.script_reader.specs.declared.fault.Cause.{Cause}
 use Rattle.script_reader.specs.declared.fault.Cause.TheVariants.{Word}
 use Rattle.mate_num.specs.Store.{payload}
-use Rattle.script_reader.specs.Words.{TakenWords, found, and_then, printed, value_read, a_value, values_from, then_more, as_payload, a_payload}
+use Rattle.script_reader.specs.Words.{TakenWords, found, and_then, printed, value_read, a_value, values_from, then_more, a_payload}
 
 -- so many values were read, and the words after them are left
 pub record IsReadTo (all : List (List ℕ)) (values : List ℤ) (rest : List (List ℕ)) : Type 0 where
@@ -81,15 +82,15 @@ read_fails all (w ∷ words) values cause r h some e =
     let less : 10 - length values ≡ suc k = one_less (length values) h in
     let next : ℤ → Result (List ℤ) Cause = λ v. values_from (values ++ v ∷ []) (take k words) in
     let fails : values_from [] (take 10 all) ≡ Err cause = r.whole ∙ rw less (by_fault next (a_value (w ∷ [])) words cause (sym (one_value w words) ∙ e)) in
-    ap (λ r. found (as_payload r) (drop 10 all)) fails
+    ap (λ r. found (result_map payload r) (drop 10 all)) fails
 
 pub read_full : (all rest : List (List ℕ)) (values : List ℤ) → IsReadTo all values rest → 10 ≤ length values → a_payload all ≡ Ok (record { value = payload values; rest = rest })
 unfolding a_payload
 read_full all rest values r full =
     let none : 10 - length values ≡ 0 = omega arith in
-    ap (λ r. found (as_payload r) (drop 10 all)) (r.whole ∙ ap (λ n. values_from values (take n rest)) none) ∙ ap (λ ws. found (as_payload (Ok values)) ws) (r.after ∙ ap (λ n. drop n rest) none)
+    ap (λ r. found (result_map payload r) (drop 10 all)) (r.whole ∙ ap (λ n. values_from values (take n rest)) none) ∙ ap (λ ws. found (result_map payload (Ok values)) ws) (r.after ∙ ap (λ n. drop n rest) none)
 
 pub read_done : (all rest : List (List ℕ)) (values : List ℤ) → IsReadTo all values rest → length rest ≡ 0 → a_payload all ≡ Ok (record { value = payload values; rest = rest })
 unfolding a_payload
 read_done all (w ∷ rest) values r done = absurd (omega arith)
-read_done all [] values r done = ap (λ r. found (as_payload r) (drop 10 all)) (r.whole ∙ ap (values_from values) (take-nil (10 - length values))) ∙ ap (λ ws. found (as_payload (Ok values)) ws) (r.after ∙ drop-nil (10 - length values))
+read_done all [] values r done = ap (λ r. found (result_map payload r) (drop 10 all)) (r.whole ∙ ap (values_from values) (take-nil (10 - length values))) ∙ ap (λ ws. found (result_map payload (Ok values)) ws) (r.after ∙ drop-nil (10 - length values))

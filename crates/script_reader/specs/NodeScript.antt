@@ -1,5 +1,6 @@
 -- The node script in bytes, line by line; if a line is refused, the first such line and its first cause.
 use Rattle.std.specs.Prelude.{ℕ, if◌then◌else◌, List, [], ◌∷◌, ◌++◌, length, codes, slice_index, slice_set, replicate, Option, Some, None}
+use Rattle.mate_num.specs.Results.{result_map}
 use Rattle.std.specs.Prelude.{Result, Ok, Err}
 use Rattle.std.specs.Str.{bytes_eq}
 use Rattle.vm_desc.specs.declared.description.Description.{Description}
@@ -103,15 +104,11 @@ with_said p said = record {
   newest = newest_after p.newest said.step;
 }
 
-abbrev pub when_said : Progress → Result (TakenWords Said) Cause → Result Progress Cause
-when_said p (Ok t) = Ok (with_said p t.value)
-when_said p (Err cause) = Err cause
-
 -- the progress after a line
 unfoldable pub after_line : Description → Progress → List (List ℕ) → Result Progress Cause
 after_line d p words =
     if is_skipped words then Ok p
-    else when_said p (a_line d p.newest (length p.script.files) words)
+    else result_map (λ t. with_said p t.value) (a_line d p.newest (length p.script.files) words)
 
 abbrev pub nothing_yet : Progress
 nothing_yet = record { script = record { steps = []; files = [] }; newest = replicate 8 0 }

@@ -1,5 +1,6 @@
 -- How the words of a line are read, from left to right, each with the first cause for which it is refused.
 use Rattle.std.specs.Prelude.{◌≡◌, ℕ, ◌+◌, ◌-◌, nat_lt, nat_le, ◌==◌, ℤ, pos, neg_ℤ, Bool, ◌&&◌, not, if◌then◌else◌, List, [], ◌∷◌, ◌++◌}
+use Rattle.mate_num.specs.Results.{result_map}
 use Rattle.std.specs.Prelude.{length, take, drop, Result, Ok, Err}
 use Rattle.std.specs.List.{list_all}
 use Rattle.std.specs.Char.{is_ascii_digit}
@@ -80,16 +81,12 @@ within low high outside (Err cause) = Err cause
 unfoldable pub a_number : ℕ → ℕ → Cause → WordReading ℕ
 a_number low high outside = a_word >>= (λ w. found (within low high outside (number_read w)))
 
-abbrev pub signed : (ℕ → ℤ) → Result ℕ Cause → Result ℤ Cause
-signed sign (Ok n) = Ok (sign n)
-signed sign (Err cause) = Err cause
-
 -- a number up to 32767, or a minus and a number up to 32768
 abbrev pub value_read : List ℕ → Result ℤ Cause
 value_read [] = Err Number
 value_read (byte ∷ bytes) =
-    if byte == 45 then signed (λ n. neg_ℤ (pos n)) (within 0 32768 Range (number_read bytes))
-    else signed pos (within 0 32767 Range (number_read (byte ∷ bytes)))
+    if byte == 45 then result_map (λ n. neg_ℤ (pos n)) (within 0 32768 Range (number_read bytes))
+    else result_map pos (within 0 32767 Range (number_read (byte ∷ bytes)))
 
 unfoldable pub a_value : WordReading ℤ
 a_value = a_word >>= (λ w. found (value_read w))
@@ -103,13 +100,9 @@ abbrev pub values_from : List ℤ → List (List ℕ) → Result (List ℤ) Caus
 values_from values [] = Ok values
 values_from values (w ∷ words) = then_more (λ v. values_from (values ++ v ∷ []) words) (a_value (w ∷ []))
 
-abbrev pub as_payload : Result (List ℤ) Cause → Result (ArrayVec ℤ) Cause
-as_payload (Ok values) = Ok (payload values)
-as_payload (Err cause) = Err cause
-
 -- the values of the words that are left, but of no more than ten
 unfoldable pub a_payload : WordReading (ArrayVec ℤ)
-a_payload words = found (as_payload (values_from [] (take 10 words))) (drop 10 words)
+a_payload words = found (result_map payload (values_from [] (take 10 words))) (drop 10 words)
 
 -- the handler with a name, among those from a number on
 abbrev pub handler_from : List ℕ → ℕ → List Handler → Result HandlerId Cause

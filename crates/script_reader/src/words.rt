@@ -1,6 +1,7 @@
 //! The words of a line, read from left to right.
 
 ghost use Rattle.std.specs.Prelude.{◌≡◌, ◌<◌, ◌≤◌, ◌+◌, ◌*◌, ◌^◌, ◌∷◌, [], length, true, not, ◌==◌, IfOk, MatchOption, MatchResult, pos};
+ghost use Rattle.mate_num.specs.Results.{result_map};
 ghost use Rattle.std.specs.Prelude.{neg_ℤ, Ok, Err};
 ghost use Rattle.std.specs.List.{prefix_len, list_all, zip};
 ghost use Rattle.std.specs.Char.{is_ascii_digit, digit_value};
@@ -9,7 +10,7 @@ ghost use Rattle.std.specs.Str.Parse.{digits_value};
 ghost use Rattle.vm_desc.specs.Whole.{context_count};
 ghost use Rattle.script_reader.specs.Lines.{is_blank, split_words, is_skipped};
 ghost use Rattle.script_reader.specs.Words.{ReadsWords, is_printable, printed, a_word, nothing_more, is_numeral, number_read, within, a_number};
-ghost use Rattle.script_reader.specs.Words.{signed, value_read, a_value, a_payload, handler_of, a_handler, newer, a_version, a_context};
+ghost use Rattle.script_reader.specs.Words.{value_read, a_value, a_payload, handler_of, a_handler, newer, a_version, a_context};
 
 use crate::fault::Cause;
 use mate_num::{ContextId, HandlerId, Payload};
@@ -317,7 +318,7 @@ fn value_in(word: &[u8]) -> Result<i16, Cause>
 
 // What the word spells after a minus.
 fn negative_in(digits: &[u8]) -> Result<i16, Cause>
-    ensures { result ≡ signed (λ n. neg_ℤ (pos n)) (within 0 32768 Cause.Range (number_read digits.now)) }
+    ensures { result ≡ result_map (λ n. neg_ℤ (pos n)) (within 0 32768 Cause.Range (number_read digits.now)) }
 {
     let size = number_in(digits, 0, 32_768, Cause::Range)?;
     Ok((-(size as i32)) as i16)

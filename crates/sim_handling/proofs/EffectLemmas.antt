@@ -10,7 +10,6 @@ use Rattle.mate_journal.specs.NodeScript.{Installs as InstallsTold}
 use Rattle.mate_journal.specs.Pace.{Pace}
 use Rattle.capsule_codec.specs.Image.{CapsuleParts}
 use Rattle.capsule_codec.specs.Reading.{capsule_in}
-use Rattle.code_verifier.specs.Faults.{refusal_of}
 use Rattle.mate_code.specs.BytesVerification.{bytes_verification}
 use Rattle.node_invariant.specs.Meaning.{machine_in}
 use Rattle.node_invariant.specs.Keeps.{IsTimely}
@@ -144,7 +143,7 @@ not-refused : (d : Description) (r : NodeState) (bytes : List ℕ) (c : CapsuleP
 not-refused d r bytes c (Capsule fault) right newer refused = let a = right.decoded in cc
 not-refused d r bytes c (Code fault) right newer refused =
     let same : refused.capsule ≡ c = one-capsule d bytes refused.capsule c refused.decoded right.decoded in
-    let failed : bytes_verification (shape_of d) c.code ≡ Err (refusal_of fault) = subst (λ (x : CapsuleParts). bytes_verification (shape_of d) x.code ≡ Err (refusal_of fault)) same refused.refused in
+    let failed : bytes_verification (shape_of d) c.code ≡ Err fault = subst (λ (x : CapsuleParts). bytes_verification (shape_of d) x.code ≡ Err fault) same refused.refused in
     let passed = right.verified in cc
 not-refused d r bytes c (NotNewer version) right newer refused =
     let same : refused.capsule ≡ c = one-capsule d bytes refused.capsule c refused.right.decoded right.decoded in

@@ -2,7 +2,8 @@
 use Rattle.std.proofs.Common.{◌≡◌, Bool, true, false, Option, Some, None, Result, Ok, Err, refl, sym, ap, ◌∙◌}
 use Rattle.std.specs.Prelude.{IfOk, IsErrAnd, MatchResult, ok_or}
 use Rattle.ts_checker.specs.declared.fault.CheckFault.{CheckFault}
-use Rattle.ts_checker.specs.Refusal.{◌>>=◌, unless_refused}
+use Rattle.mate_num.specs.Results.{◌>>=◌}
+use Rattle.ts_checker.specs.Refusal.{unless_refused}
 
 -- what holds of all that a check gives, by what holds of what the check before it gives
 pub bind_keeps : {A B : Type 0} (P : A → Type 0) (Q : B → Type 0) (r : Result A CheckFault) (next : A → Result B CheckFault)

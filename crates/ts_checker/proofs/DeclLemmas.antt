@@ -3,7 +3,7 @@ use Rattle.std.proofs.Common.{◌≡◌, ℕ, ◌+◌, ◌<◌, List, length, dr
 use Rattle.ts_syntax.specs.declared.script.Decl.{Decl}
 use Rattle.ts_checked.proofs.ListLemmas.{drop_item}
 use Rattle.ts_checker.specs.declared.fault.CheckFault.{CheckFault}
-use Rattle.ts_checker.specs.Refusal.{◌>>=◌}
+use Rattle.mate_num.specs.Results.{◌>>=◌}
 use Rattle.ts_checker.specs.Names.{ScriptNames, declare, declare_all}
 
 -- a declaration is refused

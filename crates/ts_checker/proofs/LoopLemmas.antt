@@ -8,7 +8,7 @@ use Rattle.ts_syntax.specs.declared.expr.Expr.{Expr}
 use Rattle.ts_syntax.specs.declared.stmt.Stmt.{Stmt}
 use Rattle.ts_checked.proofs.ListLemmas.{drop_item}
 use Rattle.ts_checker.specs.declared.fault.CheckFault.{CheckFault}
-use Rattle.ts_checker.specs.Refusal.{◌>>=◌}
+use Rattle.mate_num.specs.Results.{◌>>=◌}
 use Rattle.ts_checker.specs.Names.{ScriptNames}
 use Rattle.ts_checker.specs.Checks.{checked_expr, checked_args, checked_stmt, checked_block}
 

@@ -24,7 +24,7 @@ use Rattle.ts_syntax.specs.Tree as given
 use Rattle.ts_syntax.specs.Tree.{Tree, Acts}
 use Rattle.ts_checked.specs.TreeOf.{expr_step, args_step, expr_tree, stmt_step, block_step, stmt_tree, block_tree}
 use Rattle.ts_syntax.proofs.SeenLemmas.{tree_message_size, tree_two}
-use Rattle.ts_checker.specs.Refusal.{◌>>=◌}
+use Rattle.mate_num.specs.Results.{◌>>=◌}
 use Rattle.ts_checker.specs.Names.{ScriptNames, buffer as buffer_at, closes_for}
 use Rattle.ts_checker.specs.Checks.{checked_expr, checked_head, checked_stmt, checked_block}
 use Rattle.ts_checker.specs.Seen.{checked_head_of}

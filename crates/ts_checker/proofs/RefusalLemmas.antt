@@ -14,7 +14,7 @@ use Rattle.ts_syntax.specs.declared.stmt.Stmt.TheVariants as does
 use Rattle.ts_syntax.proofs.SeenLemmas.{tree_two, act_if_then, act_if_else}
 use Rattle.ts_checker.specs.declared.fault.CheckFault.{CheckFault}
 use Rattle.ts_checker.specs.declared.fault.CheckFault.TheVariants.{NoMemory}
-use Rattle.ts_checker.specs.Refusal.{◌>>=◌}
+use Rattle.mate_num.specs.Results.{◌>>=◌}
 use Rattle.ts_checker.specs.Names.{ScriptNames}
 use Rattle.ts_checker.specs.Answer.{RefusesScript, GivesChecked}
 use Rattle.ts_checker.specs.Checks.{checked_expr, checked_stmt, checked_block}

@@ -1,6 +1,6 @@
 -- What the checks give is right for the machine's shape.
 use Rattle.std.proofs.Common.{◌≡◌, ℕ, zero, suc, ◌+◌, ◌<◌, ◌==◌, nat_lt, nat_le, Bool, true, false, ◌&&◌, List, [], ◌∷◌, length, map, Option, Some, None, slice_get, Result, Ok, Err, refl, ap, sym, ◌∙◌, subst, arith, bytes_eq}
-use Rattle.std.specs.Prelude.{⊤, IfOk, IfSome, is_none, position, ok_or, if◌then◌else◌}
+use Rattle.std.specs.Prelude.{⊤, IfOk, IfSome, is_none, position, ok_or, pos, neg_ℤ, if◌then◌else◌}
 use Rattle.std.specs.List.{list_all}
 use Rattle.std.proofs.lemmas.Bool.{and_parts, lt-ltb}
 use Rattle.std.proofs.lemmas.Bool.Decides.{nat_tests}
@@ -34,9 +34,10 @@ use Rattle.ts_checker.specs.declared.scope.Symbol.TheVariants.{Variable, Buffer}
 use Rattle.ts_checker.specs.declared.scope.Entry.{Entry}
 use Rattle.ts_checker.specs.declared.fault.CheckFault.{CheckFault}
 use Rattle.ts_checker.specs.declared.fault.CheckFault.TheVariants.{Undeclared, NotInVm, Twice, Kind, Arity, TooManyPrivates}
-use Rattle.ts_checker.specs.Refusal.{◌>>=◌, unless_refused}
+use Rattle.mate_num.specs.Results.{◌>>=◌}
+use Rattle.ts_checker.specs.Refusal.{unless_refused}
 use Rattle.ts_checker.specs.Names.{ScriptNames, names_before, symbol_of, private_count, listed, made, with_name, declare, declare_all, found_symbol, as_variable, as_buffer, variable as variable_at, buffer as buffer_at, function_from, function, closes_for}
-use Rattle.ts_checker.specs.Checks.{variable_expression, Called, sends, calls, as_expression, as_statement, sent, sent_name, name_alone, tree_count, called_function, checked_call, checked_expr, checked_args, step_number, checked_step, CheckedHead, checked_head, checked_stmt, checked_block, checked_source}
+use Rattle.ts_checker.specs.Checks.{variable_expression, Called, sends, calls, as_expression, as_statement, sent, sent_name, name_alone, tree_count, called_function, checked_call, checked_expr, checked_args, checked_step, CheckedHead, checked_head, checked_stmt, checked_block, checked_source}
 use Rattle.ts_checker.proofs.CheckLemmas.{bind_keeps, demand_holds}
 
 -- what a name stands for is in the shape's range
@@ -260,7 +261,7 @@ mutual
       record { count = ap suc h.count; right = both (is_right_expr s allowed a) (are_right s allowed more) ha h.right }))
 
 -- a literal from 1 to 32767 is a step, with its sign
-signed-right : (minus : Bool) (size : ℕ) → (nat_lt 0 size && nat_le size 32767) ≡ true → is_step (step_number minus size) ≡ true
+signed-right : (minus : Bool) (size : ℕ) → (nat_lt 0 size && nat_le size 32767) ≡ true → is_step (if minus then neg_ℤ (pos size) else pos size) ≡ true
 signed-right minus zero h = cc
 signed-right true (suc k) h = let (a, b) = and_parts (nat_lt 0 (suc k)) (nat_le (suc k) 32767) h in grind (arith, nat_tests)
 signed-right false (suc k) h = let (a, b) = and_parts (nat_lt 0 (suc k)) (nat_le (suc k) 32767) h in grind (arith, nat_tests)
@@ -269,7 +270,7 @@ step-right : (step : Option Step) → IfOk (checked_step step) (λ z. is_step z 
 step-right None = refl
 step-right (Some t) =
     bind_keeps (λ _. (nat_lt 0 t.size && nat_le t.size 32767) ≡ true) (λ z. is_step z ≡ true) (unless_refused (nat_lt 0 t.size && nat_le t.size 32767) (Kind t.place))
-    (λ _. Ok (step_number t.minus t.size)) (demand_holds (nat_lt 0 t.size && nat_le t.size 32767) (Kind t.place)) (λ _ h. signed-right t.minus t.size h)
+    (λ _. Ok (if t.minus then neg_ℤ (pos t.size) else pos t.size)) (demand_holds (nat_lt 0 t.size && nat_le t.size 32767) (Kind t.place)) (λ _ h. signed-right t.minus t.size h)
 
 abbrev IsRightHead : Shape → CheckedHead → Type 0
 IsRightHead s h = is_head s h.var h.from h.to h.step ≡ true

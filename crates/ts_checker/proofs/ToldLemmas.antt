@@ -11,7 +11,8 @@ use Rattle.ts_syntax.specs.Tree as given
 use Rattle.ts_syntax.specs.Tree.{Tree, Trees, no_trees, tree_then, Act, Acts, no_acts, act_then, Source}
 use Rattle.ts_checker.specs.Checks.{checked_expr, checked_args, checked_call, called_function, sent, sent_name, name_alone, checked_step, checked_head, checked_stmt, checked_block, checked_source}
 use Rattle.ts_checker.specs.Names.{ScriptNames, names_before, made, declare, declare_all, found_symbol, as_variable, as_buffer, variable, buffer, function, listed, closes_for}
-use Rattle.ts_checker.specs.Refusal.{◌>>=◌, unless_refused}
+use Rattle.mate_num.specs.Results.{◌>>=◌}
+use Rattle.ts_checker.specs.Refusal.{unless_refused}
 use Rattle.ts_checker.specs.declared.fault.CheckFault.{CheckFault}
 use Rattle.ts_checker.specs.declared.fault.CheckFault.TheVariants.{Undeclared, NotInVm, Twice, Kind, Arity, TooManyPrivates, NoMemory}
 use Rattle.ts_checker.specs.declared.scope.Symbol.{Symbol}

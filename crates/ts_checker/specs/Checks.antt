@@ -1,5 +1,6 @@
 -- The checks of a script, word by word from left to right, and the checked tree that they give.
 use Rattle.std.specs.Prelude.{ℕ, zero, suc, ◌==◌, nat_lt, nat_le, ℤ, pos, neg_ℤ, Bool, true, false, ◌&&◌, if◌then◌else◌, Option, Some, None}
+use Rattle.std.specs.Option.{ok_or}
 use Rattle.std.specs.Prelude.{Result, Ok, Err}
 use Rattle.mate_num.specs.Number.{wrap}
 use Rattle.mate_num.specs.declared.id.FunId.{FunId}
@@ -20,7 +21,8 @@ use Rattle.ts_checked.specs.Statement.{Statement, Block, no_statements, statemen
 use Rattle.ts_checked.specs.Statement.{For, While}
 use Rattle.ts_checker.specs.declared.fault.CheckFault.{CheckFault}
 use Rattle.ts_checker.specs.declared.fault.CheckFault.TheVariants.{Undeclared, Kind, Arity}
-use Rattle.ts_checker.specs.Refusal.{◌>>=◌, unless_refused}
+use Rattle.mate_num.specs.Results.{◌>>=◌}
+use Rattle.ts_checker.specs.Refusal.{unless_refused}
 use Rattle.ts_checker.specs.Names.{ScriptNames, names_before, declare_all, variable as variable_at, buffer as buffer_at, function, closes_for}
 
 -- a variable as an expression
@@ -48,8 +50,7 @@ name_alone _ = None
 
 -- the buffer of that name
 abbrev pub sent_name : ScriptNames → ℕ → Option Word → Result BufId CheckFault
-sent_name n place None = Err (Kind place)
-sent_name n place (Some w) = buffer_at n w
+sent_name n place name = ok_or name (Kind place) >>= buffer_at n
 
 -- the buffer that a call sends, of a function whose name is at the place: its one argument, a name alone
 abbrev pub sent : ScriptNames → ℕ → Trees → Result BufId CheckFault
@@ -93,13 +94,10 @@ abbrev mutual
   checked_args n allowed (tree_then e es) = checked_expr n allowed e >>= (λ a. checked_args n allowed es >>= (λ more. Ok (argument a more)))
 
 -- the step of a `for`: 1 if none is written, else from -32767 to 32767, and not 0
-abbrev pub step_number : Bool → ℕ → ℤ
-step_number true size = neg_ℤ (pos size)
-step_number false size = pos size
-
 abbrev pub checked_step : Option Step → Result ℤ CheckFault
 checked_step None = Ok (pos 1)
-checked_step (Some s) = unless_refused (nat_lt 0 s.size && nat_le s.size 32767) (Kind s.place) >>= (λ _. Ok (step_number s.minus s.size))
+checked_step (Some s) =
+    unless_refused (nat_lt 0 s.size && nat_le s.size 32767) (Kind s.place) >>= (λ _. Ok (if s.minus then neg_ℤ (pos s.size) else pos s.size))
 
 -- the head of a `for`: no call is in its limit
 pub record CheckedHead : Type 0 where

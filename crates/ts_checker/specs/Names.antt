@@ -17,7 +17,8 @@ use Rattle.ts_checker.specs.declared.scope.Symbol.TheVariants.{Variable, Buffer}
 use Rattle.ts_checker.specs.declared.scope.Entry.{Entry}
 use Rattle.ts_checker.specs.declared.fault.CheckFault.{CheckFault}
 use Rattle.ts_checker.specs.declared.fault.CheckFault.TheVariants.{Undeclared, NotInVm, Twice, Kind, TooManyPrivates}
-use Rattle.ts_checker.specs.Refusal.{◌>>=◌, unless_refused}
+use Rattle.mate_num.specs.Results.{◌>>=◌}
+use Rattle.ts_checker.specs.Refusal.{unless_refused}
 
 -- the names of a script: its machine's, and those that it declared so far, each with what it means
 pub record ScriptNames : Type 0 where

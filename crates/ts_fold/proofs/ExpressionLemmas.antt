@@ -1,5 +1,6 @@
 -- A folded expression means what the expression does, uses nothing more, is right if it is, and takes no more room.
 use Rattle.std.proofs.Common.{◌≡◌, ℕ, zero, suc, ◌+◌, ◌≤◌, ℤ, pos, negsuc, Bool, true, false, List, [], ◌∷◌, ◌++◌, Option, Some, None, Result, Ok, Err, refl, ap, sym, ◌∙◌, arith}
+use Rattle.std.specs.Option.{option_map_or}
 use Rattle.std.specs.Prelude.{neg_ℤ, not, ◌&&◌, ◌||◌, max, nat_lt, if◌then◌else◌}
 use Rattle.std.specs.Option.{option_map}
 use Rattle.std.specs.Result.{result_ok}
@@ -24,7 +25,7 @@ use Rattle.mate_num.specs.Operators.{truth_value}
 use Rattle.ts_meaning.specs.Uses.{is_this_buffer as is_buffer_used, calls_device, expr_reads, args_read, expr_writes, args_write}
 use Rattle.ts_meaning.specs.Translation.{size_of_instrs, number_code, operator_code, expr_code, args_code, expr_need, args_need, expr_size}
 use Rattle.ts_meaning.proofs.PlaceLemmas.{bytes_of-append, bytes_of-then, size_of-operator_code}
-use Rattle.ts_fold.specs.Folded.{literal_of, negated, inverted, operated, value_or, negation, inverse, operation, folded_expr, folded_args}
+use Rattle.ts_fold.specs.Folded.{literal_of, operated, negation, inverse, operation, folded_expr, folded_args}
 
 -- ---- tests
 
@@ -229,7 +230,7 @@ keeps_inverse (Num n) =
 keeps_inverse e = keeps_same (Not e)
 
 keeps_result : (op : BinOp) (a b : ℤ) (result : Result ℤ FaultKind) → applied op a b ≡ result
-    → Keeps (Two op (Num a) (Num b)) (value_or (result_ok result) (Two op (Num a) (Num b)))
+    → Keeps (Two op (Num a) (Num b)) (option_map_or Num (result_ok result) (Two op (Num a) (Num b)))
 keeps_result op a b (Ok n) e =
     keeps_number (Two op (Num a) (Num b)) n (λ s. ap (λ r. value_or_fault r s) e) (omega arith)
     (let c = number_bytes a in let d = number_bytes b in let f = size_two op (Num a) (Num b) in omega arith)

@@ -17,27 +17,18 @@ literal_of (Num n) = Some n
 literal_of _ = None
 
 -- the values of the operations on numbers, as the meaning gives them; `/` and `%` by 0 give a fault, and no value
-abbrev pub negated : Option ℤ → Option ℤ
-negated o = option_and_then (λ a. result_ok (negative_of a)) o
-
-abbrev pub inverted : Option ℤ → Option ℤ
-inverted o = option_and_then (λ a. result_ok (not_of a)) o
-
 abbrev pub operated : BinOp → Option ℤ → Option ℤ → Option ℤ
 operated op l r = option_and_then (λ a. option_and_then (λ b. result_ok (applied op a b)) r) l
 
 -- the value, and if there is none the operation
-abbrev pub value_or : Option ℤ → Expression → Expression
-value_or o e = option_map_or Num o e
-
 abbrev pub negation : Expression → Expression
-negation e = value_or (negated (literal_of e)) (Neg e)
+negation e = option_map_or Num (option_and_then (λ a. result_ok (negative_of a)) (literal_of e)) (Neg e)
 
 abbrev pub inverse : Expression → Expression
-inverse e = value_or (inverted (literal_of e)) (Not e)
+inverse e = option_map_or Num (option_and_then (λ a. result_ok (not_of a)) (literal_of e)) (Not e)
 
 abbrev pub operation : BinOp → Expression → Expression → Expression
-operation op l r = value_or (operated op (literal_of l) (literal_of r)) (Two op l r)
+operation op l r = option_map_or Num (operated op (literal_of l) (literal_of r)) (Two op l r)
 
 -- an expression and arguments, folded from the leaves; an item, a size and a call are no operations
 abbrev mutual

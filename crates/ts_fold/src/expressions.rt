@@ -1,9 +1,12 @@
 //! Expressions: an operation whose operands are numbers becomes its value.
 
 ghost use Rattle.std.specs.Prelude.{◌≡◌, IfOk};
+ghost use Rattle.std.specs.Option.{option_and_then};
+ghost use Rattle.std.specs.Result.{result_ok};
+ghost use Rattle.mate_num.specs.Operators.{negative_of, not_of};
 ghost use Rattle.ts_checked.specs.Expression.{arguments};
 ghost use Rattle.ts_checked.specs.TreeOf.{expr_tree, args_trees};
-ghost use Rattle.ts_fold.specs.Folded.{literal_of, negated, inverted, operated, negation, inverse, operation, folded_expr, folded_args};
+ghost use Rattle.ts_fold.specs.Folded.{literal_of, operated, negation, inverse, operation, folded_expr, folded_args};
 
 use mate_num::{NoMemory, Num16};
 use std::alloc::Global;
@@ -107,13 +110,13 @@ fn operation(alloc: Global, op: BinOp, left: CExpr, right: CExpr) -> Result<CExp
 }
 
 fn negated(number: Option<i16>) -> Option<i16>
-    ensures { result ≡ negated number }
+    ensures { result ≡ option_and_then (λ a. result_ok (negative_of a)) number }
 {
     Some(Num16(number?).neg().0)
 }
 
 fn inverted(number: Option<i16>) -> Option<i16>
-    ensures { result ≡ inverted number }
+    ensures { result ≡ option_and_then (λ a. result_ok (not_of a)) number }
 {
     Some(Num16(number?).not().0)
 }

@@ -10,6 +10,7 @@ use Rattle.ts_syntax.specs.Spelling.{kinds}
 use Rattle.ts_syntax.specs.Cut.{is_blank, is_digit, begins_name, in_name, sign_of, keywords, keyword_among, word_kind, token, CutFault, Mode, between, comment, word, literal, less, greater, CutStep, stop, go, behind, sign_turn, fresh, turn, at_end, with_front, turned, cut_from, cut}
 use Rattle.ts_lexer.specs.Spans.{BeginsWith, Passes}
 use Rattle.ts_lexer.specs.Printed.{IsWord, IsKind, AreKinds}
+use Rattle.ts_lexer.proofs.WordLemmas.{sign-is}
 use Rattle.ts_lexer.proofs.CutLemmas.{cut_from-nil, cut_from-cons}
 
 -- what a mode, a turn and a result keep
@@ -88,9 +89,7 @@ sign_turn-IsTurn : (i b : ℕ) → IsTurn (sign_turn i (sign_of b))
 sign_turn-IsTurn i b =
     let P : Option TokenKind → Type 0 = λ o. IsTurn (sign_turn i o) in
     let one : IsTurn (sign_turn i (Some kind.Semi)) = ((tt, tt), tt) in
-    cond_both (b == 59) _ _ P (λ _. one) (λ _. cond_both (b == 44) _ _ P (λ _. one) (λ _. cond_both (b == 40) _ _ P (λ _. one) (λ _. cond_both (b == 41) _ _ P (λ _. one) (λ _.
-    cond_both (b == 91) _ _ P (λ _. one) (λ _. cond_both (b == 93) _ _ P (λ _. one) (λ _. cond_both (b == 61) _ _ P (λ _. one) (λ _. cond_both (b == 43) _ _ P (λ _. one) (λ _.
-    cond_both (b == 45) _ _ P (λ _. one) (λ _. cond_both (b == 42) _ _ P (λ _. one) (λ _. cond_both (b == 47) _ _ P (λ _. one) (λ _. cond_both (b == 37) _ _ P (λ _. one) (λ _. tt))))))))))))
+    sign-is P b (one, (one, (one, (one, (one, (one, (one, (one, (one, (one, (one, (one, tt)))))))))))) tt
 
 fresh-IsTurn : (i b : ℕ) → IsTurn (fresh i b)
 fresh-IsTurn i b =

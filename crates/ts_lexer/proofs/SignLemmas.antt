@@ -12,6 +12,7 @@ use Rattle.ts_lexer.specs.declared.fault.TokenFault.TheVariants.{NoMemory}
 use Rattle.ts_lexer.specs.declared.scanner.Scanner.{Scanner}
 use Rattle.ts_lexer.specs.Spans.{BeginsWith, begins_sign, less_sign, greater_sign, sign_at}
 use Rattle.ts_lexer.specs.Scanner.{due, TakesBytes, Appends, Steps}
+use Rattle.ts_lexer.proofs.WordLemmas.{sign-is}
 use Rattle.ts_lexer.proofs.CutLemmas.{cut_from-go, cut_from-turn, ends_before}
 use Rattle.ts_lexer.proofs.StepLemmas.{fault_due, token_steps}
 
@@ -125,7 +126,7 @@ SignStays (Some s) = procedure_kind s.0 ≡ s.0
 
 sign_of-Stays : (b : ℕ) → Stays (sign_of b)
 sign_of-Stays b =
-    cond_both (b == 59) _ _ Stays (λ _. refl) (λ _. cond_both (b == 44) _ _ Stays (λ _. refl) (λ _. cond_both (b == 40) _ _ Stays (λ _. refl) (λ _. cond_both (b == 41) _ _ Stays (λ _. refl) (λ _. cond_both (b == 91) _ _ Stays (λ _. refl) (λ _. cond_both (b == 93) _ _ Stays (λ _. refl) (λ _. cond_both (b == 61) _ _ Stays (λ _. refl) (λ _. cond_both (b == 43) _ _ Stays (λ _. refl) (λ _. cond_both (b == 45) _ _ Stays (λ _. refl) (λ _. cond_both (b == 42) _ _ Stays (λ _. refl) (λ _. cond_both (b == 47) _ _ Stays (λ _. refl) (λ _. cond_both (b == 37) _ _ Stays (λ _. refl) (λ _. tt))))))))))))
+    sign-is Stays b (refl, (refl, (refl, (refl, (refl, (refl, (refl, (refl, (refl, (refl, (refl, (refl, tt)))))))))))) tt
 
 short_stays : (o : Option TokenKind) → Stays o → SignStays (option_map (λ k. (k, 1)) o)
 short_stays None h = tt

@@ -1,7 +1,8 @@
 -- Names and keywords as texts.
-use Rattle.std.proofs.Common.{◌≡◌, ℕ, ◌<◌, Bool, cond, length, ap, true, false, ◌&&◌, ◌||◌, ◌==◌, nat_le, inl, inr, List, [], ◌∷◌, refl, sym, ◌∙◌, arith}
+use Rattle.std.proofs.Common.{◌≡◌, ℕ, ◌<◌, Bool, cond, length, ap, true, false, ◌&&◌, ◌||◌, ◌==◌, nat_le, inl, inr, Option, Some, None, List, [], ◌∷◌, refl, sym, ◌∙◌, arith}
+use Rattle.std.specs.List.{find, AllByRecursion}
 use Rattle.std.specs.Str.{IsUtf8, IsAscii, bytes_eq}
-use Rattle.std.proofs.lemmas.Bool.{or_cases, and_parts, leb-true, eqb-true, eqb-false, cond-false, false_from_ne_true}
+use Rattle.std.proofs.lemmas.Bool.{or_cases, and_parts, leb-true, eqb-true, eqb-false, cond-false, cond_both, false_from_ne_true}
 use Rattle.std.proofs.lemmas.Str.{IsUtf8-from_ascii}
 use Rattle.std.proofs.lemmas.Str.Ascii.{IsAscii-nil, IsAscii-cons}
 use Rattle.std.proofs.lemmas.Slice.Eq.{bytes_eq-Decides}
@@ -10,7 +11,7 @@ use Rattle.ts_syntax.specs.declared.token.TokenKind.TheVariants as kind
 use Rattle.ts_syntax.specs.declared.dialect.Dialect.{Dialect}
 use Rattle.ts_syntax.specs.declared.dialect.Dialect.TheVariants as dialect
 use Rattle.ts_syntax.specs.Text.{token_text}
-use Rattle.ts_syntax.specs.Cut.{is_digit, begins_name, in_name, keywords, keyword_among, procedure_kind, kind_in}
+use Rattle.ts_syntax.specs.Cut.{is_digit, begins_name, in_name, signs, sign_of, keywords, keyword_among, procedure_kind, kind_in}
 use Rattle.ts_lexer.specs.Spans.{Passes}
 
 in_name-lt : (b : ℕ) → in_name b ≡ true → b < 128
@@ -41,6 +42,20 @@ NoneReads (k ∷ ks) w = (bytes_eq w (token_text k) ≡ false) × NoneReads ks w
 pub among_none : (ks : List TokenKind) (w : List ℕ) → NoneReads ks w → keyword_among ks w ≡ kind.Name w
 among_none [] w h = refl
 among_none (k ∷ ks) w h = cond-false (bytes_eq w (token_text k)) _ _ h.0 ∙ among_none ks w h.1
+
+-- what holds of each sign, and where there is none, holds of the sign that a byte is
+pub sign-is : (P : Option TokenKind → Type 0) (b : ℕ) → AllByRecursion (λ k. P (Some k)) signs → P None → P (sign_of b)
+sign-is P b each none = by signs each where
+  by : (ks : List TokenKind) → AllByRecursion (λ k. P (Some k)) ks → P (find (λ k. bytes_eq (b ∷ []) (token_text k)) ks)
+  by [] all = none
+  by (k ∷ ks) all = cond_both (bytes_eq (b ∷ []) (token_text k)) _ _ P (λ _. all.0) (λ _. by ks all.1)
+
+-- a byte that is none of the signs
+pub no-sign : (b : ℕ) → NoneReads signs (b ∷ []) → sign_of b ≡ None
+no-sign b h = by signs h where
+  by : (ks : List TokenKind) → NoneReads ks (b ∷ []) → find (λ k. bytes_eq (b ∷ []) (token_text k)) ks ≡ None
+  by [] none = refl
+  by (k ∷ ks) none = cond-false (bytes_eq (b ∷ []) (token_text k)) _ _ none.0 ∙ by ks none.1
 
 -- a text that isn't another one
 pub unlike : (w v : List ℕ) → (w ≡ v → ⊥) → bytes_eq w v ≡ false

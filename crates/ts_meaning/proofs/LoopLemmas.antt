@@ -7,7 +7,7 @@ use Rattle.mate_num.specs.declared.call.FaultKind.TheVariants.{Overrun}
 use Rattle.ts_checked.specs.Expression.{Expression}
 use Rattle.ts_checked.specs.Statement.{Block}
 use Rattle.ts_checked.specs.declared.checked_stmt.CVar.{CVar}
-use Rattle.ts_meaning.specs.State.{ScriptState, Evaluation, Done, Over, then_do, go_back, with_turns, after_round, rounds, loop_does}
+use Rattle.ts_meaning.specs.State.{ScriptState, Evaluation, Done, Over, then_do, with_turns, after_round, rounds, loop_does}
 use Rattle.ts_meaning.specs.Meaning.{value_of, run_block, while_round, for_round}
 use Rattle.ts_meaning.proofs.TurnLemmas.{turns_after, WinsNoTurn, while_round-falls, for_round-falls, value_wins_none, block_wins_none}
 
@@ -66,13 +66,13 @@ module _ (round : ScriptState → Evaluation Bool) (w : WinsNoTurn round) (s aft
   loop_stops end gives = loop_does-round round w s ∙ ap (λ (o : Evaluation Bool). then_do o (after_round (loop_does round))) gives
 
   -- the loop goes back
-  pub loop_goes : (paid : ScriptState) → round s ≡ Done true after → go_back (Done tt) after ≡ Done tt paid → loop_does round s ≡ loop_does round paid
+  pub loop_goes : (paid : ScriptState) → round s ≡ Done true after → with_turns after.turns (Done tt) after ≡ Done tt paid → loop_does round s ≡ loop_does round paid
   loop_goes paid gives pays =
       loop_does-round round w s ∙ ap (λ (o : Evaluation Bool). then_do o (after_round (loop_does round))) gives
       ∙ with_turns-goes (loop_does round) after.turns after paid pays
 
   -- no turn is left for going back
-  pub loop_overruns : (paid : ScriptState) (end : End) → round s ≡ Done true after → go_back (Done tt) after ≡ Over end paid → loop_does round s ≡ Over end paid
+  pub loop_overruns : (paid : ScriptState) (end : End) → round s ≡ Done true after → with_turns after.turns (Done tt) after ≡ Over end paid → loop_does round s ≡ Over end paid
   loop_overruns paid end gives pays =
       loop_does-round round w s ∙ ap (λ (o : Evaluation Bool). then_do o (after_round (loop_does round))) gives
       ∙ with_turns-stops (loop_does round) after.turns after paid end pays

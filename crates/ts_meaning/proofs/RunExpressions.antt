@@ -1,5 +1,6 @@
 -- The code of an expression leaves its value on the stack.
 use Rattle.std.proofs.Common.{◌≡◌, ℕ, ◌+◌, ◌++◌, ℤ, pos, negsuc, neg_ℤ, Bool, true, false, not, ◌&&◌, List, [], ◌∷◌, length, take, drop, reverse, Option, None, Some, Result, Ok, Err, refl, sym, ap, ◌∙◌, subst, arith, append_assoc, length-append, le-ltb, eqb-true}
+use Rattle.std.specs.Option.{option_map_or}
 use Rattle.std.specs.Prelude.{◌==◌, IsTrue, nat_lt, if◌then◌else◌}
 use Rattle.std.proofs.Math.Seq.{take-append_seam, drop-append_seam}
 use Rattle.std.proofs.lemmas.Bool.{and_parts}
@@ -18,7 +19,7 @@ use Rattle.mate_code.specs.CodeUses.{use_of}
 use Rattle.mate_code.specs.declared.uses.Use.TheVariants.{Calls}
 use Rattle.mate_code.specs.declared.uses.Use.{Use}
 use Rattle.mate_num.specs.Uses.{function_shape}
-use Rattle.mate_code.specs.Effect.{Effect, Asks, asks, gives, args_in, args_of}
+use Rattle.mate_code.specs.Effect.{Effect, Asks, asks, gives, args_of}
 use Rattle.mate_num.specs.Operators.{or_div_zero, truth_value, or_div_zero as quotient_or_fault}
 use Rattle.mate_code.specs.Instr.{size_of}
 use Rattle.mate_code.specs.Run.{Code, Run, asked as asked_of, executed, run_by}
@@ -91,7 +92,7 @@ asks-pushed n f values stack next s e =
     ∙ asks-reverse f values stack next s
 
 -- a function is there for a right call, and pops as many values as there are arguments
-takes-args : (found : Option FunShape) (n : ℕ) → takes found n ≡ true → n ≡ args_in found
+takes-args : (found : Option FunShape) (n : ℕ) → takes found n ≡ true → n ≡ option_map_or (λ (f : FunShape). f.args) found 0
 takes-args None n is = cc
 takes-args (Some f) n is = sym (eqb-true f.args n (and_parts (not f.send) (f.args == n) is).1)
 

@@ -1,5 +1,6 @@
 -- The pass over an expression raises the depth by one, and needs no more than the expression does.
 use Rattle.std.proofs.Common.{◌≡◌, ℕ, suc, ◌+◌, ◌≤◌, ℤ, pos, negsuc, List, [], ◌∷◌, ◌++◌, Bool, true, false, Option, None, Some, refl, ap, ◌∙◌, arith}
+use Rattle.std.specs.Option.{option_map_or}
 use Rattle.std.specs.Prelude.{◌&&◌, ◌==◌, not, nat_lt, if◌then◌else◌, slice_get}
 use Rattle.std.proofs.lemmas.Bool.{and_parts, eqb-true}
 use Rattle.mate_num.specs.declared.id.BufId.{BufId}
@@ -8,7 +9,6 @@ use Rattle.mate_num.specs.declared.shape.Shape.{Shape}
 use Rattle.mate_num.specs.declared.shape.FunShape.{FunShape}
 use Rattle.mate_code.specs.declared.instr.Instr.{Instr}
 use Rattle.mate_code.specs.declared.instr.Instr.TheVariants as instr
-use Rattle.mate_code.specs.Effect.{args_in}
 use Rattle.mate_code.specs.Flow.{flow_of, pops_of, pushes_of, is_in_range}
 use Rattle.mate_code.specs.declared.flow.Flow.TheVariants.{Next}
 use Rattle.mate_code.specs.Instr.{size_of}
@@ -60,7 +60,7 @@ operator_is_plain : (shape : Shape) (o : BinOp) → IsPlain shape (operator_code
 operator_is_plain shape op.Or = record { next = refl; in_range = refl; pops_are = refl; pushes_are = refl }
 operator_is_plain shape _ = record { next = refl; in_range = refl; pops_are = refl; pushes_are = refl }
 
-takes-args : (o : Option FunShape) (count : ℕ) → takes o count ≡ true → args_in o ≡ count
+takes-args : (o : Option FunShape) (count : ℕ) → takes o count ≡ true → option_map_or (λ (f : FunShape). f.args) o 0 ≡ count
 takes-args None count e = absurd cc
 takes-args (Some f) count e = eqb-true f.args count (and_parts (not f.send) (f.args == count) e).1
 

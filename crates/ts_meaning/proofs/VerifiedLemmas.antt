@@ -1,5 +1,7 @@
 -- The code of a script that is right for a machine, and that needs a stack of at most 16 values, is verified.
-use Rattle.std.proofs.Common.{◌≡◌, ℕ, ◌+◌, ◌<◌, ◌≤◌, ℤ, pos, negsuc, List, [], ◌∷◌, ◌++◌, Bool, true, false, Result, Ok, refl, ap, sym, ◌∙◌, subst, arith, append_assoc}
+use Rattle.std.proofs.Common.{◌≡◌, ℕ, ◌+◌, ◌<◌, ◌≤◌, ℤ, pos, negsuc, List, [], ◌∷◌, ◌++◌, Bool, true, false, Result, Ok, Err, refl, ap, sym, ◌∙◌, subst, arith, append_assoc}
+use Rattle.mate_code.specs.declared.fault.VerifyFault.TheVariants.{NoHalt}
+use Rattle.mate_num.specs.Results.{◌>>=◌}
 use Rattle.std.specs.Prelude.{◌&&◌, ◌==◌, IsTrue}
 use Rattle.std.proofs.lemmas.Bool.{and_parts, ne_eqb}
 use Rattle.mate_num.specs.declared.shape.Shape.{Shape}
@@ -8,7 +10,8 @@ use Rattle.mate_code.specs.declared.instr.Instr.TheVariants as instr
 use Rattle.mate_code.specs.Code.{placed}
 use Rattle.mate_code.specs.Instr.{size_of}
 use Rattle.mate_code.specs.Run.{Code}
-use Rattle.mate_code.specs.Verification.{Refusal, DepthMark, Blank, Depth, Marks, first_marks, is_start, pass, halts, if_halts}
+use Rattle.mate_code.specs.declared.fault.VerifyFault.{VerifyFault}
+use Rattle.mate_code.specs.Verification.{DepthMark, Blank, Depth, Marks, first_marks, is_start, pass, halts}
 use Rattle.mate_code.proofs.BytesVerificationLemmas.{placed-AreFrom}
 use Rattle.ts_checked.specs.Expression.{Expression, Call, SendBuf}
 use Rattle.ts_checked.specs.Statement.{Statement, Block, no_statements, statement, Set, SetItem, Append, Take, Clear, Do, DoSend, If, IfElse, For, While}
@@ -341,7 +344,7 @@ IsAccepted-script_code shape tree right need =
       record {
         places = placed-AreFrom 0 (script_code tree);
         passed =
-            ap (λ (b : Bool). if_halts b (pass shape (code_of tree) first_marks (code_of tree))) (halts-last 0 (block_code 0 tree))
-            ∙ ap (λ (r : Result Marks Refusal). if_halts true r) p.passed;
+            ap (λ (b : Bool). pass shape (code_of tree) first_marks (code_of tree) >>= (λ marks. if b then Ok marks else Err NoHalt)) (halts-last 0 (block_code 0 tree))
+            ∙ ap (λ (r : Result Marks VerifyFault). r >>= (λ marks. if true then Ok marks else Err NoHalt)) p.passed;
       },
     )

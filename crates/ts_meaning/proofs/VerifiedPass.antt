@@ -1,5 +1,7 @@
 -- The pass over parts of code: which marks it needs, and which it leaves.
 use Rattle.std.proofs.Common.{◌≡◌, ◌≢◌, ℕ, ◌+◌, ◌<◌, ◌≤◌, List, [], ◌∷◌, ◌++◌, Bool, true, false, Option, None, refl, ap, sym, ◌∙◌, subst, arith, append_assoc}
+use Rattle.std.specs.Prelude.{Err}
+use Rattle.std.specs.Option.{option_map_or}
 use Rattle.std.specs.Prelude.{◌==◌, not, nat_le, ⊤}
 use Rattle.std.proofs.lemmas.Bool.{ne_eqb, eq-eqb, le-leb}
 use Rattle.mate_num.specs.declared.shape.Shape.{Shape}
@@ -10,7 +12,8 @@ use Rattle.mate_code.specs.declared.flow.Flow.TheVariants.{Next}
 use Rattle.mate_code.specs.declared.flow.Flow.{Flow}
 use Rattle.mate_code.specs.Instr.{size_of}
 use Rattle.mate_code.specs.Run.{Code}
-use Rattle.mate_code.specs.Verification.{Refusal, DepthMark, Blank, Depth, Clash, Marks, given, depth_in, depth_at, is_clash, mark, depth_after, has_target, has_direction, has_back_depth, demand, refusal_at, marks_after, instr_marks, unless, pass}
+use Rattle.mate_code.specs.declared.fault.VerifyFault.{VerifyFault}
+use Rattle.mate_code.specs.Verification.{DepthMark, Blank, Depth, Clash, Marks, given, depth_in, depth_at, is_clash, mark, depth_after, has_target, has_direction, has_back_depth, demand, refusal_at, marks_after, instr_marks, pass}
 
 -- ---- marks
 
@@ -52,7 +55,7 @@ pub record Passes (shape : Shape) (code : Code) (marks : Marks) (place depth : �
   pub room : depth_after shape i depth ≤ 16
   pub back : has_back_depth marks (depth_after shape i depth) (flow_of i) ≡ true
 
-demands : (a b c d e f g : Bool) (r1 r2 r3 r4 r5 r6 r7 : Refusal) → a ≡ true → b ≡ true → c ≡ true → d ≡ true → e ≡ true → f ≡ true → g ≡ true
+demands : (a b c d e f g : Bool) (r1 r2 r3 r4 r5 r6 r7 : VerifyFault) → a ≡ true → b ≡ true → c ≡ true → d ≡ true → e ≡ true → f ≡ true → g ≡ true
     → demand a r1 (demand b r2 (demand c r3 (demand d r4 (demand e r5 (demand f r6 (demand g r7 None)))))) ≡ None
 demands a b c d e f g r1 r2 r3 r4 r5 r6 r7 p1 p2 p3 p4 p5 p6 p7 = rw (p1, p2, p3, p4, p5, p6, p7) refl
 
@@ -67,7 +70,7 @@ passes_step {shape} {code} {marks} {place} {depth} {i} h rest =
     let room : nat_le (depth_after shape i (depth_at marks place)) 16 ≡ true = ap (λ (n : ℕ). nat_le (depth_after shape i n) 16) at ∙ le-leb (depth_after shape i depth) 16 h.room in
     let back : has_back_depth marks (depth_after shape i (depth_at marks place)) (flow_of i) ≡ true = ap (λ (n : ℕ). has_back_depth marks (depth_after shape i n) (flow_of i)) at ∙ h.back in
     let none : refusal_at shape code marks place i ≡ None = demands _ _ _ _ _ _ _ _ _ _ _ _ _ _ clear h.in_range h.target h.direction operands room back in
-    ap (λ (o : Option Refusal). unless o (pass shape code (instr_marks shape place i marks) rest)) none
+    ap (λ (o : Option VerifyFault). option_map_or Err o (pass shape code (instr_marks shape place i marks) rest)) none
     ∙ ap (λ (n : ℕ). pass shape code (marks_after (flow_of i) (place + size_of i) (depth_after shape i n) marks) rest) at
 
 -- ---- parts of code

@@ -1,6 +1,6 @@
 -- What a run of a script holds on its way, and how a part of it ends.
 use Rattle.std.specs.Prelude.{ℕ, zero, suc, ℤ, pos, Bool, true, false, List, [], ◌∷◌, ◌++◌, Result, Ok, Err, take, replicate}
-use Rattle.std.specs.Prelude.{slice_index_or, slice_set, ⊤}
+use Rattle.std.specs.Prelude.{if◌then◌else◌, slice_index_or, slice_set, ⊤}
 use Rattle.arrayvec.specs.ArrayVec.{ArrayVec}
 use Rattle.mate_num.specs.Store.{value_at, set_value, buffer_at, set_buffer, without_last}
 use Rattle.mate_num.specs.declared.store.Store.{Store}
@@ -88,12 +88,9 @@ abbrev pub with_turns : ℕ → (ScriptState → Evaluation ⊤) → ScriptState
 with_turns zero next s = Over (Fault Overrun) s
 with_turns (suc n) next s = next (record s { turns = n })
 
-abbrev pub go_back : (ScriptState → Evaluation ⊤) → ScriptState → Evaluation ⊤
-go_back next s = with_turns s.turns next s
-
 -- after a round a loop goes back, or is done
 abbrev pub after_round : (ScriptState → Evaluation ⊤) → Bool → ScriptState → Evaluation ⊤
-after_round next true s = go_back next s
+after_round next true s = with_turns s.turns next s
 after_round next false s = Done tt s
 
 -- a loop that goes back at most n times
@@ -107,8 +104,7 @@ loop_does round s = rounds s.turns round s
 
 -- the first at true, and else the second
 abbrev pub choose : Bool → (ScriptState → Evaluation ⊤) → (ScriptState → Evaluation ⊤) → ScriptState → Evaluation ⊤
-choose true a b s = a s
-choose false a b s = b s
+choose test a b s = if test then a s else b s
 
 -- a round of a loop: at true the body runs and the loop may go back, and else it ends
 abbrev pub round_if : Bool → (ScriptState → Evaluation ⊤) → ScriptState → Evaluation Bool

@@ -42,7 +42,7 @@ impl<'a> Evaluator<'a> {
     ghost use Rattle.std.specs.Prelude.{◌≡◌, ◌<◌, ◌≤◌, [], length, OnOk, pos};
     ghost use Rattle.mate_num.specs.Store.{value_at, buffer_at, item_of, appended, item_set, last_of};
     ghost use Rattle.ts_meaning.specs.State.{value_or_fault, private_at, variable_at, with_variable, with_buffer, buffer_changed, moved};
-    ghost use Rattle.ts_meaning.specs.State.{next_answer, begun_state, go_back, Done};
+    ghost use Rattle.ts_meaning.specs.State.{next_answer, begun_state, with_turns, Done};
     ghost use Rattle.ts_meaning.specs.Meaning.{outcome_at};
     ghost use Rattle.ts_play.specs.Follows.{state_of, FollowsMeaning};
 
@@ -248,7 +248,7 @@ impl<'a> Evaluator<'a> {
 
     /// Pays a turn for going back; the fault `Overrun` if none is left.
     pub(crate) fn pay(&mut self) -> Result<(), Stop>
-        ensures follows { FollowsMeaning (go_back (Done tt)) self.old result self.new }
+        ensures follows { FollowsMeaning (λ s. with_turns s.turns (Done tt) s) self.old result self.new }
         ensures turns { OnOk result (self.new.turns < self.old.turns) }
         ensures falls { self.new.turns ≤ self.old.turns }
     {

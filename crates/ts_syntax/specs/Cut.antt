@@ -1,5 +1,7 @@
 -- How bytes are cut into tokens, byte by byte from the left.
 use Rattle.std.specs.Prelude.{ℕ, ◌+◌, ◌-◌, ◌*◌, Bool, ◌&&◌, ◌||◌, ◌==◌, nat_lt, nat_le, if◌then◌else◌, List, [], ◌∷◌, ◌++◌, length, map, Option, Some, None, Result, Ok, Err}
+use Rattle.mate_num.specs.Results.{result_map}
+use Rattle.std.specs.List.{find}
 use Rattle.std.specs.Str.{bytes_eq}
 use Rattle.ts_syntax.specs.declared.dialect.Dialect.{Dialect}
 use Rattle.ts_syntax.specs.declared.dialect.Dialect.TheVariants as dialect
@@ -24,20 +26,13 @@ abbrev pub in_name : ℕ → Bool
 in_name b = begins_name b || is_digit b
 
 -- the signs of one byte that no other byte can lengthen
+abbrev pub signs : List TokenKind
+signs = kind.Semi ∷ kind.Comma ∷ kind.Open ∷ kind.Close ∷ kind.OpenBox ∷ kind.CloseBox ∷ kind.Eq ∷ kind.Plus ∷ kind.Minus ∷ kind.Star
+    ∷ kind.Slash ∷ kind.Percent ∷ []
+
+-- the one of these that a byte is
 abbrev pub sign_of : ℕ → Option TokenKind
-sign_of b =
-    if b == 59 then Some kind.Semi else
-    if b == 44 then Some kind.Comma else
-    if b == 40 then Some kind.Open else
-    if b == 41 then Some kind.Close else
-    if b == 91 then Some kind.OpenBox else
-    if b == 93 then Some kind.CloseBox else
-    if b == 61 then Some kind.Eq else
-    if b == 43 then Some kind.Plus else
-    if b == 45 then Some kind.Minus else
-    if b == 42 then Some kind.Star else
-    if b == 47 then Some kind.Slash else
-    if b == 37 then Some kind.Percent else None
+sign_of b = find (λ k. bytes_eq (b ∷ []) (token_text k)) signs
 
 abbrev pub keywords : List TokenKind
 keywords = kind.Shared ∷ kind.Private ∷ kind.Buffer ∷ kind.If ∷ kind.Then ∷ kind.Else ∷ kind.End ∷ kind.For ∷ kind.To ∷ kind.Step
@@ -116,8 +111,7 @@ at_end i _ = Ok []
 
 -- tokens before others
 abbrev pub with_front : List Token → Result (List Token) CutFault → Result (List Token) CutFault
-with_front ts (Ok us) = Ok (ts ++ us)
-with_front ts (Err f) = Err f
+with_front ts rest = result_map (λ us. ts ++ us) rest
 
 -- the rest of the text after a turn, where rest gives the tokens of a mode there
 abbrev pub turned : (Mode → Result (List Token) CutFault) → CutStep → Result (List Token) CutFault

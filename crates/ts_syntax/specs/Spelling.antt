@@ -1,5 +1,5 @@
 -- What a tree spells: its kinds of tokens, and the places that it keeps.
-use Rattle.std.specs.Prelude.{ℕ, Bool, true, false, List, [], ◌∷◌, ◌++◌, Option, Some, None, map}
+use Rattle.std.specs.Prelude.{ℕ, Bool, true, false, if◌then◌else◌, List, [], ◌∷◌, ◌++◌, Option, Some, None, map}
 use Rattle.ts_checked.specs.declared.bin_op.BinOp.{BinOp}
 use Rattle.ts_checked.specs.declared.bin_op.BinOp.TheVariants as op
 use Rattle.ts_syntax.specs.declared.word.Word.{Word}
@@ -57,8 +57,7 @@ abbrev mutual
 
 -- the sign before a step's literal
 abbrev pub minus_spelled : Bool → List TokenKind
-minus_spelled true = kind.Minus ∷ []
-minus_spelled false = []
+minus_spelled minus = if minus then kind.Minus ∷ [] else []
 
 abbrev pub step_spelled : Option Step → List TokenKind
 step_spelled None = []
@@ -111,13 +110,11 @@ decl_keyword decl.Buffer = kind.Buffer
 
 -- what is before a declared name: its keyword, or a comma after a name of the same declaration
 abbrev pub decl_start : Bool → DeclKind → TokenKind
-decl_start true k = decl_keyword k
-decl_start false k = kind.Comma
+decl_start first k = if first then decl_keyword k else kind.Comma
 
 -- the sign that ends a declaration, if another one follows
 abbrev pub decl_end : Bool → List TokenKind
-decl_end true = kind.Semi ∷ []
-decl_end false = []
+decl_end first = if first then kind.Semi ∷ [] else []
 
 -- what is between a declared name and those after it
 abbrev pub decls_gap : List Decl → List TokenKind

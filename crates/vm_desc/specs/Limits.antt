@@ -1,5 +1,6 @@
 -- What a description holds, and its lengths, ranges and rules.
 use Rattle.std.specs.Prelude.{ℕ, List, length, map, Bool, true, ◌&&◌, ◌+◌, ◌*◌, ◌%◌, ◌^◌, ◌==◌, nat_le, Option, Some, None, is_none, ◌++◌, sum_by}
+use Rattle.std.specs.Option.{option_or}
 use Rattle.std.specs.List.{list_all}
 use Rattle.mate_num.specs.declared.bounds.TheConstants.{SHARED_MAX, BUFFERS_MAX, DEVICES_MAX, HANDLERS_MAX, CONTEXTS_MAX, FRAGMENTS_MAX, HOUR}
 use Rattle.vm_desc.specs.Names.{between, is_name, first_repeat}
@@ -60,16 +61,12 @@ round_time handlers r = handlers * FRAGMENTS_MAX * r.gap + 3 * r.delay
 abbrev pub context_sum : List Handler → ℕ
 context_sum handlers = sum_by (λ h. h.contexts) handlers
 
-abbrev pub first_of_two : Option (List ℕ) → Option (List ℕ) → Option (List ℕ)
-first_of_two None later = later
-first_of_two (Some name) later = Some name
-
 -- the first name that its list repeats: shared variables and buffers are one list
 abbrev pub duplicate_among : List (List ℕ) → List (List ℕ) → List (List ℕ) → List Handler → List Function → Option (List ℕ)
 duplicate_among shared buffers devices handlers functions =
-    first_of_two (first_repeat (shared ++ buffers))
-    (first_of_two (first_repeat devices)
-    (first_of_two (first_repeat (map (λ h. h.name) handlers))
+    option_or (first_repeat (shared ++ buffers))
+    (option_or (first_repeat devices)
+    (option_or (first_repeat (map (λ h. h.name) handlers))
     (first_repeat (map (λ f. f.name) functions))))
 
 abbrev pub duplicate_of : Parts → Option (List ℕ)

@@ -1,5 +1,6 @@
 -- The rules on the parts of a description together, each with its refusal.
-use Rattle.std.specs.Prelude.{ℕ, List, nat_lt, if◌then◌else◌, Option, Some, None, Result, Ok, Err}
+use Rattle.std.specs.Prelude.{ℕ, List, nat_lt, if◌then◌else◌, Option, Result, Ok, Err}
+use Rattle.std.specs.Option.{option_map_or}
 use Rattle.mate_num.specs.declared.bounds.TheConstants.{CONTEXTS_MAX}
 use Rattle.vm_desc.specs.Limits.{context_sum}
 use Rattle.vm_desc.specs.declared.key.Key.TheVariants as key
@@ -13,8 +14,7 @@ few_contexts handlers = if nat_lt CONTEXTS_MAX (context_sum handlers) then Err (
 
 -- no name is twice in its list
 abbrev pub no_repeat : Option (List ℕ) → Result (Unit {0}) DescFault
-no_repeat None = Ok tt
-no_repeat (Some twice) = Err (Duplicate twice)
+no_repeat twice = option_map_or (λ name. Err (Duplicate name)) twice (Ok tt)
 
 -- the longest interval has what a round needs
 abbrev pub in_time : ℕ → ℕ → Result (Unit {0}) DescFault

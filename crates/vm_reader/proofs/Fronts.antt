@@ -8,7 +8,8 @@ use Rattle.toml.specs.Data.{Members, as_table}
 use Rattle.toml.specs.View.{view, items_view}
 use Rattle.toml.specs.declared.value.Value.{Value}
 use Rattle.toml.proofs.Views.{items_view-drop}
-use Rattle.vm_reader.specs.Fields.{◌>>=◌, each, tables_in, are_tables}
+use Rattle.mate_num.specs.Results.{◌>>=◌}
+use Rattle.vm_reader.specs.Fields.{each, tables_in, are_tables}
 use Rattle.vm_desc.specs.declared.fault.DescFault.{DescFault}
 
 -- the items in front of those that a reading gives

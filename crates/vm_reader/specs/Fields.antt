@@ -1,21 +1,17 @@
 -- How the values of a description's keys are read, and the first refusal.
 use Rattle.std.specs.Prelude.{◌≡◌, ℕ, suc, List, [], ◌∷◌, ℤ, pos, negsuc, Bool, true, false, ◌&&◌, nat_lt, if◌then◌else◌, String, Option, Some, None, is_some, option_map, option_and_then, Result, Ok, Err}
-use Rattle.std.specs.Option.{option_map_or}
+use Rattle.std.specs.Option.{option_map_or, ok_or}
 use Rattle.std.specs.Borrow.{Bor}
 use Rattle.std.specs.BTreeMap.{BTreeMap}
 use Rattle.std.specs.declared.alloc.Global.{Global}
 use Rattle.toml.specs.View.{view, table_view}
 use Rattle.toml.specs.declared.value.Value.{Value}
 use Rattle.toml.specs.Data.{Data, Items, no_items, item, Members, as_integer, as_str, as_array, as_table, get_member}
+use Rattle.mate_num.specs.Results.{◌>>=◌}
 use Rattle.vm_desc.specs.Names.{between, name_of}
 use Rattle.vm_desc.specs.declared.key.Key.{Key}
 use Rattle.vm_desc.specs.declared.fault.DescFault.{DescFault}
 use Rattle.vm_desc.specs.declared.fault.DescFault.TheVariants.{BadField, OverLimit}
-
-infixl 10 ◌>>=◌
-abbrev pub ◌>>=◌ : {A B : Type 0} → Result A DescFault → (A → Result B DescFault) → Result B DescFault
-(Ok x) >>= f = f x
-(Err e) >>= f = Err e
 
 -- what a function returned, seen by view, is what the reading gives
 abbrev pub GivesField : {X Y : Type 0} → (X → Y) → Result X DescFault → Result Y DescFault → Type 0
@@ -24,13 +20,11 @@ GivesField view (Err e) reading = reading ≡ Err e
 
 -- the value, or BadField with the key
 abbrev pub taken : {A : Type 0} → Key → Option A → Result A DescFault
-taken key None = Err (BadField key)
-taken key (Some x) = Ok x
+taken key o = ok_or o (BadField key)
 
 -- BadField with the key, if a rule doesn't hold
 abbrev pub allowed : Key → Bool → Result (Unit {0}) DescFault
-allowed key true = Ok tt
-allowed key false = Err (BadField key)
+allowed key test = if test then Ok tt else Err (BadField key)
 
 -- the value of a key that may be absent, if there may be a default
 abbrev pub field : {A : Type 0} → Key → (Data → Option A) → Option A → Option Data → Result A DescFault

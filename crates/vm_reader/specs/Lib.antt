@@ -1,4 +1,5 @@
 pub mod Reading
+pub mod Halves
 pub mod Openings
 pub mod Text
 pub mod Places

@@ -8,7 +8,8 @@ use Rattle.toml.specs.Data.{Data, Members, as_str, get_member}
 use Rattle.mate_num.specs.declared.id.DeviceId.{DeviceId}
 use Rattle.vm_desc.specs.Limits.{Parts, duplicate_of, round_time, longest}
 use Rattle.vm_desc.specs.Rules.{few_contexts, no_repeat, in_time}
-use Rattle.vm_reader.specs.Fields.{◌>>=◌, taken, field, number, name, names, tables, each, section, member_of, allowed, absent, word_as}
+use Rattle.mate_num.specs.Results.{◌>>=◌}
+use Rattle.vm_reader.specs.Fields.{taken, field, number, name, names, tables, each, section, member_of, allowed, absent, word_as}
 use Rattle.vm_desc.specs.declared.key.Key.TheVariants as key
 use Rattle.vm_desc.specs.declared.fault.DescFault.{DescFault}
 use Rattle.vm_desc.specs.declared.handler.Handler.{Handler}
@@ -118,45 +119,28 @@ ruled p = do
   timely ← in_time (round_time (length p.handlers) p.radio) (longest p.trickle)
   Ok p
 
--- the keys before the handlers
-pub record Opening : Type 0 where
-  pub vm_id : ℕ
-  pub shared : List (List ℕ)
-  pub buffers : List (List ℕ)
-  pub devices : List (List ℕ)
-  pub turns : ℕ
-  pub quantum : ℕ
-
-unfoldable pub opening_at : Members → Result Opening DescFault
-opening_at doc = do
+-- all keys of a document, and the rules on the whole
+unfoldable pub description_at : Members → Result Parts DescFault
+description_at doc = do
   vm_id ← field key.Vm (number 0 4294967295) None (get_member (codes "vm") doc)
   shared ← names key.Shared 16 (get_member (codes "shared") doc)
   buffers ← names key.Buffers 8 (get_member (codes "buffers") doc)
   devices ← names key.Devices 8 (get_member (codes "devices") doc)
   turns ← field key.Turns (number 0 1000000) (Some 10000) (get_member (codes "turns") doc)
   quantum ← field key.Quantum (number 1 10000) (Some 16) (get_member (codes "quantum") doc)
-  Ok (record { vm_id = vm_id; shared = shared; buffers = buffers; devices = devices; turns = turns; quantum = quantum })
-
--- the keys from the handlers on, and the rules on the whole
-unfoldable pub from_handlers_at : Opening → Members → Result Parts DescFault
-from_handlers_at o doc = do
   handlers ← handlers_at (get_member (codes "handler") doc)
-  functions ← functions_at o.devices (get_member (codes "function") doc)
+  functions ← functions_at devices (get_member (codes "function") doc)
   trickle ← trickle_of doc
   radio ← radio_of doc
   ruled (record {
-    vm_id = o.vm_id;
+    vm_id = vm_id;
     handlers = handlers;
     functions = functions;
-    shared = o.shared;
-    buffers = o.buffers;
-    devices = o.devices;
-    turns = o.turns;
-    quantum = o.quantum;
+    shared = shared;
+    buffers = buffers;
+    devices = devices;
+    turns = turns;
+    quantum = quantum;
     trickle = trickle;
     radio = radio;
   })
-
--- all keys of a document
-abbrev pub description_at : Members → Result Parts DescFault
-description_at doc = opening_at doc >>= (λ o. from_handlers_at o doc)

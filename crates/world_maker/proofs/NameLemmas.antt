@@ -1,5 +1,6 @@
 -- The names of a machine, as a source's words, and its first sensor among its functions.
 use Rattle.std.proofs.Common.{◌≡◌, ℕ, ◌+◌, ◌≤◌, Bool, true, false, not, ◌&&◌, ◌||◌, ◌==◌, nat_le, cond, List, [], ◌∷◌, ◌++◌, length, map, Option, Some, None, refl, sym, ◌∙◌, ap, subst, arith}
+use Rattle.std.specs.Option.{option_or}
 use Rattle.std.specs.List.{list_any, list_all}
 use Rattle.std.specs.Str.{bytes_eq}
 use Rattle.std.proofs.lemmas.Bool.{and_parts, leb-true, not-true, cond-true, cond-false}
@@ -12,7 +13,7 @@ use Rattle.vm_desc.specs.declared.function.FunKind.TheVariants as fun
 use Rattle.vm_desc.specs.Names as desc
 use Rattle.vm_desc.specs.Names.{between, continues_name, reserved_words, is_keyword, has_form, is_name, stands_in, repeat_after}
 use Rattle.mate_num.specs.Shapes.{is_device}
-use Rattle.vm_desc.specs.Limits.{is_function, first_of_two, function_args}
+use Rattle.vm_desc.specs.Limits.{is_function, function_args}
 use Rattle.ts_syntax.specs.declared.token.TokenKind.{TokenKind}
 use Rattle.ts_syntax.specs.declared.token.TokenKind.TheVariants as kind
 use Rattle.ts_syntax.specs.Text.{token_text}
@@ -144,6 +145,6 @@ found_sensor i seen (g ∷ fs) f apart e = by (stands_in seen g.name) apart (λ 
     by true apart rest = absurd cc
     by false apart rest = last (reads_sensor g.kind) refl e apart (rest apart)
 
-pub last_of_two : (a b : Option (List ℕ)) → first_of_two a b ≡ None → b ≡ None
+pub last_of_two : (a b : Option (List ℕ)) → option_or a b ≡ None → b ≡ None
 last_of_two None b h = h
 last_of_two (Some w) b h = absurd cc

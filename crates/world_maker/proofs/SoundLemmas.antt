@@ -10,7 +10,7 @@ use Rattle.mate_num.specs.declared.id.VarId.{VarId}
 use Rattle.vm_desc.specs.declared.description.Description.{Description}
 use Rattle.vm_desc.specs.declared.function.FunKind.TheVariants as fun
 use Rattle.vm_desc.specs.Bounds.{HasBounds, HasItems}
-use Rattle.vm_desc.specs.Limits.{first_of_two, is_function}
+use Rattle.vm_desc.specs.Limits.{is_function}
 use Rattle.vm_desc.specs.Names.{is_name, first_repeat, repeat_after}
 use Rattle.vm_desc.proofs.DescriptionLemmas.{bounds_of, items_of}
 use Rattle.mate_code.specs.declared.instr.Instr.{Instr}

@@ -14,7 +14,8 @@ use Rattle.vm_desc.proofs.DescriptionLemmas.{items_of}
 use Rattle.mate_num.specs.declared.bounds.TheConstants.{CODE_MAX, STACK_MAX}
 use Rattle.mate_num.specs.declared.id.HandlerId.{HandlerId}
 use Rattle.mate_journal.specs.declared.program.Program.{Program}
-use Rattle.mate_refusals.specs.SourceCauses.{IsBadSource, refusal_told}
+use Rattle.mate_refusals.specs.SourceCauses.{IsBadSource}
+use Rattle.mate_refusals.proofs.CauseLemmas.{refusal_told, refused-by}
 use Rattle.mate_refusals.specs.declared.refusal.Refusal.{Refusal}
 use Rattle.mate_refusals.specs.declared.refusal.Refusal.TheVariants.{NoMemory}
 use Rattle.mate_steps.specs.SourceCode.{compiled_tree, IsCompiledOf, HasNoCode}
@@ -82,7 +83,7 @@ pub sound-code : (d : Description) (fold : Bool) (name bytes : List ℕ) (answer
 sound-code d fold name bytes answer sound (goes_on tree accepted rest) =
     let same : sound.tree ≡ tree = one_tree d bytes sound.tree tree sound.accepted accepted in
     of_tree d fold name bytes tree answer accepted (subst HasRoom same (record { need = sound.need; size = sound.size })) rest
-sound-code d fold name bytes answer sound (stops r (inl why) is) = absurd (apart d bytes sound.tree (refusal_told why.0) sound.accepted why.1)
+sound-code d fold name bytes answer sound (stops r (inl why) is) = absurd (apart d bytes sound.tree (refusal_told why.0) sound.accepted (refused-by d bytes why.0 why.1))
 sound-code d fold name bytes answer sound (stops r (inr wants) is) = subst (obtained (HasCode d fold bytes)) (sym is) wants
 
 -- ---- the loop over the handlers

@@ -9,7 +9,8 @@ use Rattle.vm_desc.specs.declared.description.Description.{Description}
 use Rattle.vm_desc.specs.Shapes.{shape_of}
 use Rattle.mate_code.specs.BytesVerification.{bytes_verification}
 use Rattle.mate_code.specs.Run.{Code}
-use Rattle.mate_code.specs.Verification.{Marks, Refusal}
+use Rattle.mate_code.specs.declared.fault.VerifyFault.{VerifyFault}
+use Rattle.mate_code.specs.Verification.{Marks}
 use Rattle.mate_journal.specs.Machine.{HeldProgram}
 use Rattle.mate_journal.specs.declared.program.Program.{Program}
 use Rattle.node_invariant.specs.Meaning.{meaning_of}
@@ -163,7 +164,7 @@ capsule-program d q p right handler version image = record {
   image_is : p.image.items ≡ capsule_image right.capsule
   image_is = sym image ∙ right.image
 
-  verified : (r : Result (Code × Marks) Refusal) → bytes_verification (shape_of d) right.capsule.code ≡ r → IsOk r → IsRightCapsule d p.image.items right.capsule
+  verified : (r : Result (Code × Marks) VerifyFault) → bytes_verification (shape_of d) right.capsule.code ≡ r → IsOk r → IsRightCapsule d p.image.items right.capsule
   verified (Err refusal) is ok = (let clash : false ≡ true = ok in cc)
   verified (Ok x) is ok = record {
     decoded = ap (capsule_in d) image_is ∙ capsule_again d right.capsule right.is_capsule right.of_machine;

@@ -3,7 +3,6 @@ use Rattle.std.proofs.lemmas.Result.{err_from_is_err_and}
 use Rattle.mate_code.specs.Run.{Code}
 use Rattle.mate_code.specs.Verification.{first_marks, pass, is_end, Marks}
 use Rattle.mate_code.proofs.VerificationLemmas.{fetch-range}
-use Rattle.code_verifier.specs.Faults.{refusal_of}
 use Rattle.code_verifier.specs.Marks.{marks_in}
 use Rattle.code_verifier.proofs.PassLemmas.{code_at, code_at-first, halts_behind, halts_behind-all, pass_at-goes, pass_at-stops, pass_at-ends, halts_at-goes, halts_at-ends}
 use Rattle.code_verifier.proofs.pass.pass.Goals as goal
@@ -28,7 +27,7 @@ returns-in_err-check_instr c =
     let p = err_from_is_err_and c.from_residual.result c.from_residual.ensures.1 in
     rw (p.1, p.2) (
     pass_at-stops c.args.shape.now c.args.code.now c.instrs.place (marks_in c.instrs.marks) _ c.instrs.invariant.so_far
-    c.in-Some.instr (refusal_of c.in_err-check_instr.field-0.0) c.requires.from (sym c.in-Some.ensures) c.in_err-check_instr.ensures)
+    c.in-Some.instr c.in_err-check_instr.field-0.0 c.requires.from (sym c.in-Some.ensures) c.in_err-check_instr.ensures)
 
 pub instrs-smaller : goal.instrs-smaller
 instrs-smaller c =

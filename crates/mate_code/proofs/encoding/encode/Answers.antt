@@ -4,7 +4,8 @@ use Rattle.mate_code.specs.declared.instr.Instr.{Instr}
 use Rattle.mate_code.specs.declared.instr.Instr.TheVariants.{Halt}
 use Rattle.mate_code.specs.Kind.{kind_of, form_of}
 use Rattle.mate_code.specs.Instr.{operand_of}
-use Rattle.mate_code.specs.Row.{Row}
+use Rattle.mate_code.specs.declared.kind.OperandForm.{OperandForm}
+use Rattle.mate_code.specs.declared.row.Opcode.{Opcode}
 use Rattle.mate_code.specs.Table.{opcode_in, opcode_of}
 use Rattle.mate_code.specs.Code.{operand_bytes, instr_bytes, code_bytes, decoded, IsWritable}
 use Rattle.mate_code.proofs.KindLemmas.{row-kind}
@@ -33,7 +34,7 @@ loop-instr-preserved c =
       bytes =
           c.put.ensures.bytes
           ∙ ap (λ (n : ℕ). c.loop-instr.code.items ++ n ∷ operand_bytes (form_of (kind_of i)) (operand_of i)) opcode
-          ∙ ap (λ (r : Row). c.loop-instr.code.items ++ opcode_in t r.opcode ∷ operand_bytes r.form (operand_of i)) (row-kind i)
+          ∙ ap (λ (w : Opcode × OperandForm). c.loop-instr.code.items ++ opcode_in t w.0 ∷ operand_bytes w.1 (operand_of i)) (row-kind i)
           ∙ ap (λ (bytes : List ℕ). bytes ++ instr_bytes t i) c.loop-instr.invariant.bytes
           ∙ sym (code_bytes-take t instrs c.loop-instr.instr-index Halt c.loop-instr-test.true);
       writable = IsWritable-take instrs c.loop-instr.instr-index Halt c.loop-instr-test.true c.loop-instr.invariant.writable c.put.ensures.writable;

@@ -8,7 +8,7 @@ use Rattle.ts_syntax.specs.Seen.{tree_of, trees_of}
 use Rattle.ts_checked.specs.TreeOf.{expr_tree, args_trees}
 use Rattle.ts_syntax.specs.declared.expr.Expr.{Expr}
 use Rattle.ts_checker.specs.declared.fault.CheckFault.{CheckFault}
-use Rattle.ts_checker.specs.Refusal.{◌>>=◌}
+use Rattle.mate_num.specs.Results.{◌>>=◌}
 use Rattle.ts_checker.specs.Answer.{GivesChecked}
 use Rattle.ts_checker.specs.Names.{ScriptNames}
 use Rattle.ts_checker.specs.Checks.{Called, calls, sends, as_expression, sent, checked_expr, checked_args, checked_call}
