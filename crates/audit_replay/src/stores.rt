@@ -29,7 +29,8 @@ pub fn shows_right(
     requires named { let l = trial.now.log.now in
         IsNamedBelow (length l.images) (length l.stores) entry.now }
     ensures { let l = trial.now.log.now in
-        IfOk result (λ b. b ≡ told.shows_right (machine_for trial.now) (roll_in l.images roll.now.roll) store.now (journal_entry l entry.now)) }
+        IfOk result (λ b. b ≡ told.shows_right (machine_for trial.now) (roll_in l.images roll.now.roll)
+        store.now (journal_entry l entry.now)) }
 {
     match entry {
         Entry::Seen { store: number } => {

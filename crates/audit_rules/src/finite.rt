@@ -21,7 +21,8 @@ pub fn following_is_told()
 /// Whoever is live has the program that is installed for its handler: at the beginning, and after each entry that may follow.
 pub fn programs_are_installed()
     ensures begins { LiveAreInstalled nobody }
-    ensures goes_on { (m : Machine) (x : Roll) (t : JournalEntry) → IsTrue (may_follow m x t) → LiveAreInstalled x → LiveAreInstalled (rolled x t) }
+    ensures goes_on { (m : Machine) (x : Roll) (t : JournalEntry) → IsTrue (may_follow m x t) → LiveAreInstalled x
+        → LiveAreInstalled (rolled x t) }
 {}
 
 /// Who is live is enough to decide whether a journal whose entries follow one another keeps the grant rule.

@@ -1,5 +1,5 @@
-//! The laws of a report that shows serial behaviour, in their order, what a verdict on a report says, and the roll of who is live, kept while a
-//! journal is read.
+//! The laws of a report that shows serial behaviour, in their order, what a verdict on a report says, and the roll of who is live, kept
+//! while a journal is read.
 #![tactic(auto)]
 
 pub mod finite;

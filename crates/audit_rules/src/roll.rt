@@ -49,7 +49,8 @@ impl Roll {
     /// Reads one more entry.
     pub fn hear(&mut self, alloc: Global, entry: &Entry) -> Result<(), NoMemory>
         requires { HasHandlerBelow 8 entry.now }
-        ensures { (l : Log) → OnOk result (roll_in l.images self.new ≡ told.rolled (roll_in l.images self.old) (journal_entry l entry.now)) }
+        ensures { (l : Log) → OnOk result (roll_in l.images self.new
+            ≡ told.rolled (roll_in l.images self.old) (journal_entry l entry.now)) }
     {
         match entry {
             Entry::Post {

@@ -18,8 +18,8 @@ abbrev pub text_behind : Description → StreamAnswers → List Frame → List �
 text_behind d s next = answer_lines d (suc s.number) (answers_from d (held_by s.held) next)
 
 -- what the frame of a piece adds to the text of the answers is printed
-pub record PrintsPiece (d : Description) (old new : StreamAnswers) (piece : List ℕ) (w : Option (List ℕ)) (f : ℕ) (r : Result (Unit {0}) SinkFault)
-    (w' : Option (List ℕ)) (f' : ℕ) (r' : Result (Unit {0}) SinkFault) : Type 0 where
+pub record PrintsPiece (d : Description) (old new : StreamAnswers) (piece : List ℕ) (w : Option (List ℕ)) (f : ℕ)
+    (r : Result (Unit {0}) SinkFault) (w' : Option (List ℕ)) (f' : ℕ) (r' : Result (Unit {0}) SinkFault) : Type 0 where
   pub told : List ℕ
   pub prints : Prints w f r w' f' r' told
   pub adds : (next : List Frame) → text_behind d old (frame_of piece ++ next) ≡ told ++ text_behind d new next

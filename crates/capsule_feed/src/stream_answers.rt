@@ -97,7 +97,8 @@ fn print_line<S: Sink>(pen: &mut Pen, out: &mut S, desc: &Description, number: u
 }
 
 /// Writes what a new node of the machine answers to the frames of a stream, a line each, with the frame's number from 1.
-/// It takes no memory: a frame is read where it stands in the stream, unless escapes are to be replaced in it. Where `out` fails, a prefix was written.
+/// It takes no memory: a frame is read in its place in the stream, unless escapes are to be replaced in it. If `out` fails, a prefix was
+/// written.
 pub fn write_answers<S: Sink>(
     desc: &Description,
     stream: &[u8],

@@ -158,7 +158,8 @@ impl NodeLog {
     pub fn push_install(&mut self, at: Stamp, handler: HandlerId, version: u32, image: &Image)
         requires room { 1 ≤ self.old.spare }
         requires count { length self.old.images < 4100000000 }
-        ensures entries { self.new.entries ≡ self.old.entries ++ record { stamp = at; entry = told.Install handler version (length self.old.images) } ∷ [] }
+        ensures entries { self.new.entries ≡ self.old.entries
+            ++ record { stamp = at; entry = told.Install handler version (length self.old.images) } ∷ [] }
         ensures images { self.new.images ≡ self.old.images ++ image.now ∷ [] }
         ensures stores { self.new.stores ≡ self.old.stores }
         ensures spare { self.old.spare ≤ self.new.spare + 1 }

@@ -87,7 +87,8 @@ impl OpenLog {
     pub fn push_seen(&mut self, at: Stamp, store: &Store)
         requires room { 1 ≤ self.old.all.spare }
         requires count { length self.old.all.stores < 4100000000 }
-        ensures entries { self.new.all.entries ≡ self.old.all.entries ++ record { stamp = at; entry = told.Seen (length self.old.all.stores) } ∷ [] }
+        ensures entries { self.new.all.entries ≡ self.old.all.entries
+            ++ record { stamp = at; entry = told.Seen (length self.old.all.stores) } ∷ [] }
         ensures images { self.new.all.images ≡ self.old.all.images }
         ensures stores { self.new.all.stores ≡ self.old.all.stores ++ store.now ∷ [] }
         ensures spare { self.old.all.spare ≤ self.new.all.spare + 1 }
@@ -100,7 +101,8 @@ impl OpenLog {
     pub fn push_install(&mut self, at: Stamp, handler: HandlerId, version: u32, image: &Image)
         requires room { 1 ≤ self.old.all.spare }
         requires count { length self.old.all.images < 4100000000 }
-        ensures entries { self.new.all.entries ≡ self.old.all.entries ++ record { stamp = at; entry = told.Install handler version (length self.old.all.images) } ∷ [] }
+        ensures entries { self.new.all.entries ≡ self.old.all.entries
+            ++ record { stamp = at; entry = told.Install handler version (length self.old.all.images) } ∷ [] }
         ensures images { self.new.all.images ≡ self.old.all.images ++ image.now ∷ [] }
         ensures stores { self.new.all.stores ≡ self.old.all.stores }
         ensures spare { self.old.all.spare ≤ self.new.all.spare + 1 }

@@ -72,7 +72,8 @@ impl Contexts {
     /// exactly if each is held back.
     pub fn grant(&mut self) -> Option<ContextId>
         requires { CanStart self.old }
-        ensures granted { MatchOption result (GrantsNone self.old.locks self.new.locks × (self.new ≡ self.old)) (StartsContext self.old self.new) }
+        ensures granted { MatchOption result (GrantsNone self.old.locks self.new.locks × (self.new ≡ self.old))
+            (StartsContext self.old self.new) }
         ensures small { IfSome result (λ ctx. ctx.0 < CONTEXTS_MAX) }
         ensures once { AreOnce (self.old.locks.started ++ self.old.locks.waiting) }
     {

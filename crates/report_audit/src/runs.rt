@@ -55,7 +55,8 @@ fn still_granted(
 ) -> bool
     requires { HasReadUpTo trial.now place roll.now }
     ensures { let l = trial.now.log.now in
-        result ≡ (so_far && grant.is_granted (conflict_of trial.now.desc.now) (roll_in l.images roll.now.roll) last (journal_entry l entry.now)) }
+        result ≡ (so_far && grant.is_granted (conflict_of trial.now.desc.now) (roll_in l.images roll.now.roll)
+        last (journal_entry l entry.now)) }
 {
     so_far && is_granted(trial, roll, place, last, entry)
 }

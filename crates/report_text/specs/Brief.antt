@@ -79,8 +79,8 @@ text_of_counts nodes events records posts drops halts faults installs sent got l
 abbrev pub count_lines : Report → List ℕ
 count_lines r =
     let of : EntryKind → ℕ = λ kind. entries_of kind r.nodes in
-    text_of_counts (length r.nodes) r.events (records r) (of entry_kind.Post) (of entry_kind.Drop) (of entry_kind.Halt) (of entry_kind.Fault)
-    (of entry_kind.Install) (air_of air_kind.Sent r.air) (air_of air_kind.Got r.air) (air_of air_kind.Lost r.air)
+    text_of_counts (length r.nodes) r.events (records r) (of entry_kind.Post) (of entry_kind.Drop) (of entry_kind.Halt)
+    (of entry_kind.Fault) (of entry_kind.Install) (air_of air_kind.Sent r.air) (air_of air_kind.Got r.air) (air_of air_kind.Lost r.air)
 
 -- the counts, a line per handler, and whether the run is whole
 abbrev pub brief : Description → Report → List ℕ

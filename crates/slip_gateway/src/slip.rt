@@ -92,7 +92,8 @@ impl Slip {
     /// they were: room for one frame for each `END` is taken first.
     pub fn feed(&mut self, piece: &[u8], into: &mut Frames) -> Result<(), NoMemory>
         ensures fed { OnOk result ((fed : List ℕ) → HasFed self.old fed → HasFed self.new (fed ++ piece.now)) }
-        ensures appends { OnOk result ((fed : List ℕ) → HasFed self.old fed → into.new ≡ into.old ++ frames_behind (unfinished fed) piece.now) }
+        ensures appends { OnOk result ((fed : List ℕ) → HasFed self.old fed
+            → into.new ≡ into.old ++ frames_behind (unfinished fed) piece.now) }
 
         // However the bytes are cut, it holds the frames of all of them.
         ensures holds { OnOk result ((fed : List ℕ) → HasFed self.old fed → into.old ≡ frames fed → into.new ≡ frames (fed ++ piece.now)) }

@@ -97,7 +97,8 @@ abbrev mutual
 abbrev pub checked_step : Option Step → Result ℤ CheckFault
 checked_step None = Ok (pos 1)
 checked_step (Some s) =
-    unless_refused (nat_lt 0 s.size && nat_le s.size 32767) (Kind s.place) >>= (λ _. Ok (if s.minus then neg_ℤ (pos s.size) else pos s.size))
+    unless_refused (nat_lt 0 s.size && nat_le s.size 32767) (Kind s.place)
+    >>= (λ _. Ok (if s.minus then neg_ℤ (pos s.size) else pos s.size))
 
 -- the head of a `for`: no call is in its limit
 pub record CheckedHead : Type 0 where

@@ -268,7 +268,8 @@ impl Printer {
     /// Prints what is before the block of an `if`.
     pub fn if_head<S: Sink, N: Naming>(&mut self, out: &mut S, naming: &N, test: &Expr)
         ensures { PrintsTokens (S.written out.old) (S.faults out.old) self.old
-            (S.written out.new) (S.faults out.new) self.new (kind.If ∷ spelled (named_expr (N.named naming.now) (tree_of test.now)) ++ (kind.Then ∷ [])) }
+            (S.written out.new) (S.faults out.new) self.new
+            (kind.If ∷ spelled (named_expr (N.named naming.now) (tree_of test.now)) ++ (kind.Then ∷ [])) }
     {
         self.token(out, " if");
         self.expr(out, naming, test);
@@ -336,7 +337,8 @@ impl Printer {
     /// Prints what is set, and the end of the statement.
     fn assigned<S: Sink, N: Naming>(&mut self, out: &mut S, naming: &N, value: &Expr)
         ensures { PrintsTokens (S.written out.old) (S.faults out.old) self.old
-            (S.written out.new) (S.faults out.new) self.new (kind.Eq ∷ spelled (named_expr (N.named naming.now) (tree_of value.now)) ++ (kind.Semi ∷ [])) }
+            (S.written out.new) (S.faults out.new) self.new
+            (kind.Eq ∷ spelled (named_expr (N.named naming.now) (tree_of value.now)) ++ (kind.Semi ∷ [])) }
     {
         self.token(out, " =");
         self.expr(out, naming, value);
@@ -352,7 +354,8 @@ impl Printer {
         value: &Expr,
     )
         ensures { PrintsTokens (S.written out.old) (S.faults out.old) self.old
-            (S.written out.new) (S.faults out.new) self.new (act_spelled (set word.now (named_expr (N.named naming.now) (tree_of value.now)))) }
+            (S.written out.new) (S.faults out.new) self.new
+            (act_spelled (set word.now (named_expr (N.named naming.now) (tree_of value.now)))) }
     {
         self.name(out, word);
         self.assigned(out, naming, value);

@@ -58,7 +58,8 @@ RightScriptsPlanRightly = (d : Description) (meaning : Meaning) (script : Script
 
 -- the image of every capsule has 1 to 22 fragments
 abbrev pub CapsulesHaveFewFragments : Type 0
-CapsulesHaveFewFragments = (c : CapsuleParts) → IsCapsule c → (1 ≤ count_of (capsule_image c)) × (count_of (capsule_image c) ≤ FRAGMENTS_MAX)
+CapsulesHaveFewFragments = (c : CapsuleParts) → IsCapsule c → (1 ≤ count_of (capsule_image c))
+    × (count_of (capsule_image c) ≤ FRAGMENTS_MAX)
 
 -- no install is refused
 abbrev pub ScriptsInstallsAreNewer : Type 0

@@ -104,5 +104,6 @@ place_from n node fun (s ∷ series) = if is_of_pair node fun s then n else plac
 pub record AreTables (linked : List Bool) (places : List ℕ) (w : World) : Type 0 where
   pub linked_len : length linked ≡ 4096
   pub places_len : length places ≡ 2048
-  pub links : (from to : ℕ) → from < NODES_MAX → to < NODES_MAX → slice_index_or linked (from * NODES_MAX + to) false ≡ is_linked from to w.links
+  pub links : (from to : ℕ) → from < NODES_MAX → to < NODES_MAX
+      → slice_index_or linked (from * NODES_MAX + to) false ≡ is_linked from to w.links
   pub series : (node fun : ℕ) → node < NODES_MAX → fun < 32 → slice_index places (node * 32 + fun) ≡ place_from 1 node fun w.series

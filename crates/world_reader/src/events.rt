@@ -61,8 +61,8 @@ impl Draft {
         requires files { length self.now.world.files < 2 ^ 32 }
         requires low { self.now.time ≤ time }
         requires high { time ≤ self.now.world.until }
-        ensures value { ReadsWords world_said_of (behind_time desc.now (world_progress_of self.now) time verb.now) (split_words words.old) result
-            (split_words words.new) }
+        ensures value { ReadsWords world_said_of (behind_time desc.now (world_progress_of self.now) time verb.now)
+            (split_words words.old) result (split_words words.new) }
         ensures right { IfOk result (λ c. IsRightWorldSaid desc.now (world_progress_of self.now) (world_said_of c)) }
     {
         if verb == "inject" {
@@ -120,7 +120,8 @@ impl Draft {
         requires keeps { KeepsWorld desc.now (world_progress_of self.now) }
         requires low { self.now.time ≤ time }
         requires high { time ≤ self.now.world.until }
-        ensures value { ReadsWords world_said_of (a_posting desc.now self.now.world time) (split_words words.old) result (split_words words.new) }
+        ensures value { ReadsWords world_said_of (a_posting desc.now self.now.world time)
+            (split_words words.old) result (split_words words.new) }
         ensures right { IfOk result (λ c. IsRightWorldSaid desc.now (world_progress_of self.now) (world_said_of c)) }
     {
         let node = node_in(self.world.nodes, words)?;
@@ -139,7 +140,8 @@ impl Draft {
         requires keeps { KeepsWorld desc.now (world_progress_of self.now) }
         requires low { self.now.time ≤ time }
         requires high { time ≤ self.now.world.until }
-        ensures value { ReadsWords world_said_of (a_noise desc.now self.now.world time) (split_words words.old) result (split_words words.new) }
+        ensures value { ReadsWords world_said_of (a_noise desc.now self.now.world time)
+            (split_words words.old) result (split_words words.new) }
         ensures right { IfOk result (λ c. IsRightWorldSaid desc.now (world_progress_of self.now) (world_said_of c)) }
     {
         let node = node_in(self.world.nodes, words)?;

@@ -112,7 +112,8 @@ impl Draft {
     fn series<'a>(&self, desc: &Description, words: &mut Words<'a>) -> Result<Command<'a>, Refusal>
         requires keeps { KeepsWorld desc.now (world_progress_of self.now) }
         requires stage { self.now.stage ≡ stages.Settings }
-        ensures value { ReadsWithMemory world_said_of (a_series desc.now self.now.world) (split_words words.old) result (split_words words.new) }
+        ensures value { ReadsWithMemory world_said_of (a_series desc.now self.now.world)
+            (split_words words.old) result (split_words words.new) }
         ensures right { IfOk result (λ c. IsRightWorldSaid desc.now (world_progress_of self.now) (world_said_of c)) }
     {
         let node = node_in(self.world.nodes, words)?;
