@@ -2,7 +2,7 @@
 use Rattle.std.proofs.Common.{◌≡◌, ◌≢◌, ◌⊎◌, ℕ, ◌+◌, ◌≤◌, ◌<◌, Bool, true, false, cond, eqb, List, [], ◌∷◌, ◌++◌, Option, Some, None, Result, Ok, Err, length, map, set, drop, ℤ, refl, sym, ◌∙◌, ap, subst, arith, inl, inr, get_or-set_same, get_or-set_other, length-set}
 use Rattle.std.specs.Result.{result_unwrap_or}
 use Rattle.mate_num.specs.Results.{result_map}
-use Rattle.std.specs.Prelude.{All, IsTrue, nat_lt, MatchBool, Bool}
+use Rattle.std.specs.Prelude.{IfOk, All, IsTrue, nat_lt, MatchBool, MatchResult, ⊤}
 use Rattle.std.specs.Option.{option_map}
 use Rattle.std.proofs.Math.Seq.{get_or-append_seam}
 use Rattle.std.proofs.lemmas.Bool.Decides.{eqb_tells}
@@ -13,9 +13,10 @@ use Rattle.mate_num.specs.declared.id.HandlerId.{HandlerId}
 use Rattle.mate_num.specs.declared.shape.Shape.{Shape}
 use Rattle.mate_num.specs.declared.bounds.TheConstants.{CODE_MAX}
 use Rattle.mate_num.specs.declared.lock_set.LockSet.{LockSet}
-use Rattle.capsule_codec.specs.declared.capsule.Capsule.{Capsule}
-use Rattle.capsule_codec.specs.Image.{CapsuleParts, capsule_parts, capsule_image, IsOfMachine}
-use Rattle.capsule_codec.specs.Reading.{capsule_in}
+use Rattle.capsule_codec.specs.declared.capsule.CapsuleRef.{CapsuleRef}
+use Rattle.capsule_codec.specs.Image.{CapsuleParts, parts_in_place, capsule_image, IsOfMachine}
+use Rattle.capsule_codec.specs.Reading.{GivesInPlace, capsule_in}
+use Rattle.capsule_codec.specs.declared.decoding.CapsuleFault.{CapsuleFault}
 use Rattle.code_verifier.specs.Verified.{VerifiedCode, marks_of, IsVerificationOf}
 use Rattle.mate_code.specs.declared.fault.VerifyFault.{VerifyFault}
 use Rattle.lock_inference.specs.Locks.{AreLocksOf}
@@ -42,23 +43,23 @@ use Rattle.journal_laws.proofs.Append.{heard_all-append, journal_of-add_image}
 use Rattle.mate_num.specs.declared.store.Store.{Store}
 use Rattle.node_contexts.specs.declared.handlers.Held.{Held}
 use Rattle.node_contexts.specs.At.{AreIdle}
-use Rattle.node_contexts.specs.Programs.{HeldPrograms, held_at, held_version_in}
+use Rattle.node_contexts.specs.Programs.{HeldPrograms, held_at, held_version_in, renewed}
 use Rattle.node_invariant.specs.declared.parts.Parts.{Parts}
 use Rattle.node_invariant.specs.Meaning.{machine_in, image_code}
 use Rattle.node_invariant.specs.Fits.{program_of, IsHeld, AreInstalled}
 use Rattle.node_invariant.specs.Keeps.{reading, Keeps, IsTimely, event_at, Grows}
 use Rattle.node_invariant.specs.Continues.{IsPrepared, AddsTidily}
 use Rattle.node_invariant.specs.Starting.{Rests}
-use Rattle.node_calls.specs.declared.installing.Coming.{Coming}
-use Rattle.node_calls.specs.declared.installing.Coming.TheVariants.{Known, Own, Shared}
-use Rattle.node_calls.specs.declared.installing.Installable.{Installable}
 use Rattle.node_calls.specs.declared.posting.PostAnswer.{PostAnswer}
 use Rattle.node_calls.specs.declared.posting.PostAnswer.TheVariants.{Posted as PostedAnswer, NoCode, AllBusy}
 use Rattle.node_calls.specs.Calls.{RestsAgain, AtPace, TellsStore, IsCleared}
-use Rattle.node_calls.specs.Installing.{IsUnverified, IsNoNewer, Incoming, IsInstallable, InstallsBytes, IsReadAs, CanInstall, HoldsCode, coming_program, comes, held_with, holding_after}
+use Rattle.node_calls.specs.Arrivals.{HoldsCode, CanRenew, HasShown, IsOlder, Prepares, Arrives, IsPosted, Begins}
+use Rattle.node_calls.specs.Installing.{IsUnverified, IsNoNewer, Incoming, IsInstallable, InstallsBytes, IsReadAs, Refuses, InstallGives}
+use Rattle.node_calls.specs.declared.installing.InstallFault.{InstallFault}
+use Rattle.node_calls.specs.declared.installing.InstallFault.TheVariants.{NotNewer, Code as CodeFault, Capsule as CapsuleRefused}
 use Rattle.node_calls.specs.Posting.{PostGives}
 use Rattle.node_calls.proofs.QuietLemmas.{RestsAgain-then, RestsAgain-as}
-use Rattle.node_calls.proofs.EraLemmas.{BeginsEra, RestsAgain-era}
+use Rattle.node_calls.proofs.EraLemmas.{BeginsEra, RestsAgain-era, seen-last, told-one}
 use Rattle.mate_journal.specs.OpenLog.{OpenView}
 
 -- ---- from bytes to code
@@ -173,16 +174,37 @@ module _ (d : Description) (old new : Parts) (stamp : Stamp) (h : HandlerId) (x 
       (ap (λ (image : ArrayVec ℕ). Installed (record { handler = h; version = x.version; image = image })) (get_or-append_seam old.log.all.images x.image [] (record { items = [] })))
       (tidily held_now of_machine is) room
 
--- the image and the program take their places, and all is cleared
-pub RestsAgain-begun : (d : Description) (old mid : Parts) (pushed : OpenView) (handlers : HeldPrograms) (at_ : Stamp) (h : HandlerId) (x : Held) → Rests d old → IsTimely at_ old.log.all → last_is_seen false (journal_of old.log.all) ≡ true → IsHeld d x → h.0 < length d.handlers.items
-    → IsInstalledIn old.log.all h x.version x.image at_ pushed.all → old.log.all.spare ≤ pushed.all.spare + 1 → IsCleared d (record old { log = pushed }) mid → handlers.programs ≡ set mid.handlers.programs h.0 (Some x)
-    → RestsAgain d old (record mid { handlers = handlers }) at_ (λ told. told ≡ Installed (program_of h x) ∷ [])
-RestsAgain-begun d old mid pushed handlers at_ h x rests timely seen held_now of_machine is room cleared set_now =
-    let log_is : mid.log.all ≡ pushed.all = ap (λ (s : Parts). s.log.all) cleared.same in
-    let P : Log → Type 0 = λ l. IsInstalledIn old.log.all h x.version x.image at_ l in
-    let Q : Log → Type 0 = λ l. old.log.all.spare ≤ l.spare + 1 in
-    RestsAgain-installed d old (record mid { handlers = handlers }) at_ h x rests timely seen held_now of_machine (let places = rests.order.keeps.places in omega arith) cleared.idle cleared.zero (ap (λ (s : Parts). s.posts) cleared.same)
-    (set_now ∙ ap (λ (s : Parts). set s.handlers.programs h.0 (Some x)) cleared.same) (subst P (sym log_is) is) (subst Q (sym log_is) room)
+-- what the handler holds now was told to be installed, and all is cleared
+pub RestsAgain-begun : (d : Description) (h : HandlerId) (at_ : Stamp) (now : Parts) (a : Arrives d h at_ now) (held_now : Held) (pushed : OpenView) (new : Parts) → Some held_now ≡ held_at now.handlers.programs h
+    → IsInstalledIn now.log.all h held_now.version held_now.image at_ pushed.all → now.log.all.spare ≤ pushed.all.spare + 1 → IsCleared d (record now { log = pushed }) new
+    → RestsAgain d a.before new at_ (λ told. told ≡ Installed (program_of h a.x) ∷ [])
+RestsAgain-begun d h at_ now a held_now pushed new holds is room cleared =
+    let log_is : now.log ≡ a.before.log = ap (λ (s : Parts). s.log) a.has_come in
+    let programs : now.handlers.programs ≡ set a.before.handlers.programs h.0 (Some a.x) = ap (λ (s : Parts). s.handlers.programs) a.has_come in
+    let below : h.0 < length a.before.handlers.programs = (let places = a.rests.order.keeps.places in let h_is = a.handler in omega (arith, places, h_is)) in
+    let some : Some held_now ≡ Some a.x = holds ∙ ap (λ (ps : List (Option Held)). held_at ps h) programs ∙ held-set a.before.handlers.programs h a.x below in
+    let same : held_now ≡ a.x = cc in
+    let X : Held → Type 0 = λ y. IsInstalledIn now.log.all h y.version y.image at_ pushed.all in
+    let L : OpenView → Type 0 = λ l. IsInstalledIn l.all h a.x.version a.x.image at_ pushed.all in
+    let N : OpenView → Type 0 = λ l. IsInstalledIn a.before.log.all h a.x.version a.x.image at_ l.all in
+    let R : OpenView → Type 0 = λ l. a.before.log.all.spare ≤ l.all.spare + 1 in
+    let S : OpenView → Type 0 = λ l. l.all.spare ≤ pushed.all.spare + 1 in
+    let pushed_is : new.log ≡ pushed = ap (λ (s : Parts). s.log) cleared.same in
+    RestsAgain-installed d a.before new at_ h a.x a.rests a.timely a.seen a.is_held a.handler below cleared.idle cleared.zero
+    (ap (λ (s : Parts). s.posts) cleared.same ∙ ap (λ (s : Parts). s.posts) a.has_come)
+    (ap (λ (s : Parts). s.handlers.programs) cleared.same ∙ programs)
+    (subst N (sym pushed_is) (subst L log_is (subst X same is)))
+    (subst R (sym pushed_is) (subst S log_is room))
+
+-- whatever came, the handler holds it
+arrived-holds : (d : Description) (h : HandlerId) (at_ : Stamp) (now : Parts) (a : Arrives d h at_ now) → held_at now.handlers.programs h ≡ Some a.x
+arrived-holds d h at_ now a =
+    let programs : now.handlers.programs ≡ set a.before.handlers.programs h.0 (Some a.x) = ap (λ (s : Parts). s.handlers.programs) a.has_come in
+    let below : h.0 < length a.before.handlers.programs = (let places = a.rests.order.keeps.places in let h_is = a.handler in omega (arith, places, h_is)) in
+    ap (λ (ps : List (Option Held)). held_at ps h) programs ∙ held-set a.before.handlers.programs h a.x below
+
+pub arrived-some : (d : Description) (h : HandlerId) (at_ : Stamp) (now : Parts) → Arrives d h at_ now → None ≡ held_at now.handlers.programs h → ⊥
+arrived-some d h at_ now a none = let e : None ≡ Some a.x = none ∙ arrived-holds d h at_ now a in cc
 
 -- ---- versions
 
@@ -206,77 +228,61 @@ code-behind c = refl
 begins-some : (x : ℕ) (xs ys : List ℕ) → ys ≡ x ∷ xs → 0 < length ys
 begins-some x xs ys is = let e = ap length is in omega arith
 
-pub IsInstallable-from : (d : Description) (bytes : List ℕ) (c : Capsule) (v : VerifiedCode) (locks : LockSet) (image : ArrayVec ℕ) → capsule_in d bytes ≡ Ok (capsule_parts c) → bytes ≡ capsule_image (capsule_parts c) → IsOfMachine d (capsule_parts c)
-    → IsVerificationOf (shape_of d) c.code.items v → AreLocksOf (shape_of d) v.code locks → image.items ≡ bytes
+pub IsInstallable-from : (d : Description) (bytes : List ℕ) (c : CapsuleRef) (v : VerifiedCode) (locks : LockSet) (image : ArrayVec ℕ) → capsule_in d bytes ≡ Ok (parts_in_place c) → bytes ≡ capsule_image (parts_in_place c) → IsOfMachine d (parts_in_place c)
+    → IsVerificationOf (shape_of d) c.code.now v → AreLocksOf (shape_of d) v.code locks → image.items ≡ bytes
     → IsInstallable d bytes (record { handler = c.handler; held = record { version = c.version; image = image; code = v; locks = locks } })
 unfolding image_code
 IsInstallable-from d bytes c v locks image decoded_is image_is of_machine is_of are_locks same =
     let S : Shape → Type 0 = λ shape. bytes_verification shape v.bytes ≡ Ok (v.code, marks_of v) in
     let B : List ℕ → Type 0 = λ bs. bytes_verification (shape_of d) bs ≡ Ok (v.code, marks_of v) in
-    let accepted : bytes_verification (shape_of d) c.code.items ≡ Ok (v.code, marks_of v) = subst B is_of.bytes_are (subst S is_of.shape_is is_of.is_verified.accepted) in
-    let behind : drop 16 image.items ≡ c.code.items = ap (drop 16) (same ∙ image_is) ∙ code-behind (capsule_parts c) in
+    let accepted : bytes_verification (shape_of d) c.code.now ≡ Ok (v.code, marks_of v) = subst B is_of.bytes_are (subst S is_of.shape_is is_of.is_verified.accepted) in
+    let behind : drop 16 image.items ≡ c.code.now = ap (drop 16) (same ∙ image_is) ∙ code-behind (parts_in_place c) in
     let code_is : v.code ≡ image_code (shape_of d) image =
-    sym (decoded-if (nat_lt CODE_MAX (length c.code.items)) (length c.code.items) (shape_of d) v.code (marks_of v) (decoded (table_of (shape_of d)) c.code.items) accepted)
+    sym (decoded-if (nat_lt CODE_MAX (length c.code.now)) (length c.code.now) (shape_of d) v.code (marks_of v) (decoded (table_of (shape_of d)) c.code.now) accepted)
     ∙ ap (λ (bs : List ℕ). result_unwrap_or (decoded (table_of (shape_of d)) bs) []) (sym behind) in
     let long = ap length (same ∙ image_is) in
-    let some : 0 < length (capsule_image (capsule_parts c)) = begins-some _ _ (capsule_image (capsule_parts c)) refl in
+    let some : 0 < length (capsule_image (parts_in_place c)) = begins-some _ _ (capsule_image (parts_in_place c)) refl in
     let full : 0 < length image.items = omega arith in
     let L : Code → Type 0 = λ code. AreLocksOf (shape_of d) code locks in
     record {
-      capsule = capsule_parts c;
+      capsule = parts_in_place c;
       right = record { decoded = decoded_is; code = v.code; marks = marks_of v; verified = accepted };
       is_held = record { shape = is_of.shape_is; code = code_is; verified = is_of.is_verified; locks_are = subst L code_is are_locks; version_is = c.numbered; full = full };
       program = ap (λ (bs : List ℕ). let p : HeldProgram = record { handler = c.handler; version = c.version; image = record { items = bs } } in p) same;
       handler = of_machine.handler;
     }
 
+-- what is read in place
+pub IsReadAs-from : (d : Description) (bytes : List ℕ) (r : Result CapsuleRef CapsuleFault) (c : CapsuleRef) → r ≡ Ok c → GivesInPlace r (capsule_in d bytes) → IfOk r (λ x. (bytes ≡ capsule_image (parts_in_place x)) × IsOfMachine d (parts_in_place x)) → IsReadAs d bytes c
+IsReadAs-from d bytes r c is value image =
+    let P : Result CapsuleRef CapsuleFault → Type 0 = λ x. GivesInPlace x (capsule_in d bytes) in
+    let Q : Result CapsuleRef CapsuleFault → Type 0 = λ x. IfOk x (λ y. (bytes ≡ capsule_image (parts_in_place y)) × IsOfMachine d (parts_in_place y)) in
+    let image_now = subst Q is image in
+    record { decoded = subst P is value; image = image_now.0; of_machine = image_now.1 }
+
 -- one whose code the handler holds: what was verified of it holds of it
-pub CanInstall-known : (d : Description) (s : Parts) (bytes : List ℕ) (c : Capsule) (image : ArrayVec ℕ) → Rests d s → IsReadAs d bytes c → HoldsCode (held_at s.handlers.programs c.handler) c.code.items → image.items ≡ bytes
-    → CanInstall d bytes (held_at s.handlers.programs c.handler) record { handler = c.handler; program = Known c.version image }
-CanInstall-known d s bytes c image rests read known same = by (held_at s.handlers.programs c.handler) refl known where
-  by : (o : Option Held) → held_at s.handlers.programs c.handler ≡ o → HoldsCode o c.code.items → CanInstall d bytes o record { handler = c.handler; program = Known c.version image }
+pub CanRenew-known : (d : Description) (s : Parts) (bytes : List ℕ) (c : CapsuleRef) → Rests d s → IsReadAs d bytes c → HoldsCode (held_at s.handlers.programs c.handler) c.code.now → CanRenew d bytes s c.handler c.version
+CanRenew-known d s bytes c rests read known = by (held_at s.handlers.programs c.handler) refl known where
+  by : (o : Option Held) → held_at s.handlers.programs c.handler ≡ o → HoldsCode o c.code.now → CanRenew d bytes s c.handler c.version
   by (Some y) is holds =
       let right : IsHeld d y = rests.order.keeps.installed.each c.handler y is in
       let L : Code → Type 0 = λ code. AreLocksOf (shape_of d) code y.locks in
-      let of_code : IsVerificationOf (shape_of d) c.code.items y.code = record { shape_is = right.shape; bytes_are = holds; is_verified = right.verified } in
+      let of_code : IsVerificationOf (shape_of d) c.code.now y.code = record { shape_is = right.shape; bytes_are = holds; is_verified = right.verified } in
+      let image : ArrayVec ℕ = record { items = bytes } in
       record {
         x = record y { version = c.version; image = image };
-        after = refl;
-        can = IsInstallable-from d bytes c y.code y.locks image read.decoded read.image read.of_machine of_code (subst L (sym right.code) right.locks_are) same;
+        after = ap (λ (o : Option Held). renewed c.version image o) is;
+        version_is = refl;
+        fits = (let long = ap length read.image in let code = c.fits in omega (arith, long, code));
+        can = IsInstallable-from d bytes c y.code y.locks image read.decoded read.image read.of_machine of_code (subst L (sym right.code) right.locks_are) refl;
       }
   by None is holds = absurd holds
 
--- the program that comes is the one that is held then
-pub comes-held : (held : Option Held) (i : Installable) (x : Held) → holding_after held i ≡ Some x → program_of i.handler x ≡ comes i
-comes-held held i x after = by held i.program after where
-  by : (o : Option Held) (p : Coming) → held_with o p ≡ Some x → program_of i.handler x ≡ coming_program i.handler p
-  by o (Own y) is = let e : y ≡ x = cc in ap (λ (z : Held). program_of i.handler z) (sym e)
-  by o (Shared y) is = let e : y ≡ x = cc in ap (λ (z : Held). program_of i.handler z) (sym e)
-  by (Some y) (Known version image) is = let e : record y { version = version; image = image } ≡ x = cc in ap (λ (z : Held). program_of i.handler z) (sym e)
-  by None (Known version image) is = cc
-
-pub comes-version : (held : Option Held) (i : Installable) (x : Held) → holding_after held i ≡ Some x → x.version ≡ (comes i).version
-comes-version held i x after = ap (λ (p : HeldProgram). p.version) (comes-held held i x after)
-
--- its image and what is held then take their places, and all is cleared
-pub RestsAgain-comes : (d : Description) (old mid : Parts) (pushed : OpenView) (handlers : HeldPrograms) (at_ : Stamp) (bytes : List ℕ) (i : Installable) → Rests d old → IsTimely at_ old.log.all → last_is_seen false (journal_of old.log.all) ≡ true
-    → CanInstall d bytes (held_at old.handlers.programs i.handler) i → IsInstalledIn old.log.all i.handler (comes i).version (comes i).image at_ pushed.all → old.log.all.spare ≤ pushed.all.spare + 1 → IsCleared d (record old { log = pushed }) mid
-    → handlers.programs ≡ set mid.handlers.programs i.handler.0 (holding_after (held_at mid.handlers.programs i.handler) i) → RestsAgain d old (record mid { handlers = handlers }) at_ (λ told. told ≡ Installed (comes i) ∷ [])
-RestsAgain-comes d old mid pushed handlers at_ bytes i rests timely seen can is room cleared put_is =
-    let x : Held = can.x in
-    let comes_is : program_of i.handler x ≡ comes i = comes-held (held_at old.handlers.programs i.handler) i x can.after in
-    let programs_are : mid.handlers.programs ≡ old.handlers.programs = ap (λ (s : Parts). s.handlers.programs) cleared.same in
-    let after : holding_after (held_at mid.handlers.programs i.handler) i ≡ Some x = ap (λ (ps : List (Option Held)). holding_after (held_at ps i.handler) i) programs_are ∙ can.after in
-    let set_now : handlers.programs ≡ set mid.handlers.programs i.handler.0 (Some x) = put_is ∙ ap (λ (o : Option Held). set mid.handlers.programs i.handler.0 o) after in
-    let I : HeldProgram → Type 0 = λ p. IsInstalledIn old.log.all i.handler p.version p.image at_ pushed.all in
-    let R : HeldProgram → Type 0 = λ p. RestsAgain d old (record mid { handlers = handlers }) at_ (λ told. told ≡ Installed p ∷ []) in
-    subst R comes_is (RestsAgain-begun d old mid pushed handlers at_ i.handler x rests timely seen can.can.is_held can.can.handler (subst I (sym comes_is) is) room cleared set_now)
-
 -- the code is refused
-pub IsUnverified-from : (d : Description) (bytes code : List ℕ) (c : Capsule) (fault : VerifyFault) → capsule_in d bytes ≡ Ok (capsule_parts c) → code ≡ c.code.items → bytes_verification (shape_of d) code ≡ Err fault → IsUnverified d bytes fault
+pub IsUnverified-from : (d : Description) (bytes code : List ℕ) (c : CapsuleRef) (fault : VerifyFault) → capsule_in d bytes ≡ Ok (parts_in_place c) → code ≡ c.code.now → bytes_verification (shape_of d) code ≡ Err fault → IsUnverified d bytes fault
 IsUnverified-from d bytes code c fault decoded_is same refused =
     let B : List ℕ → Type 0 = λ bs. bytes_verification (shape_of d) bs ≡ Err fault in
-    record { capsule = capsule_parts c; decoded = decoded_is; refused = subst B same refused }
+    record { capsule = parts_in_place c; decoded = decoded_is; refused = subst B same refused }
 
 -- ---- the whole install
 
@@ -356,15 +362,61 @@ IsNoNewer-from d s bytes i version rests can version_is older =
 pub newer-than : (d : Description) (s : Parts) (i : Incoming) (version : ℕ) → Rests d s → version ≡ held_version_in (held_at s.handlers.programs i.handler) → version < i.held.version → held (reading d s.log.all) i.handler < i.held.version
 newer-than d s i version rests version_is above = let same = held-version d s i.handler rests in omega arith
 
-pub coming-newer : (d : Description) (s : Parts) (bytes : List ℕ) (i : Installable) (can : CanInstall d bytes (held_at s.handlers.programs i.handler) i) (version : ℕ) → Rests d s → version ≡ held_version_in (held_at s.handlers.programs i.handler) → version < (comes i).version
-    → held (reading d s.log.all) i.handler < can.x.version
-coming-newer d s bytes i can version rests version_is above =
-    let its = comes-version (held_at s.handlers.programs i.handler) i can.x can.after in
-    newer-than d s (record { handler = i.handler; held = can.x }) version rests version_is (omega (arith, its, above))
+-- ---- a program that comes
 
--- what began with the program that comes began with what is held then
-pub begun-coming : (d : Description) (old mid next : Parts) (at_ : Stamp) (bytes : List ℕ) (i : Installable) (can : CanInstall d bytes (held_at old.handlers.programs i.handler) i) → RestsAgain d mid next at_ (λ told. told ≡ Installed (comes i) ∷ [])
-    → RestsAgain d mid next at_ (λ told. told ≡ Installed (program_of i.handler can.x) ∷ [])
-begun-coming d old mid next at_ bytes i can begun_ =
-    let R : HeldProgram → Type 0 = λ p. RestsAgain d mid next at_ (λ told. told ≡ Installed p ∷ []) in
-    subst R (sym (comes-held (held_at old.handlers.programs i.handler) i can.x can.after)) begun_
+module _ (d : Description) (old mid : Parts) (at_ : Stamp) (bytes : List ℕ) (i : Incoming) (version : ℕ) (rests : Rests d old) (can : IsInstallable d bytes i) (version_is : i.held.version ≡ version) where
+  -- it is refused
+  pub Refuses-older : (fault : InstallFault) → IsOlder old i.handler version fault × (mid ≡ old) → Refuses d (reading d old.log.all) bytes fault × (mid ≡ old)
+  Refuses-older (NotNewer held_) is = (IsNoNewer-from d old bytes i held_ rests can is.0.0 (let older = is.0.1 in omega (arith, older, version_is)), is.1)
+  Refuses-older (CapsuleRefused fault) is = absurd is.0
+  Refuses-older (CodeFault fault) is = absurd is.0
+
+  module _ (shown : HasShown d old mid i.handler version at_) where
+    pub shown-places : i.handler.0 < length mid.handlers.programs
+    shown-places =
+        let same = ap (λ (s : Parts). length s.handlers.programs) shown.tells.same in
+        let places = rests.order.keeps.places in
+        let below = can.handler in
+        omega (arith, same, places, below)
+
+    -- it has come
+    pub Arrives-shown : (now : Parts) → 4 ≤ old.log.all.spare → length old.log.all.entries < 4000000000 → now ≡ record mid { handlers = record { programs = set mid.handlers.programs i.handler.0 (Some i.held) } } → Arrives d i.handler at_ now
+    Arrives-shown now room few has_come =
+        let seen = shown.tells.again.adds in
+        let one = told-one old.log.all mid.log.all at_ seen.told _ seen.grows seen.made in
+        record {
+          before = mid;
+          x = i.held;
+          rests = shown.tells.again.rests;
+          timely = seen.grows.timely;
+          room = omega (arith, one.1, room);
+          few = omega (arith, one.0, few);
+          seen = seen-last old.log.all mid.log.all at_ seen.told old.heap seen.grows seen.made;
+          is_held = can.is_held;
+          handler = can.handler;
+          has_come = has_come;
+        }
+
+    -- its era has begun
+    pub InstallGives-begun : (now new : Parts) → 4 ≤ old.log.all.spare → length old.log.all.entries < 4000000000 → now ≡ record mid { handlers = record { programs = set mid.handlers.programs i.handler.0 (Some i.held) } }
+        → ((a : Arrives d i.handler at_ now) → Begins d a.before new i.handler a.x at_) → RestsAgain d old new at_ (AtPace d old (InstallsBytes d (reading d old.log.all) bytes))
+    unfolding Arrives-shown
+    InstallGives-begun now new room few has_come begun_by = by ((machine_in d).runs_once i.handler) refl begins.follows where
+      begins : Begins d mid new i.handler i.held at_
+      begins = begun_by (Arrives-shown now room few has_come)
+
+      newer : held (reading d old.log.all) i.handler < i.held.version
+      newer = newer-than d old i _ rests refl (let above = shown.newer in omega (arith, above, version_is))
+
+      by : (b : Bool) → (machine_in d).runs_once i.handler ≡ b → MatchBool b (IsPosted d begins.next new i.handler at_) (new ≡ begins.next) → RestsAgain d old new at_ (AtPace d old (InstallsBytes d (reading d old.log.all) bytes))
+      by true once posted = RestsAgain-once d old mid begins.next at_ bytes i can newer shown.tells begins.begun new posted.payload posted.answer once posted.empty posted.again
+      by false once same =
+          let P : Parts → Type 0 = λ s. RestsAgain d old s at_ (AtPace d old (InstallsBytes d (reading d old.log.all) bytes)) in
+          subst P (sym same) (RestsAgain-once_none d old mid begins.next at_ bytes i can newer shown.tells begins.begun once)
+
+-- what the call of the store's record told
+pub Prepares-ok : (d : Description) (old new : Parts) (h : HandlerId) (version : ℕ) (at_ : Stamp) (r : Result ⊤ InstallFault) (u : ⊤) → r ≡ Ok u → Prepares d old new h version at_ r → HasShown d old new h version at_
+Prepares-ok d old new h version at_ r u is prepared = let P : Result ⊤ InstallFault → Type 0 = λ x. Prepares d old new h version at_ x in subst P is prepared
+
+pub Prepares-err : (d : Description) (old new : Parts) (h : HandlerId) (version : ℕ) (at_ : Stamp) (r : Result ⊤ InstallFault) (fault : InstallFault) → r ≡ Err fault → Prepares d old new h version at_ r → IsOlder old h version fault × (new ≡ old)
+Prepares-err d old new h version at_ r fault is prepared = let P : Result ⊤ InstallFault → Type 0 = λ x. Prepares d old new h version at_ x in subst P is prepared

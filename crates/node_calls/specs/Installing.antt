@@ -1,9 +1,9 @@
 -- What bytes are to a node that should install them: a capsule with right code, newer than what it holds; or the first refusal.
-use Rattle.std.specs.Prelude.{◌≡◌, ℕ, ◌<◌, ◌≤◌, List, Option, Some, None, Result, Ok, Err, MatchResult, IsSomeAnd, ⊤, length}
+use Rattle.std.specs.Prelude.{◌≡◌, ℕ, ◌<◌, ◌≤◌, List, Result, Ok, Err, MatchResult, ⊤, length}
 use Rattle.mate_num.specs.declared.call.Stamp.{Stamp}
 use Rattle.mate_num.specs.declared.id.HandlerId.{HandlerId}
-use Rattle.capsule_codec.specs.declared.capsule.Capsule.{Capsule as DecodedCapsule}
-use Rattle.capsule_codec.specs.Image.{CapsuleParts, capsule_parts, capsule_image, IsOfMachine}
+use Rattle.capsule_codec.specs.declared.capsule.CapsuleRef.{CapsuleRef}
+use Rattle.capsule_codec.specs.Image.{CapsuleParts, parts_in_place, capsule_image, IsOfMachine}
 use Rattle.capsule_codec.specs.Reading.{capsule_in}
 use Rattle.mate_code.specs.declared.fault.VerifyFault.{VerifyFault}
 use Rattle.mate_code.specs.BytesVerification.{bytes_verification}
@@ -15,7 +15,6 @@ use Rattle.mate_journal.specs.Machine.{HeldProgram}
 use Rattle.mate_journal.specs.Journal.{JournalEntry, NodeState, held}
 use Rattle.mate_journal.specs.NodeScript.{Installs}
 use Rattle.mate_journal.specs.Pace.{Pace}
-use Rattle.node_contexts.specs.Programs.{renewed}
 use Rattle.node_contexts.specs.declared.handlers.Held.{Held}
 use Rattle.node_invariant.specs.Meaning.{machine_in}
 use Rattle.node_invariant.specs.declared.parts.Parts.{Parts}
@@ -24,9 +23,6 @@ use Rattle.node_invariant.specs.Fits.{IsHeld, program_of}
 use Rattle.node_calls.specs.Calls.{RestsAgain, AtPace}
 use Rattle.node_calls.specs.declared.installing.InstallFault.{InstallFault}
 use Rattle.node_calls.specs.declared.installing.InstallFault.TheVariants.{Capsule, Code, NotNewer}
-use Rattle.node_calls.specs.declared.installing.Coming.{Coming}
-use Rattle.node_calls.specs.declared.installing.Coming.TheVariants.{Known, Own, Shared}
-use Rattle.node_calls.specs.declared.installing.Installable.{Installable}
 use Rattle.node_calls.specs.declared.ready.ReadyCapsule.{ReadyCapsule}
 
 -- the bytes are this capsule of the machine, and its code is verified
@@ -64,10 +60,10 @@ Refuses d r bytes (Code fault) = IsUnverified d bytes fault
 Refuses d r bytes (NotNewer version) = IsNoNewer d r bytes version
 
 -- the bytes are read as this capsule of the machine
-pub record IsReadAs (d : Description) (bytes : List ℕ) (c : DecodedCapsule) : Type 0 where
-  pub decoded : capsule_in d bytes ≡ Ok (capsule_parts c)
-  pub image : bytes ≡ capsule_image (capsule_parts c)
-  pub of_machine : IsOfMachine d (capsule_parts c)
+pub record IsReadAs (d : Description) (bytes : List ℕ) (c : CapsuleRef) : Type 0 where
+  pub decoded : capsule_in d bytes ≡ Ok (parts_in_place c)
+  pub image : bytes ≡ capsule_image (parts_in_place c)
+  pub of_machine : IsOfMachine d (parts_in_place c)
 
 -- the bytes are a right capsule, newer than what the node held, and its program was installed with these entries
 pub record InstallsBytes (d : Description) (r : NodeState) (bytes : List ℕ) (p : Pace) (told : List JournalEntry) : Type 0 where
@@ -88,37 +84,9 @@ pub record IsInstallable (d : Description) (bytes : List ℕ) (i : Incoming) : T
   pub program : program_of i.handler i.held ≡ program_by capsule bytes
   pub handler : i.handler.0 < length d.handlers.items
 
--- what the handler holds when this has come
-abbrev pub held_with : Option Held → Coming → Option Held
-held_with held (Known version image) = renewed version image held
-held_with held (Own x) = Some x
-held_with held (Shared x) = Some x
-
-abbrev pub holding_after : Option Held → Installable → Option Held
-holding_after held i = held_with held i.program
-
--- the program that comes, as a journal has it
-abbrev pub coming_program : HandlerId → Coming → HeldProgram
-coming_program h (Known version image) = record { handler = h; version = version; image = image }
-coming_program h (Own x) = program_of h x
-coming_program h (Shared x) = program_of h x
-
-abbrev pub comes : Installable → HeldProgram
-comes i = coming_program i.handler i.program
-
--- with what the handler holds, this can be installed
-pub record CanInstall (d : Description) (bytes : List ℕ) (held : Option Held) (i : Installable) : Type 0 where
-  pub x : Held
-  pub after : holding_after held i ≡ Some x
-  pub can : IsInstallable d bytes (record { handler = i.handler; held = x })
-
 -- the bytes are the capsule that is ready
 abbrev pub IsReady : Description → List ℕ → ReadyCapsule → Type 0
 IsReady d bytes r = IsInstallable d bytes (record { handler = r.handler; held = r.program })
-
--- what is held has this code
-abbrev pub HoldsCode : Option Held → List ℕ → Type 0
-HoldsCode held code = IsSomeAnd held (λ x. x.code.bytes ≡ code)
 
 -- ---- what an install leaves
 

@@ -1,28 +1,29 @@
 //! Installs: a newer capsule replaces a handler's program, and an era begins.
 
-ghost use Rattle.std.specs.Prelude.{◌≡◌, ◌<◌, ◌≤◌, ◌∷◌, [], true, false, length, slice_set, IfSome, IsTrue};
-ghost use Rattle.mate_num.specs.declared.id.HandlerId.{HandlerId as Handler};
-ghost use Rattle.mate_journal.specs.Journal.{journal_of, Installed};
-ghost use Rattle.journal_laws.specs.Growth.{last_is_seen};
+ghost use Rattle.std.specs.Prelude.{◌≡◌, ◌<◌, ◌≤◌, ◌∷◌, [], length, IfSome, IsTrue};
+ghost use Rattle.mate_num.specs.declared.bounds.TheConstants.{IMAGE_MAX};
+ghost use Rattle.mate_journal.specs.Journal.{Installed};
 ghost use Rattle.vm_desc.specs.Shapes.{shape_of};
 ghost use Rattle.code_verifier.specs.Verified.{IsVerificationOf};
 ghost use Rattle.node_contexts.specs.Programs.{held_at};
+ghost use Rattle.node_invariant.specs.Fits.{program_of};
 ghost use Rattle.node_invariant.specs.Keeps.{IsTimely};
 ghost use Rattle.node_invariant.specs.Meaning.{machine_in};
 ghost use Rattle.node_invariant.specs.Starting.{Rests};
 ghost use Rattle.node_calls.specs.Calls.{RestsAgain};
-ghost use Rattle.node_calls.specs.Installing.{CanInstall, HoldsCode, IsInstallable, IsReadAs, IsReady, InstallGives, coming_program, comes, holding_after};
+ghost use Rattle.node_calls.specs.Arrivals.{Arrives, Begins, CanRenew, HoldsCode, Prepares};
+ghost use Rattle.node_calls.specs.Installing.{IsInstallable, IsReadAs, IsReady, InstallGives};
 
 use crate::era::clear;
 use crate::posting::post_in;
 use crate::ready::ReadyCapsule;
 use crate::showing::seen_in;
-use capsule_codec::{Capsule, CapsuleFault, decode};
+use capsule_codec::{CapsuleFault, CapsuleRef, decode_in_place};
 use code_verifier::{Verified, VerifyFault, verify};
 use lock_inference::locks;
 use mate_code::Table;
 use mate_num::{HandlerId, Image, Payload, Stamp};
-use node_contexts::{Handlers, Held, SharedHeld};
+use node_contexts::{Held, SharedHeld};
 use node_invariant::Parts;
 use vm_desc::{Description, HandlerKind, shape};
 
@@ -37,48 +38,8 @@ pub enum InstallFault {
     NotNewer { held: u32 },
 }
 
-/// What comes to a handler.
-#[derive(Drop)]
-enum Coming {
-    /// The code that the handler holds, with this version and this image.
-    Known { version: u32, image: Image },
-    /// A program of the node's own.
-    Own(Held),
-    /// One that nodes share.
-    Shared(SharedHeld),
-}
-
-impl Coming {
-    fn version(&self) -> u32
-        ensures { (h : Handler) → result ≡ (coming_program h self.now).version }
-    {
-        match self {
-            Coming::Known { version, .. } => *version,
-            Coming::Own(held) => held.version,
-            Coming::Shared(shared) => shared.as_held().version,
-        }
-    }
-
-    fn image(&self) -> &Image
-        ensures { (h : Handler) → result.now ≡ (coming_program h self.now).image }
-    {
-        match self {
-            Coming::Known { image, .. } => image,
-            Coming::Own(held) => &held.image,
-            Coming::Shared(shared) => &shared.as_held().image,
-        }
-    }
-}
-
-/// A program that can be installed for the handler.
-#[derive(Drop)]
-struct Installable {
-    handler: HandlerId,
-    program: Coming,
-}
-
 /// The bytes as an image.
-fn image_in(description: &Description, bytes: &[u8], capsule: &Capsule) -> Image
+fn image_in(description: &Description, bytes: &[u8], capsule: &CapsuleRef<'_>) -> Image
     requires { IsReadAs description.now bytes.now capsule.now }
     ensures { result.items ≡ bytes.now }
 {
@@ -95,11 +56,11 @@ fn image_in(description: &Description, bytes: &[u8], capsule: &Capsule) -> Image
 pub(crate) fn new_program(
     description: &Description,
     bytes: &[u8],
-    capsule: &Capsule,
+    capsule: &CapsuleRef<'_>,
     code: Verified,
 ) -> Held
     requires read { IsReadAs description.now bytes.now capsule.now }
-    requires verified { IsVerificationOf (shape_of description.now) capsule.now.code.items code }
+    requires verified { IsVerificationOf (shape_of description.now) capsule.now.code.now code }
     ensures { IsInstallable description.now bytes.now (record { handler = capsule.now.handler; held = result }) }
 {
     let locks = locks(description, &code);
@@ -112,79 +73,64 @@ pub(crate) fn new_program(
 }
 
 /// Whether the capsule's handler holds the capsule's code.
-fn holds_code(parts: &Parts, capsule: &Capsule) -> bool
-    ensures { IsTrue result → HoldsCode (held_at parts.now.handlers.programs capsule.now.handler) capsule.now.code.items }
+fn holds_code(parts: &Parts, capsule: &CapsuleRef<'_>) -> bool
+    ensures { IsTrue result → HoldsCode (held_at parts.now.handlers.programs capsule.now.handler) capsule.now.code.now }
 {
     match parts.handlers.get(capsule.handler) {
-        Some(held) => held.code.code().as_slice() == capsule.code.as_slice(),
+        Some(held) => held.code.code().as_slice() == capsule.code,
         None => false,
     }
 }
 
-/// The program of the capsule that the bytes are, whose code the handler holds. What was verified of the code, and its locks, are
-/// still right: they depend on the machine and the code alone.
-#[inline(never)]
-fn known_program(
-    description: &Description,
-    parts: &Parts,
-    bytes: &[u8],
-    capsule: &Capsule,
-) -> Installable
-    requires rests { Rests description.now parts.now }
-    requires read { IsReadAs description.now bytes.now capsule.now }
-    requires known { HoldsCode (held_at parts.now.handlers.programs capsule.now.handler) capsule.now.code.items }
-    ensures { CanInstall description.now bytes.now (held_at parts.now.handlers.programs result.handler) result }
-{
-    let _parts = parts;
-    Installable {
-        handler: capsule.handler,
-        program: Coming::Known {
-            version: capsule.version,
-            image: image_in(description, bytes, capsule),
-        },
-    }
-}
-
-/// Replaces what the handler had by the program.
-#[inline(never)]
-fn put(handlers: &mut Handlers, program: Installable)
-    requires { program.handler.0 < length handlers.old.programs }
-    ensures { handlers.new.programs ≡ slice_set handlers.old.programs program.handler.0
-        (holding_after (held_at handlers.old.programs program.handler) program) }
-{
-    let Installable { handler, program } = program;
-    match program {
-        Coming::Known { version, image } => handlers.renew(handler, version, &image),
-        Coming::Own(held) => handlers.install(handler, held),
-        Coming::Shared(shared) => handlers.share(handler, shared),
-    }
-}
-
-/// Begins an era with the program in place of what the handler had.
-#[inline(never)]
-fn begin(
+/// Records the store, if the version is newer than what the node holds for the handler. `NotNewer` comes exactly if it isn't.
+fn prepare(
     description: &Description,
     parts: &mut Parts,
-    bytes: &[u8],
-    program: Installable,
+    handler: HandlerId,
+    version: u32,
     at: Stamp,
-)
+) -> Result<(), InstallFault>
     requires rests { Rests description.now parts.old }
     requires timely { IsTimely at parts.old.log.all }
-    requires room { 1 ≤ parts.old.log.all.spare }
-    requires few { length parts.old.log.all.entries < 4100000000 }
-    requires seen { last_is_seen false (journal_of parts.old.log.all) ≡ true }
-    requires can { CanInstall description.now bytes.now (held_at parts.old.handlers.programs program.handler) program }
-    ensures again { RestsAgain description.now parts.old parts.new at (λ told. told ≡ Installed (comes program) ∷ []) }
+    requires room { 4 ≤ parts.old.log.all.spare }
+    requires few { length parts.old.log.all.entries < 4000000000 }
+    ensures prepares { Prepares description.now parts.old parts.new handler version at result }
     ensures gone { parts.new.log.gone ≡ parts.old.log.gone }
 {
-    let _bytes = bytes;
-    let version = program.program.version();
+    let held = parts.handlers.version(handler);
+    if version <= held {
+        return Err(InstallFault::NotNewer { held });
+    }
+    seen_in(description, parts, at);
+    Ok(())
+}
+
+/// Records that what the handler holds now was installed, and begins an era.
+fn begin_era(description: &Description, parts: &mut Parts, handler: HandlerId, at: Stamp)
+    requires { Arrives description.now handler at parts.old }
+    ensures again { (a : Arrives description.now handler at parts.old) → RestsAgain description.now a.before parts.new at
+        (λ told. told ≡ Installed (program_of handler a.x) ∷ []) }
+    ensures gone { parts.new.log.gone ≡ parts.old.log.gone }
+{
+    let Some(held) = parts.handlers.get(handler) else {
+        unreachable!()
+    };
     parts
         .log
-        .push_install(at, program.handler, version, program.program.image());
+        .push_install(at, handler, held.version, &held.image);
     clear(description, parts);
-    put(&mut parts.handlers, program);
+}
+
+/// The same, and then a handler that runs once is posted.
+fn begin(description: &Description, parts: &mut Parts, handler: HandlerId, at: Stamp)
+    requires { Arrives description.now handler at parts.old }
+    ensures begins { (a : Arrives description.now handler at parts.old) → Begins description.now a.before parts.new handler a.x at }
+    ensures gone { parts.new.log.gone ≡ parts.old.log.gone }
+{
+    begin_era(description, parts, handler, at);
+    if runs_once(description, handler) {
+        let _ = post_in(description, parts, handler, &Payload::new(), at);
+    }
 }
 
 /// Whether the handler has the kind `once`.
@@ -196,36 +142,6 @@ fn runs_once(description: &Description, handler: HandlerId) -> bool
         HandlerKind::Once => true,
         HandlerKind::Plain | HandlerKind::Timer { .. } | HandlerKind::Receive => false,
     }
-}
-
-/// Installs the program if it is newer than what the node holds.
-#[inline(never)]
-fn install_program(
-    description: &Description,
-    parts: &mut Parts,
-    bytes: &[u8],
-    program: Installable,
-    at: Stamp,
-) -> Result<(), InstallFault>
-    requires rests { Rests description.now parts.old }
-    requires timely { IsTimely at parts.old.log.all }
-    requires room { 4 ≤ parts.old.log.all.spare }
-    requires few { length parts.old.log.all.entries < 4000000000 }
-    requires can { CanInstall description.now bytes.now (held_at parts.old.handlers.programs program.handler) program }
-    ensures installs { InstallGives description.now parts.old parts.new bytes.now at result }
-    ensures gone { parts.new.log.gone ≡ parts.old.log.gone }
-{
-    let handler = program.handler;
-    let held = parts.handlers.version(handler);
-    if program.program.version() <= held {
-        return Err(InstallFault::NotNewer { held });
-    }
-    seen_in(description, parts, at);
-    begin(description, parts, bytes, program, at);
-    if runs_once(description, handler) {
-        let _ = post_in(description, parts, handler, &Payload::new(), at);
-    }
-    Ok(())
 }
 
 /// Installs a program of the node's own, if it is newer than what the node holds. A program is large: each call that moves it or its
@@ -247,11 +163,86 @@ fn install_own(
     ensures installs { InstallGives description.now parts.old parts.new bytes.now at result }
     ensures gone { parts.new.log.gone ≡ parts.old.log.gone }
 {
-    let program = Installable {
-        handler,
-        program: Coming::Own(held),
+    let _bytes = bytes;
+    match prepare(description, parts, handler, held.version, at) {
+        Ok(()) => {
+            parts.handlers.install(handler, held);
+            begin(description, parts, handler, at);
+            Ok(())
+        }
+        Err(fault) => Err(fault),
+    }
+}
+
+/// Installs a program that nodes share, if it is newer than what the node holds. It stays in its one place.
+#[inline(never)]
+fn install_one(
+    description: &Description,
+    parts: &mut Parts,
+    bytes: &[u8],
+    handler: HandlerId,
+    program: SharedHeld,
+    at: Stamp,
+) -> Result<(), InstallFault>
+    requires rests { Rests description.now parts.old }
+    requires timely { IsTimely at parts.old.log.all }
+    requires room { 4 ≤ parts.old.log.all.spare }
+    requires few { length parts.old.log.all.entries < 4000000000 }
+    requires can { IsInstallable description.now bytes.now (record { handler = handler; held = program }) }
+    ensures installs { InstallGives description.now parts.old parts.new bytes.now at result }
+    ensures gone { parts.new.log.gone ≡ parts.old.log.gone }
+{
+    let _bytes = bytes;
+    let version = program.as_held().version;
+    match prepare(description, parts, handler, version, at) {
+        Ok(()) => {
+            parts.handlers.share(handler, program);
+            begin(description, parts, handler, at);
+            Ok(())
+        }
+        Err(fault) => Err(fault),
+    }
+}
+
+/// The bytes as an image.
+fn image_of(bytes: &[u8]) -> Image
+    requires { length bytes.now ≤ IMAGE_MAX }
+    ensures { result ≡ record { items = bytes.now } }
+{
+    let Ok(image) = Image::try_from(bytes) else {
+        unreachable!()
     };
-    install_program(description, parts, bytes, program, at)
+    image
+}
+
+/// Installs the capsule that the bytes are, whose code its handler holds, if it is newer than what the node holds. What was verified of
+/// the code, and its locks, are still right: they depend on the machine and the code alone. So nothing is made but what changes.
+#[inline(never)]
+fn install_known(
+    description: &Description,
+    parts: &mut Parts,
+    bytes: &[u8],
+    handler: HandlerId,
+    version: u32,
+    at: Stamp,
+) -> Result<(), InstallFault>
+    requires rests { Rests description.now parts.old }
+    requires timely { IsTimely at parts.old.log.all }
+    requires room { 4 ≤ parts.old.log.all.spare }
+    requires few { length parts.old.log.all.entries < 4000000000 }
+    requires can { CanRenew description.now bytes.now parts.old handler version }
+    ensures installs { InstallGives description.now parts.old parts.new bytes.now at result }
+    ensures gone { parts.new.log.gone ≡ parts.old.log.gone }
+{
+    match prepare(description, parts, handler, version, at) {
+        Ok(()) => {
+            let image = image_of(bytes);
+            parts.handlers.renew(handler, version, &image);
+            begin(description, parts, handler, at);
+            Ok(())
+        }
+        Err(fault) => Err(fault),
+    }
 }
 
 /// Installs the program of the capsule that the bytes are, if it is newer than what the node holds.
@@ -260,7 +251,7 @@ fn install_code(
     description: &Description,
     parts: &mut Parts,
     bytes: &[u8],
-    capsule: &Capsule,
+    capsule: &CapsuleRef<'_>,
     code: Verified,
     at: Stamp,
 ) -> Result<(), InstallFault>
@@ -269,7 +260,7 @@ fn install_code(
     requires room { 4 ≤ parts.old.log.all.spare }
     requires few { length parts.old.log.all.entries < 4000000000 }
     requires read { IsReadAs description.now bytes.now capsule.now }
-    requires verified { IsVerificationOf (shape_of description.now) capsule.now.code.items code }
+    requires verified { IsVerificationOf (shape_of description.now) capsule.now.code.now code }
     ensures installs { InstallGives description.now parts.old parts.new bytes.now at result }
     ensures gone { parts.new.log.gone ≡ parts.old.log.gone }
 {
@@ -295,44 +286,25 @@ pub fn install_in(
     ensures installs { InstallGives description.now parts.old parts.new bytes.now at result }
     ensures gone { parts.new.log.gone ≡ parts.old.log.gone }
 {
-    let decoded = decode(description, bytes);
-    let capsule = match &decoded {
+    let capsule = match decode_in_place(description, bytes) {
         Ok(capsule) => capsule,
-        Err(fault) => return Err(InstallFault::Capsule(*fault)),
+        Err(fault) => return Err(InstallFault::Capsule(fault)),
     };
-    if holds_code(parts, capsule) {
-        let program = known_program(description, parts, bytes, capsule);
-        return install_program(description, parts, bytes, program, at);
+    if holds_code(parts, &capsule) {
+        return install_known(
+            description,
+            parts,
+            bytes,
+            capsule.handler,
+            capsule.version,
+            at,
+        );
     }
     let table = Table::of(&shape(description));
-    match verify(&table, description, capsule.code.as_slice()) {
-        Ok(code) => install_code(description, parts, bytes, capsule, code, at),
+    match verify(&table, description, capsule.code) {
+        Ok(code) => install_code(description, parts, bytes, &capsule, code, at),
         Err(fault) => Err(InstallFault::Code(fault)),
     }
-}
-
-/// Installs the capsule that is ready, if it is newer than what the node holds. Its program stays in its one place.
-fn install_ready(
-    description: &Description,
-    parts: &mut Parts,
-    bytes: &[u8],
-    ready: ReadyCapsule,
-    at: Stamp,
-) -> Result<(), InstallFault>
-    requires rests { Rests description.now parts.old }
-    requires timely { IsTimely at parts.old.log.all }
-    requires room { 4 ≤ parts.old.log.all.spare }
-    requires few { length parts.old.log.all.entries < 4000000000 }
-    requires ready { IsReady description.now bytes.now ready }
-    ensures installs { InstallGives description.now parts.old parts.new bytes.now at result }
-    ensures gone { parts.new.log.gone ≡ parts.old.log.gone }
-{
-    let ReadyCapsule { handler, program } = ready;
-    let program = Installable {
-        handler,
-        program: Coming::Shared(program),
-    };
-    install_program(description, parts, bytes, program, at)
 }
 
 /// Installs the capsule that the bytes are, as `install_in` does. If it is ready, it needs no more than its place.
@@ -352,7 +324,10 @@ pub fn install_shared(
     ensures gone { parts.new.log.gone ≡ parts.old.log.gone }
 {
     match ready {
-        Some(ready) => install_ready(description, parts, bytes, ready, at),
+        Some(ready) => {
+            let ReadyCapsule { handler, program } = ready;
+            install_one(description, parts, bytes, handler, program, at)
+        }
         None => install_in(description, parts, bytes, at),
     }
 }

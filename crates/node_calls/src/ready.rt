@@ -4,7 +4,7 @@ ghost use Rattle.std.specs.Prelude.{◌≡◌, IfOk, IfSome};
 ghost use Rattle.node_calls.specs.Installing.{IsReady};
 
 use crate::installing::new_program;
-use capsule_codec::decode;
+use capsule_codec::decode_in_place;
 use code_verifier::verify;
 use mate_code::Table;
 use mate_num::{HandlerId, NoMemory};
@@ -28,11 +28,11 @@ impl ReadyCapsule {
     ) -> Result<Option<ReadyCapsule>, NoMemory>
         ensures { IfOk result (λ ready. IfSome ready (IsReady description.now bytes.now)) }
     {
-        let Ok(capsule) = decode(description, bytes) else {
+        let Ok(capsule) = decode_in_place(description, bytes) else {
             return Ok(None);
         };
         let table = Table::of(&shape(description));
-        let Ok(code) = verify(&table, description, capsule.code.as_slice()) else {
+        let Ok(code) = verify(&table, description, capsule.code) else {
             return Ok(None);
         };
         let program = SharedHeld::new(alloc, new_program(description, bytes, &capsule, code))?;

@@ -1,33 +1,55 @@
--- The image is told, all is cleared, and the program takes its place.
-use Rattle.std.proofs.Common.{ℕ, length, ap, subst, arith}
-use Rattle.arrayvec.specs.ArrayVec.{ArrayVec}
-use Rattle.journal_laws.proofs.TidyLemmas.{images-few}
+-- The era begins, and a handler that runs once is posted.
+use Rattle.std.proofs.Common.{◌∙◌, ap, sym, subst, refl, arith, Bool, ◌≡◌}
+use Rattle.std.specs.Prelude.{MatchBool}
 use Rattle.node_invariant.specs.declared.parts.Parts.{Parts}
-use Rattle.node_calls.specs.Installing.{comes}
-use Rattle.node_calls.proofs.InstallLemmas.{IsInstalledIn, RestsAgain-comes}
+use Rattle.node_calls.specs.Arrivals.{IsPosted}
+use Rattle.node_calls.proofs.EraLemmas.{told-one}
 use Rattle.node_calls.proofs.installing.begin.Goals as goal
 
-pub returns-clause-again : goal.returns-clause-again
-returns-clause-again c =
-    let l = c.args.parts.now.log.all in
-    let h = c.args.program.handler in
-    let after = c.push_install.new.self.all in
-    let V : ℕ → Type 0 = λ version. IsInstalledIn l h version c.image.result.now c.args.at after in
-    let I : ArrayVec ℕ → Type 0 = λ image. IsInstalledIn l h (comes c.args.program).version image c.args.at after in
-    let told : V c.version-version.result = record { entries = c.push_install.ensures.entries; images = c.push_install.ensures.images; stores = c.push_install.ensures.stores } in
-    let is : I (comes c.args.program).image = subst I (c.image.ensures h) (subst V (c.version-version.ensures h) told) in
-    RestsAgain-comes c.args.description.now c.args.parts.now c.clear.new.parts c.push_install.new.self c.put.new.handlers c.args.at c.args.bytes.now c.args.program c.requires.rests c.requires.timely c.requires.seen c.requires.can
-    is c.push_install.ensures.spare c.clear.ensures c.put.ensures
+pub runs_once-requires : goal.runs_once-requires
+runs_once-requires c = c.requires.handler
 
-pub put-requires : goal.put-requires
-put-requires c =
-    let same = ap (λ (s : Parts). length s.handlers.programs) c.clear.ensures.same in
-    let places = c.requires.rests.order.keeps.places in
-    let below = c.requires.can.can.handler in
-    omega (arith, same, places, below)
+pub post_in-requires-clause-rests : goal.post_in-requires-clause-rests
+post_in-requires-clause-rests c = (c.begin_era.ensures.again c.requires).rests
 
-pub push_install-requires-clause-count : goal.push_install-requires-clause-count
-push_install-requires-clause-count c =
-    let few = images-few c.args.parts.now.log.all c.requires.rests.order.keeps.tidy.numbered in
-    let entries = c.requires.few in
-    omega arith
+pub post_in-requires-clause-timely : goal.post_in-requires-clause-timely
+post_in-requires-clause-timely c = (c.begin_era.ensures.again c.requires).adds.grows.timely
+
+pub post_in-requires-clause-room : goal.post_in-requires-clause-room
+post_in-requires-clause-room c =
+    let a = c.requires in
+    let begun = (c.begin_era.ensures.again a).adds in
+    let one = told-one a.before.log.all c.begin_era.new.parts.log.all c.args.at begun.told _ begun.grows begun.made in
+    let room = a.room in
+    omega (arith, one.1, room)
+
+pub post_in-requires-clause-few : goal.post_in-requires-clause-few
+post_in-requires-clause-few c =
+    let a = c.requires in
+    let begun = (c.begin_era.ensures.again a).adds in
+    let one = told-one a.before.log.all c.begin_era.new.parts.log.all c.args.at begun.told _ begun.grows begun.made in
+    let few = a.few in
+    omega (arith, one.0, few)
+
+pub post_in-requires-clause-handler : goal.post_in-requires-clause-handler
+post_in-requires-clause-handler c = c.requires.handler
+
+pub returns-then-runs_once-clause-begins : goal.returns-then-runs_once-clause-begins
+returns-then-runs_once-clause-begins c = λ a.
+    let F : Bool → Type 0 = λ b. MatchBool b (IsPosted c.args.description.now c.begin_era.new.parts c.post_in.new.parts c.args.handler c.args.at) (c.post_in.new.parts ≡ c.begin_era.new.parts) in
+    record {
+      next = c.begin_era.new.parts;
+      begun = c.begin_era.ensures.again a;
+      follows = subst F c.if-runs_once.ensures (record { payload = c.new.result; empty = c.new.ensures; answer = c.post_in.result; again = c.post_in.ensures.again });
+    }
+
+pub returns-else-runs_once-clause-begins : goal.returns-else-runs_once-clause-begins
+returns-else-runs_once-clause-begins c = λ a.
+    let F : Bool → Type 0 = λ b. MatchBool b (IsPosted c.args.description.now c.begin_era.new.parts c.begin_era.new.parts c.args.handler c.args.at) (c.begin_era.new.parts ≡ c.begin_era.new.parts) in
+    record { next = c.begin_era.new.parts; begun = c.begin_era.ensures.again a; follows = subst F c.if-runs_once.ensures refl }
+
+pub returns-then-runs_once-clause-gone : goal.returns-then-runs_once-clause-gone
+returns-then-runs_once-clause-gone c = c.post_in.ensures.gone ∙ c.begin_era.ensures.gone
+
+pub returns-else-runs_once-clause-gone : goal.returns-else-runs_once-clause-gone
+returns-else-runs_once-clause-gone c = c.begin_era.ensures.gone
