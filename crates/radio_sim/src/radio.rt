@@ -216,7 +216,9 @@ impl Radio {
         self.air.truncate(0);
     }
 
-    /// Notes what happened on the air. `NoMemory` leaves the radio as it was.
+    /// Notes what happened on the air. `NoMemory` leaves the radio as it was. It is inlined, so that the record is written in its place
+    /// at once.
+    #[inline(always)]
     pub fn note(&mut self, aired: Aired) -> Result<(), NoMemory>
         ensures { MatchResult result (λ _. self.new ≡ record self.old { air = self.old.air ++ aired ∷ [] }) (λ _. self.new ≡ self.old) }
     {

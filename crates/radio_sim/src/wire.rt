@@ -119,6 +119,8 @@ impl Wires {
         ensures kept { IsFurther air.old air.new }
     {
         let shared = SharedPacket::new(self.alloc, desc, bytes)?;
+        // (room for all at once)
+        carried.reserve(self.wires.len())?;
         for wire in &self.wires {
             if wire.loses() {
                 air.push(Aired {
