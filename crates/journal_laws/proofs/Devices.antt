@@ -1,7 +1,7 @@
 -- Calls to a device: between the calls of two invocations to one device, the first one ends. So in each era they are in the order in
 -- which the invocations are read.
 use Rattle.std.proofs.Common.{◌≡◌, ◌≢◌, ◌<◌, ◌≤◌, ℕ, zero, suc, Bool, true, false, IsTrue, refl, sym, ◌∙◌, ap, subst, arith, ◌⊎◌, inl, inr, List, [], ◌∷◌, ◌++◌, Some}
-use Rattle.std.specs.Prelude.{MatchBool}
+use Rattle.std.specs.Prelude.{MatchBool, ⊤}
 use Rattle.std.specs.Prelude.{ℤ, ◌||◌}
 use Rattle.std.proofs.lemmas.Bool.Decides.{eqb_tells}
 use Rattle.std.proofs.lemmas.Bool.{cases_order}
