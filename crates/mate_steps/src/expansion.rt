@@ -10,9 +10,9 @@ use crate::parts::read_file;
 use mate_files::Files;
 use mate_refusals::{Cause, ExpansionCause, Refusal, in_file};
 use proc_expansion::within_limits;
+use proc_reading::{PScript, ProcFault, read};
 use std::alloc::Global;
 use std::mem;
-use proc_reading::{PScript, ProcFault, read};
 
 /// The script with procedures that the source in a file spells, if its expansion is within the limits: that isn't built.
 pub fn expandable_of<F: Files>(alloc: Global, files: &mut F, name: &str) -> Result<PScript, Refusal>

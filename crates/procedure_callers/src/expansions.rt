@@ -7,9 +7,9 @@ ghost use Rattle.proc_names.specs.Named.{written_of};
 ghost use Rattle.proc_renaming.specs.Renaming.{parameter_name, parameter_decls};
 ghost use Rattle.procedure_callers.specs.Procedures.{two_parameters, nested_by_a_call};
 
-use ts_procs::expand;
 use proc_names::{PScript, ProcFault};
 use std::alloc::Global;
+use ts_procs::expand;
 use ts_syntax::Script;
 
 pub fn a_second_procedure_has_numbers_of_its_own(

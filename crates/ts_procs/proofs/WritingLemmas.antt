@@ -1,5 +1,6 @@
 -- What is written so far, and what is left.
-use Rattle.std.proofs.Common.{◌≡◌, ℕ, suc, ◌+◌, ◌<◌, ◌≤◌, List, [], ◌∷◌, ◌++◌, length, drop, get_or, Option, Some, ap, sym, ◌∙◌, arith, append_assoc}
+use Rattle.std.proofs.Common.{◌≡◌, ℕ, suc, ◌+◌, ◌<◌, ◌≤◌, List, [], ◌∷◌, ◌++◌, length, drop, get_or, Option, Some, Result, Ok, Err, ap, sym, ◌∙◌, arith, append_assoc}
+use Rattle.std.specs.Prelude.{IfOk}
 use Rattle.std.proofs.lemmas.List.{append-nil, drop_all}
 use Rattle.ts_syntax.specs.declared.procedure.Proc.{Proc}
 use Rattle.ts_syntax.specs.declared.stmt.Stmt.{Stmt}
@@ -13,8 +14,6 @@ use Rattle.proc_expansion.specs.Expansion.{Callee, callee, first_trees, body_cal
 use Rattle.proc_expansion.specs.Extent.{acts_depth}
 use Rattle.ts_procs.specs.Pending.{acts_left, left_on, steps_left, steps_on}
 use Rattle.proc_expansion.proofs.ExtentLemmas.{acts_depth-append}
-use Rattle.std.proofs.Common.{Result, Ok, Err}
-use Rattle.std.specs.Prelude.{IfOk}
 
 -- the statements from one on: what it becomes, and the rest
 pub block_from : (known : List (List ℕ × Callee)) (h : Hiding) (stmts : List Stmt) (i : ℕ) (s : Stmt) → i < length stmts → s ≡ get_or stmts i s

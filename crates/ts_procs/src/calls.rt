@@ -11,8 +11,8 @@ ghost use Rattle.proc_expansion.specs.Plan.{bodies_of};
 ghost use Rattle.ts_procs.specs.Pending.{left_if, steps_if, steps_of_bodies, act_steps};
 
 use crate::pending::Pending;
-use proc_expansion::Plan;
 use mate_num::NoMemory;
+use proc_expansion::Plan;
 use proc_renaming::Hidden;
 use proc_renaming::statements::assignments;
 use std::alloc::Global;

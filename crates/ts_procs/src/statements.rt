@@ -10,9 +10,9 @@ ghost use Rattle.ts_procs.specs.Pending.{left_if, steps_if, steps_of_bodies, act
 
 use crate::calls::call;
 use crate::pending::Pending;
-use proc_expansion::Plan;
 use crate::stack::{push_if, push_next};
 use mate_num::NoMemory;
+use proc_expansion::Plan;
 use proc_renaming::Hidden;
 use proc_renaming::statements::{for_next, if_else, if_then, simple, while_do};
 use std::alloc::Global;
