@@ -35,15 +35,11 @@ is_taken x c = list_any (λ s. s.invocation.context.0 == c.0) x.seats
 
 abbrev pub may_follow : Machine → Roll → JournalEntry → Bool
 may_follow m x (Posted n h c payload) = (n == suc x.posts) && (is_some (x.installed h) && (is_context_of m h c && not (is_taken x c)))
-may_follow m x (Dropped h cause) = true
 may_follow m x (Started n) = is_at x n is_queued
 may_follow m x (Asked n f args) = is_at x n is_ready
 may_follow m x (Answered n value) = is_at x n is_waiting
 may_follow m x (Ended n how) = is_at x n is_ready && closes how
-may_follow m x (Installed p) = true
-may_follow m x Reset = true
-may_follow m x (Seen store) = true
-may_follow m x (Void cause) = true
+may_follow m x _ = true
 
 -- each entry of the journal, with the roll before it
 abbrev pub follow_one_another : Machine → Roll → List TimedEntry → Bool

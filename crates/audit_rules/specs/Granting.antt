@@ -37,15 +37,7 @@ is_free_to_start conflict x n = list_all (λ s. not (s.number == n) || not (is_h
 
 abbrev pub is_granted : ConflictTest → Roll → ℕ → JournalEntry → Bool
 is_granted conflict x last (Started n) = is_free_to_start conflict x n && nat_lt last n
-is_granted conflict x last (Posted n h c payload) = all_held_back conflict x
-is_granted conflict x last (Dropped h cause) = all_held_back conflict x
-is_granted conflict x last (Asked n f args) = all_held_back conflict x
-is_granted conflict x last (Answered n value) = all_held_back conflict x
-is_granted conflict x last (Ended n how) = all_held_back conflict x
-is_granted conflict x last (Installed p) = all_held_back conflict x
-is_granted conflict x last Reset = all_held_back conflict x
-is_granted conflict x last (Seen store) = all_held_back conflict x
-is_granted conflict x last (Void cause) = all_held_back conflict x
+is_granted conflict x last _ = all_held_back conflict x
 
 -- along a journal, with the number of the invocation that the entry before started
 abbrev pub grants_in_order : ConflictTest → Roll → ℕ → List TimedEntry → Bool

@@ -52,13 +52,7 @@ abbrev pub runs_right : Machine → ConflictTest → Roll → Store → JournalE
 runs_right m conflict x store (Ended n how) = list_all (ends_right m conflict x store n how) x.seats
 runs_right m conflict x store (Installed p) = all_so_far m x store
 runs_right m conflict x store Reset = all_so_far m x store
-runs_right m conflict x store (Posted n h c payload) = true
-runs_right m conflict x store (Dropped h cause) = true
-runs_right m conflict x store (Started n) = true
-runs_right m conflict x store (Asked n f args) = true
-runs_right m conflict x store (Answered n value) = true
-runs_right m conflict x store (Seen seen) = true
-runs_right m conflict x store (Void cause) = true
+runs_right m conflict x store _ = true
 
 -- the store after the end of the invocation of that number
 abbrev pub store_left : Machine → Store → ℕ → List Seat → Store
@@ -70,13 +64,7 @@ abbrev pub serial_after : Machine → Roll → Store → JournalEntry → Store
 serial_after m x store (Ended n how) = store_left m store n x.seats
 serial_after m x store (Installed p) = m.zero_store
 serial_after m x store Reset = m.zero_store
-serial_after m x store (Posted n h c payload) = store
-serial_after m x store (Dropped h cause) = store
-serial_after m x store (Started n) = store
-serial_after m x store (Asked n f args) = store
-serial_after m x store (Answered n value) = store
-serial_after m x store (Seen seen) = store
-serial_after m x store (Void cause) = store
+serial_after m x store _ = store
 
 -- along a journal
 abbrev pub replays_right : Machine → ConflictTest → Roll → Store → List TimedEntry → Bool

@@ -84,7 +84,6 @@ rolled x (Posted n h c payload) = record x {
     phase = Queued;
   }) ∷ [];
 }
-rolled x (Dropped h cause) = x
 rolled x (Started n) = roll_changed n (in_phase Ready) x
 rolled x (Asked n f args) = roll_changed n (in_phase (Waiting f args)) x
 rolled x (Answered n value) = roll_changed n (with_answer value) x
@@ -95,8 +94,7 @@ rolled x (Installed p) = record {
   seats = [];
 }
 rolled x Reset = record x { seats = [] }
-rolled x (Seen store) = x
-rolled x (Void cause) = x
+rolled x _ = x
 
 -- the roll is that of the state: it has exactly the live invocations, as they are
 pub record IsRoll (r : NodeState) (x : Roll) : Type 0 where

@@ -63,15 +63,7 @@ is_store_shown m x store seen =
 
 abbrev pub shows_right : Machine → Roll → Store → JournalEntry → Bool
 shows_right m x store (Seen seen) = is_store_shown m x store seen
-shows_right m x store (Posted n h c payload) = true
-shows_right m x store (Dropped h cause) = true
-shows_right m x store (Started n) = true
-shows_right m x store (Asked n f args) = true
-shows_right m x store (Answered n value) = true
-shows_right m x store (Ended n how) = true
-shows_right m x store (Installed p) = true
-shows_right m x store Reset = true
-shows_right m x store (Void cause) = true
+shows_right m x store _ = true
 
 abbrev pub stores_right : Machine → Roll → Store → List TimedEntry → Bool
 stores_right m x store [] = true

@@ -30,15 +30,7 @@ version_installed installed = option_map_or (λ p. p.version) installed 0
 
 abbrev pub installs_right : List Program → Roll → JournalEntry → Bool
 installs_right ps x (Installed p) = list_any (is_held_as p) ps && nat_lt (version_installed (x.installed p.handler)) p.version
-installs_right ps x (Posted n h c payload) = true
-installs_right ps x (Dropped h cause) = true
-installs_right ps x (Started n) = true
-installs_right ps x (Asked n f args) = true
-installs_right ps x (Answered n value) = true
-installs_right ps x (Ended n how) = true
-installs_right ps x Reset = true
-installs_right ps x (Seen store) = true
-installs_right ps x (Void cause) = true
+installs_right ps x _ = true
 
 abbrev pub images_right : List Program → Roll → List TimedEntry → Bool
 images_right ps x [] = true

@@ -97,11 +97,7 @@ fn may_follow(desc: &Description, roll: &Roll, entry: &Entry) -> bool
         Entry::Answer { inv, value: _ } => is_at(roll.seats.as_slice(), *inv, Stage::Waiting),
         Entry::Halt { inv } => is_at(roll.seats.as_slice(), *inv, Stage::Ready),
         Entry::Fault { inv, kind: _ } => is_at(roll.seats.as_slice(), *inv, Stage::Ready),
-        Entry::Dropped { .. }
-        | Entry::Install { .. }
-        | Entry::Reset
-        | Entry::Seen { .. }
-        | Entry::Void { .. } => true,
+        _ => true,
     }
 }
 

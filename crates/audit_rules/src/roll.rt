@@ -94,7 +94,7 @@ impl Roll {
                 self.seats.clear();
             }
             Entry::Reset => self.seats.clear(),
-            Entry::Dropped { .. } | Entry::Seen { .. } | Entry::Void { .. } => {}
+            _ => {}
         }
         Ok(())
     }

@@ -46,15 +46,7 @@ passed-over m r last n (Started j ∷ starts) rest low queued free are_starts ke
     let below : n < j = omega (arith, low, rises) in
     passed-over m (next_state m r (Started j)) j n starts rest (omega (arith, below)) (still-queued m r n j below queued) (still-free m r n j below queued free keeps.2.0)
     (All-tail IsStart (Started j) starts are_starts) keeps.3 other
-passed-over m r last n (Posted j h c payload ∷ starts) rest low queued free are_starts keeps other = absurd (All-head IsStart (Posted j h c payload) starts are_starts)
-passed-over m r last n (Dropped h cause ∷ starts) rest low queued free are_starts keeps other = absurd (All-head IsStart (Dropped h cause) starts are_starts)
-passed-over m r last n (Asked j f args ∷ starts) rest low queued free are_starts keeps other = absurd (All-head IsStart (Asked j f args) starts are_starts)
-passed-over m r last n (Answered j value ∷ starts) rest low queued free are_starts keeps other = absurd (All-head IsStart (Answered j value) starts are_starts)
-passed-over m r last n (Ended j how ∷ starts) rest low queued free are_starts keeps other = absurd (All-head IsStart (Ended j how) starts are_starts)
-passed-over m r last n (Installed p ∷ starts) rest low queued free are_starts keeps other = absurd (All-head IsStart (Installed p) starts are_starts)
-passed-over m r last n (Reset ∷ starts) rest low queued free are_starts keeps other = absurd (All-head IsStart Reset starts are_starts)
-passed-over m r last n (Seen store ∷ starts) rest low queued free are_starts keeps other = absurd (All-head IsStart (Seen store) starts are_starts)
-passed-over m r last n (Void cause ∷ starts) rest low queued free are_starts keeps other = absurd (All-head IsStart (Void cause) starts are_starts)
+passed-over m r last n (t ∷ starts) rest low queued free are_starts keeps other = absurd (All-head IsStart t starts are_starts)
 
 -- the number that a start has
 record StartIs (t : JournalEntry) : Type 0 where

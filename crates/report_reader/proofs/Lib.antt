@@ -1,5 +1,7 @@
 pub mod VerbLemmas
-pub mod LineLemmas
-pub mod LineOf
-pub mod WrittenLines
 pub mod Ranges
+pub mod FormLemmas
+pub mod KindLemmas
+pub mod LineLemmas
+pub mod WrittenLines
+pub mod LineOf

@@ -10,7 +10,6 @@ use Rattle.report_reader.specs.declared.light_line.Bulk.{Bulk}
 use Rattle.report_reader.specs.declared.light_line.LightLine.{LightLine}
 use Rattle.report_reader.specs.LightLine.{bulky_line}
 use Rattle.report_reader.proofs.LineLemmas.{line_in-words}
-use Rattle.report_reader.proofs.Ranges.{line_ranges}
 use Rattle.report_reader.proofs.WrittenLines.{line_is_read}
 
 pub form_of : (d : Description) (bytes : List ℕ) (r : Option Line) → r ≡ line_in d bytes → IfSome r (λ l. bytes ≡ line_words d l)
@@ -23,7 +22,7 @@ right_of d bytes (Some l) h = (line_in-words d bytes l (sym h)).right
 
 pub ranges_of : (d : Description) (bytes : List ℕ) (r : Option Line) → r ≡ line_in d bytes → IfSome r (λ l. HasLineRanges l)
 ranges_of d bytes None h = tt
-ranges_of d bytes (Some l) h = line_ranges d bytes l (sym h)
+ranges_of d bytes (Some l) h = (line_in-words d bytes l (sym h)).ranges
 
 -- where none was read, the bytes are the words of no line
 pub none_of : (d : Description) (bytes : List ℕ) (r : Option Line) → r ≡ line_in d bytes → IfNone r ((l : Line) → IsRightLine d l → HasLineRanges l → bytes ≡ line_words d l → ⊥)

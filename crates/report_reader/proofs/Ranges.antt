@@ -1,4 +1,4 @@
--- The numbers of a line that was read are in the ranges of their types.
+-- What was read of a field is in the range of its type.
 use Rattle.std.proofs.Common.{◌≡◌, ℕ, zero, suc, ◌+◌, ◌*◌, ◌^◌, ◌<◌, ◌≤◌, ◌==◌, nat_lt, nat_le, ◌&&◌, List, [], ◌∷◌, ◌++◌, length, Option, Some, None, sym, ap, subst, ◌∙◌, arith, inl, inr, length-append}
 use Rattle.std.specs.Prelude.{ℤ, pos, negsuc, All, FitsSigned}
 use Rattle.std.specs.Int.{w16}
@@ -12,26 +12,14 @@ use Rattle.hex.specs.Hex.{lower_digits}
 use Rattle.hex.proofs.HexLemmas.{length-encode_with}
 use Rattle.mate_num.specs.declared.store.Store.{Store}
 use Rattle.vm_desc.specs.declared.description.Description.{Description}
-use Rattle.mate_journal.specs.declared.air.Air.TheVariants as air
-use Rattle.mate_journal.specs.declared.entry.VoidCause.TheVariants as void
-use Rattle.mate_journal.specs.declared.entry.Entry.TheVariants as entry
-use Rattle.report_reader.specs.declared.line.Told.{Told}
-use Rattle.report_reader.specs.declared.line.Told.TheVariants as told
-use Rattle.report_reader.specs.declared.line.Line.{Line}
-use Rattle.report_reader.specs.declared.verb.Verb.{Verb}
-use Rattle.report_reader.specs.declared.verb.Verb.TheVariants as verb
-use Rattle.report_fields.specs.Words.{words_of, first, rest, reads, only_at_end}
+use Rattle.report_fields.specs.Words.{first, rest}
 use Rattle.report_fields.specs.Numbers.{below_limit, unsigned_of, below_of, negative, positive, value_of, values_after}
-use Rattle.report_fields.specs.Fields.{named_among, number_of, node_of, drop_of, fault_of, payload_of}
-use Rattle.report_reader.specs.Verbs.{verb_of}
+use Rattle.report_fields.specs.Fields.{number_of, payload_of}
 use Rattle.capsule_codec.specs.HexText.{bytes_of_digits}
-use Rattle.report_fields.specs.Hex.{is_hex_word, hex_of, image_of, packet_of}
-use Rattle.report_fields.specs.Names.{handler_of, function_of, context_of}
+use Rattle.report_fields.specs.Hex.{is_hex_word, hex_of}
 use Rattle.report_fields.specs.Stores.{after, closed, shared_value, shared_after, item, items_after, opened, buffer_of, buffers_after, store_with, store_of}
 use Rattle.mate_journal.specs.Entries.{AreValues}
-use Rattle.mate_journal.specs.Ranges.{IsByteList}
-use Rattle.report_reader.specs.Told.{HasToldRanges, HasLineRanges}
-use Rattle.report_reader.specs.Reading.{post_of, dropped_of, ask_of, VoidVerb, ready, waiting, newer, void_word, void_by, told_by, told_of, line_with, line_in}
+use Rattle.mate_journal.specs.Ranges.{IsByteList, HasStoreRanges}
 use Rattle.report_fields.proofs.OptionLemmas.{steps, when_some, below_some}
 use Rattle.report_fields.proofs.NumberLemmas.{decimal-below_of}
 use Rattle.report_fields.proofs.HexLemmas.{encode_lower-bytes_of_digits, small-bytes_of_digits}
@@ -40,14 +28,14 @@ use Rattle.report_fields.proofs.StoreLemmas.{only_end}
 
 -- ---- numbers
 
-first-told : {A : Type 0} (tells : List ℕ → Option A) (P : A → Type 0) → ((w : List ℕ) (a : A) → tells w ≡ Some a → P a) → (ws : List (List ℕ)) (a : A) → first tells ws ≡ Some a → P a
+pub first-told : {A : Type 0} (tells : List ℕ → Option A) (P : A → Type 0) → ((w : List ℕ) (a : A) → tells w ≡ Some a → P a) → (ws : List (List ℕ)) (a : A) → first tells ws ≡ Some a → P a
 first-told tells P h [] a e = absurd cc
 first-told tells P h (w ∷ ws) a e = h w a e
 
-small-number : (ws : List (List ℕ)) (n : ℕ) → first number_of ws ≡ Some n → n < 2 ^ 32
+pub small-number : (ws : List (List ℕ)) (n : ℕ) → first number_of ws ≡ Some n → n < 2 ^ 32
 small-number ws n h = first-told number_of (λ m. m < 2 ^ 32) (λ w m e. (decimal-below_of (2 ^ 32) w m e).below) ws n h
 
-small-unsigned : (w : List ℕ) (n : ℕ) → unsigned_of w ≡ Some n → n < 2 ^ 64
+pub small-unsigned : (w : List ℕ) (n : ℕ) → unsigned_of w ≡ Some n → n < 2 ^ 64
 small-unsigned w n h =
     let numeral = when_some (Rattle.report_fields.specs.Numbers.is_plain_numeral w) (below_limit (2 ^ 64) (Rattle.std.specs.Str.Parse.digits_value 10 w)) n h in
     let below = below_some (Rattle.std.specs.Str.Parse.digits_value 10 w) (2 ^ 64) n numeral.1 in
@@ -73,7 +61,7 @@ positive-fits n v h =
     let this : FitsSigned w16 (pos n) = record { sfits = ltb-true n 32768 parts.0 } in
     subst (λ (x : ℤ). FitsSigned w16 x) same this
 
-value-fits : (w : List ℕ) (v : ℤ) → value_of w ≡ Some v → FitsSigned w16 v
+pub value-fits : (w : List ℕ) (v : ℤ) → value_of w ≡ Some v → FitsSigned w16 v
 value-fits [] v h = absurd cc
 value-fits (b ∷ bs) v h =
     elim (cases_Bool (b == 45)) [
@@ -96,7 +84,7 @@ values-fit before (w ∷ ws) all are h =
     let more = when_some (nat_lt (length before) 10) (values_after (before ++ s.step ∷ []) ws) all s.gives in
     values-fit (before ++ s.step ∷ []) ws all (push-values before s.step are (ltb-true (length before) 10 more.0) (value-fits w s.step s.was)) more.1
 
-payload-fits : (ws : List (List ℕ)) (p : ArrayVec ℤ) → payload_of ws ≡ Some p → AreValues p.items
+pub payload-fits : (ws : List (List ℕ)) (p : ArrayVec ℤ) → payload_of ws ≡ Some p → AreValues p.items
 payload-fits ws p h =
     let m = maps (λ (vs : List ℤ). let x : ArrayVec ℤ = record { items = vs } in x) (values_after [] ws) p h in
     subst AreValues (ap (λ (x : ArrayVec ℤ). x.items) m.gives) (values-fit [] ws m.value no_values m.was)
@@ -107,7 +95,7 @@ pub record AreBytes (most : ℕ) (bytes : List ℕ) : Type 0 where
   pub few : length bytes ≤ most
   pub list : IsByteList bytes
 
-hex-bytes : (most : ℕ) (w : List ℕ) (v : ArrayVec ℕ) → hex_of most w ≡ Some v → AreBytes most v.items
+pub hex-bytes : (most : ℕ) (w : List ℕ) (v : ArrayVec ℕ) → hex_of most w ≡ Some v → AreBytes most v.items
 hex-bytes most w v h =
     let parts = when_some (is_hex_word w && nat_le (length w) (2 * most)) (Some (let x : ArrayVec ℕ = record { items = bytes_of_digits w } in x)) v h in
     let tests = and_parts (is_hex_word w) (nat_le (length w) (2 * most)) parts.0 in
@@ -180,124 +168,11 @@ buffers-fit before (name ∷ names) ws r are h =
     let this : AreValues s.step.0 = opened-fit o.step (rest ws) s.step o.gives in
     buffers-fit (before ++ b ∷ []) names s.step.1 r (All-push (λ (x : ArrayVec ℤ). AreValues x.items) before b are this) s.gives
 
-store-fits : (d : Description) (ws : List (List ℕ)) (s : Store) → store_of d ws ≡ Some s → HasToldRanges (told.Shown s)
+pub store-fits : (d : Description) (ws : List (List ℕ)) (s : Store) → store_of d ws ≡ Some s → HasStoreRanges s
 store-fits d ws s h =
     let p = steps _ (shared_after [] d.shared.items ws) s h in
     let q = steps _ (buffers_after [] d.buffers.items p.step.1) s p.gives in
     let e = only_end (store_with p.step.0 q.step.0) s q.step.1 q.gives in
     let shared = shared-fit [] d.shared.items ws p.step (All-nil (λ (v : ℤ). FitsSigned w16 v)) p.was in
     let buffers = buffers-fit [] d.buffers.items p.step.1 q.step (All-nil (λ (b : ArrayVec ℤ). AreValues b.items)) q.was in
-    let this : HasToldRanges (told.Shown (store_with p.step.0 q.step.0)) = (shared, buffers) in
-    let P : Store → Type 0 = λ x. HasToldRanges (told.Shown x) in
-    subst P e.1 this
-
--- ---- each kind of record
-
-along : (t u : Told) → t ≡ u → HasToldRanges t → HasToldRanges u
-along t u e h = subst HasToldRanges e h
-
-numbered : (make : ℕ → Told) → ((n : ℕ) → n < 2 ^ 32 → HasToldRanges (make n)) → (ws : List (List ℕ)) (t : Told) → reads number_of (λ n. only_at_end (make n)) ws ≡ Some t → HasToldRanges t
-numbered make ranges ws t h =
-    let a = steps _ (first number_of ws) t h in
-    let z = only_end (make a.step) t (rest ws) a.gives in
-    along (make a.step) t z.1 (ranges a.step (small-number ws a.step a.was))
-
-paired : {A : Type 0} (tells : List ℕ → Option A) (P : A → Type 0) (is : (w : List ℕ) (a : A) → tells w ≡ Some a → P a) (make : ℕ → A → Told)
-    → ((n : ℕ) (a : A) → n < 2 ^ 32 → P a → HasToldRanges (make n a)) → (ws : List (List ℕ)) (t : Told)
-    → reads number_of (λ n. reads tells (λ a. only_at_end (make n a))) ws ≡ Some t → HasToldRanges t
-paired tells P is make ranges ws t h =
-    let a = steps _ (first number_of ws) t h in
-    let b = steps _ (first tells (rest ws)) t a.gives in
-    let z = only_end (make a.step b.step) t (rest (rest ws)) b.gives in
-    along (make a.step b.step) t z.1 (ranges a.step b.step (small-number ws a.step a.was) (first-told tells P is (rest ws) b.step b.was))
-
-post : (d : Description) (ws : List (List ℕ)) (t : Told) → post_of d ws ≡ Some t → HasToldRanges t
-post d ws t h =
-    let a = steps _ (first number_of ws) t h in
-    let b = steps _ (first (handler_of d) (rest ws)) t a.gives in
-    let c = steps _ (first (context_of d) (rest (rest ws))) t b.gives in
-    let p = maps _ (payload_of (rest (rest (rest ws)))) t c.gives in
-    along (told.Made (entry.Post a.step b.step c.step p.value)) t p.gives (small-number ws a.step a.was, payload-fits (rest (rest (rest ws))) p.value p.was)
-
-ask : (d : Description) (ws : List (List ℕ)) (t : Told) → ask_of d ws ≡ Some t → HasToldRanges t
-ask d ws t h =
-    let a = steps _ (first number_of ws) t h in
-    let b = steps _ (first (function_of d) (rest ws)) t a.gives in
-    let p = maps _ (payload_of (rest (rest ws))) t b.gives in
-    along (told.Made (entry.Ask a.step b.step p.value)) t p.gives (small-number ws a.step a.was, payload-fits (rest (rest ws)) p.value p.was)
-
-dropped : (d : Description) (ws : List (List ℕ)) (t : Told) → dropped_of d ws ≡ Some t → HasToldRanges t
-dropped d ws t h =
-    let a = steps _ (first (handler_of d) ws) t h in
-    let b = steps _ (first drop_of (rest ws)) t a.gives in
-    let z = only_end (told.Made (entry.Dropped a.step b.step)) t (rest (rest ws)) b.gives in
-    along (told.Made (entry.Dropped a.step b.step)) t z.1 tt
-
-installed : (d : Description) (ws : List (List ℕ)) (t : Told) → Rattle.report_reader.specs.Reading.installed_of d ws ≡ Some t → HasToldRanges t
-installed d ws t h =
-    let a = steps _ (first (handler_of d) ws) t h in
-    let b = steps _ (first number_of (rest ws)) t a.gives in
-    let c = steps _ (first image_of (rest (rest ws))) t b.gives in
-    let z = only_end (told.Installed a.step b.step c.step) t (rest (rest (rest ws))) c.gives in
-    let bytes = first-told image_of (λ (v : ArrayVec ℕ). AreBytes 1056 v.items) (λ w v e. hex-bytes 1056 w v e) (rest (rest ws)) c.step c.was in
-    along (told.Installed a.step b.step c.step) t z.1 (small-number (rest ws) b.step b.was, bytes.few, bytes.list)
-
-noise : (ws : List (List ℕ)) (t : Told) → Rattle.report_reader.specs.Reading.noise_told ws ≡ Some t → HasToldRanges t
-noise ws t h =
-    let a = steps _ (first packet_of ws) t h in
-    let z = only_end (told.OnAir (air.Noise a.step)) t (rest ws) a.gives in
-    let bytes = first-told packet_of (λ (v : ArrayVec ℕ). AreBytes 64 v.items) (λ w v e. hex-bytes 64 w v e) ws a.step a.was in
-    along (told.OnAir (air.Noise a.step)) t z.1 (bytes.few, bytes.list)
-
-alone : (made t : Told) (ws : List (List ℕ)) → HasToldRanges made → only_at_end made ws ≡ Some t → HasToldRanges t
-alone made t ws r h = along made t (only_end made t ws h).1 r
-
-void_by_ranges : (v : VoidVerb) (ws : List (List ℕ)) (t : Told) → void_by v ws ≡ Some t → HasToldRanges t
-void_by_ranges ready ws t h = alone (told.Made (entry.Void void.NotReady)) t ws tt h
-void_by_ranges waiting ws t h = alone (told.Made (entry.Void void.NotWaiting)) t ws tt h
-void_by_ranges newer ws t h = numbered (λ n. told.Made (entry.Void (void.NotNewer n))) (λ n r. r) ws t h
-
-shown : (d : Description) (ws : List (List ℕ)) (t : Told) → Rattle.report_reader.specs.Reading.shown_of d ws ≡ Some t → HasToldRanges t
-shown d ws t h =
-    let m = maps (λ (s : Store). told.Shown s) (store_of d ws) t h in
-    along (told.Shown m.value) t m.gives (store-fits d ws m.value m.was)
-
-told_by_ranges : (d : Description) (v : Verb) (ws : List (List ℕ)) (t : Told) → told_by d v ws ≡ Some t → HasToldRanges t
-told_by_ranges d verb.Post ws t h = post d ws t h
-told_by_ranges d verb.Drop ws t h = dropped d ws t h
-told_by_ranges d verb.Start ws t h = numbered (λ n. told.Made (entry.Start n)) (λ n r. r) ws t h
-told_by_ranges d verb.Ask ws t h = ask d ws t h
-told_by_ranges d verb.Answer ws t h =
-    paired value_of (λ (v : ℤ). FitsSigned w16 v) (λ w v e. value-fits w v e) (λ n v. told.Made (entry.Answer n v)) (λ n v r f. (r, f)) ws t h
-told_by_ranges d verb.Halt ws t h = numbered (λ n. told.Made (entry.Halt n)) (λ n r. r) ws t h
-told_by_ranges d verb.Fault ws t h = paired fault_of (λ k. Unit {0}) (λ w k e. tt) (λ n k. told.Made (entry.Fault n k)) (λ n k r f. r) ws t h
-told_by_ranges d verb.Install ws t h = installed d ws t h
-told_by_ranges d verb.Reset ws t h = alone (told.Made entry.Reset) t ws tt h
-told_by_ranges d verb.Seen ws t h = shown d ws t h
-told_by_ranges d verb.Void ws t h =
-    let a = steps _ (first (named_among void_word (ready ∷ waiting ∷ newer ∷ [])) ws) t h in void_by_ranges a.step (rest ws) t a.gives
-told_by_ranges d verb.Interval ws t h = numbered (λ n. told.OnAir (air.Interval n)) (λ n r. r) ws t h
-told_by_ranges d verb.Keep ws t h = alone (told.OnAir air.Keep) t ws tt h
-told_by_ranges d verb.Sent ws t h =
-    paired packet_of (λ (v : ArrayVec ℕ). AreBytes 64 v.items) (λ w v e. hex-bytes 64 w v e) (λ n v. told.OnAir (air.Sent n v)) (λ n v r f. (r, f.few, f.list)) ws t h
-told_by_ranges d verb.Lost ws t h = paired node_of (λ n. Unit {0}) (λ w n e. tt) (λ n to. told.OnAir (air.Lost n to)) (λ n to r f. r) ws t h
-told_by_ranges d verb.Got ws t h = paired node_of (λ n. Unit {0}) (λ w n e. tt) (λ n from. told.OnAir (air.Got n from)) (λ n from r f. r) ws t h
-told_by_ranges d verb.Noise ws t h = noise ws t h
-
-told_ranges : (d : Description) (ws : List (List ℕ)) (t : Told) → told_of d ws ≡ Some t → HasToldRanges t
-unfolding told_of
-told_ranges d ws t h = let a = steps (λ (v : Verb). told_by d v (rest ws)) (first verb_of ws) t h in told_by_ranges d a.step (rest ws) t a.gives
-
-pub line_ranges : (d : Description) (bytes : List ℕ) (l : Line) → line_in d bytes ≡ Some l → HasLineRanges l
-line_ranges d bytes l h =
-    let ws = words_of bytes in
-    let a = steps _ (first unsigned_of ws) l h in
-    let b = steps _ (first number_of (rest ws)) l a.gives in
-    let c = steps _ (first node_of (rest (rest ws))) l b.gives in
-    let m = maps _ (told_of d (rest (rest (rest ws)))) l c.gives in
-    let this : HasLineRanges (line_with a.step b.step c.step m.value) = record {
-      event = first-told unsigned_of (λ n. n < 2 ^ 64) (λ w n e. small-unsigned w n e) ws a.step a.was;
-      time = small-number (rest ws) b.step b.was;
-      told = told_ranges d (rest (rest (rest ws))) m.value m.was;
-    } in
-    subst HasLineRanges m.gives this
+    subst HasStoreRanges e.1 (shared, buffers)

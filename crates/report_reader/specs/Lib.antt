@@ -1,4 +1,5 @@
-pub mod Verbs
 pub mod Told
+pub mod Forms
+pub mod Verbs
 pub mod Reading
 pub mod LightLine

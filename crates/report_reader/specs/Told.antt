@@ -4,7 +4,6 @@ use Rattle.arrayvec.specs.ArrayVec.{ArrayVec}
 use Rattle.mate_num.specs.declared.bounds.TheConstants.{IMAGE_MAX, NODES_MAX}
 use Rattle.mate_num.specs.declared.store.Store.{Store}
 use Rattle.vm_desc.specs.declared.description.Description.{Description}
-use Rattle.vm_desc.specs.Whole.{context_count}
 use Rattle.mate_journal.specs.Log.{Log}
 use Rattle.mate_journal.specs.Tidy.{IsStoreOf}
 use Rattle.mate_journal.specs.declared.air.Air.{Air}
@@ -12,7 +11,7 @@ use Rattle.mate_journal.specs.declared.air.Air.TheVariants as air
 use Rattle.mate_journal.specs.declared.entry.Entry.{Entry}
 use Rattle.mate_journal.specs.declared.entry.Entry.TheVariants as entry
 use Rattle.report_text.specs.Words.{stamp_words, air_words, entry_words}
-use Rattle.mate_journal.specs.Entries.{HasEntryRanges}
+use Rattle.mate_journal.specs.Entries.{IsEntryInRange, HasEntryRanges}
 use Rattle.mate_journal.specs.Ranges.{IsByteList, HasAirRanges, HasStoreRanges}
 use Rattle.report_reader.specs.declared.line.Told.{Told}
 use Rattle.report_reader.specs.declared.line.Told.TheVariants as told
@@ -41,12 +40,9 @@ line_text d l = line_words d l ++ codes "\n"
 
 -- what an entry names is there; an image and a store are in the line itself
 abbrev pub IsRightEntry : Description → Entry → Type 0
-IsRightEntry d (entry.Post n h c payload) = (h.0 < length d.handlers.items) × (c.0 < context_count d)
-IsRightEntry d (entry.Dropped h cause) = h.0 < length d.handlers.items
-IsRightEntry d (entry.Ask n f args) = f.0 < length d.functions.items
 IsRightEntry d (entry.Install h version image) = ⊥
 IsRightEntry d (entry.Seen store) = ⊥
-IsRightEntry d _ = ⊤
+IsRightEntry d e = IsEntryInRange d e
 
 -- node numbers are those of a world, and no packet is empty
 abbrev pub IsRightAir : Air → Type 0

@@ -1,9 +1,25 @@
-//! The words that begin a record.
+//! The words that begin a record, and what is read after each.
 
 ghost use Rattle.std.specs.Prelude.{◌≡◌};
-ghost use Rattle.report_reader.specs.Verbs.{verb_word, likely, verb_of};
+ghost use Rattle.std.specs.Option.{option_map};
+ghost use Rattle.vm_desc.specs.declared.description.Description.{Description as Described};
+ghost use Rattle.report_fields.specs.Words.{first, rest, only_at_end};
+ghost use Rattle.report_reader.specs.declared.light_line.Bulk.{Bulk as WithBulk};
+ghost use Rattle.report_reader.specs.declared.verb.Verb.TheVariants as verbs;
+ghost use Rattle.report_reader.specs.Forms.{newer};
+ghost use Rattle.report_reader.specs.LightLine.{told_with};
+ghost use Rattle.report_reader.specs.Reading.{told_by};
+ghost use Rattle.report_reader.specs.Verbs.{verb_word, likely, verb_of, void_by, void_of};
 
+use crate::light_line::{Bulk, LightTold};
+use mate_journal::{Air, Entry, VoidCause};
+use report_fields::fields::{
+    next_context, next_drop, next_fault, next_function, next_handler, next_image, next_node,
+    next_number, next_packet, next_value, payload,
+};
 use report_fields::words::same_bytes;
+use report_fields::{Words, store_of};
+use vm_desc::Description;
 
 /// What kind of record a line is of.
 #[derive(Clone, Copy)]
@@ -88,6 +104,232 @@ pub fn verb_of(word: &[u8]) -> Option<Verb>
     let verb = likely(*first, *third);
     if same_bytes(verb.word(), word) {
         Some(verb)
+    } else {
+        None
+    }
+}
+
+/// The verb that the next word names; None if it names none.
+pub(crate) fn next_verb(words: &mut Words) -> Option<Verb>
+    ensures value { result ≡ first verb_of words.old }
+    ensures left { words.new ≡ rest words.old }
+{
+    verb_of(words.next()?)
+}
+
+/// What the words after the verb say. If that has an image or a store, it is left in `bulk`.
+pub(crate) fn told_by(
+    desc: &Description,
+    verb: Verb,
+    words: &mut Words,
+    bulk: &mut Bulk,
+) -> Option<LightTold>
+    ensures { option_map (told_with bulk.new) result ≡ told_by desc.now verb words.old }
+{
+    match verb {
+        Verb::Post => post(desc, words),
+        Verb::Drop => dropped(desc, words),
+        Verb::Start => started(words),
+        Verb::Ask => ask(desc, words),
+        Verb::Answer => answer(words),
+        Verb::Halt => halted(words),
+        Verb::Fault => faulted(words),
+        Verb::Install => installed(desc, words, bulk),
+        Verb::Reset => at_end(words, LightTold::Made(Entry::Reset)),
+        Verb::Seen => shown(desc, words, bulk),
+        Verb::Void => void(words),
+        Verb::Interval => interval(words),
+        Verb::Keep => at_end(words, LightTold::OnAir(Air::Keep)),
+        Verb::Sent => sent(words),
+        Verb::Lost => lost(words),
+        Verb::Got => got(words),
+        Verb::Noise => noise(words),
+    }
+}
+
+/// What was read, if no word is left.
+fn at_end(words: &Words, told: LightTold) -> Option<LightTold>
+    ensures { (x : WithBulk) → option_map (told_with x) result ≡ only_at_end (told_with x told) words.now }
+{
+    if words.is_empty() { Some(told) } else { None }
+}
+
+fn post(desc: &Description, words: &mut Words) -> Option<LightTold>
+    ensures { (x : WithBulk) → option_map (told_with x) result ≡ told_by desc.now verbs.Post words.old }
+{
+    let inv = next_number(words)?;
+    let handler = next_handler(desc, words)?;
+    let ctx = next_context(desc, words)?;
+    let payload = payload(words)?;
+    Some(LightTold::Made(Entry::Post {
+        inv,
+        handler,
+        ctx,
+        payload,
+    }))
+}
+
+fn dropped(desc: &Description, words: &mut Words) -> Option<LightTold>
+    ensures { (x : WithBulk) → option_map (told_with x) result ≡ told_by desc.now verbs.Drop words.old }
+{
+    let handler = next_handler(desc, words)?;
+    let cause = next_drop(words)?;
+    if words.is_empty() {
+        Some(LightTold::Made(Entry::Dropped { handler, cause }))
+    } else {
+        None
+    }
+}
+
+fn started(words: &mut Words) -> Option<LightTold>
+    ensures { (d : Described) (x : WithBulk) → option_map (told_with x) result ≡ told_by d verbs.Start words.old }
+{
+    let inv = next_number(words)?;
+    if words.is_empty() {
+        Some(LightTold::Made(Entry::Start { inv }))
+    } else {
+        None
+    }
+}
+
+fn ask(desc: &Description, words: &mut Words) -> Option<LightTold>
+    ensures { (x : WithBulk) → option_map (told_with x) result ≡ told_by desc.now verbs.Ask words.old }
+{
+    let inv = next_number(words)?;
+    let fun = next_function(desc, words)?;
+    let args = payload(words)?;
+    Some(LightTold::Made(Entry::Ask { inv, fun, args }))
+}
+
+fn answer(words: &mut Words) -> Option<LightTold>
+    ensures { (d : Described) (x : WithBulk) → option_map (told_with x) result ≡ told_by d verbs.Answer words.old }
+{
+    let inv = next_number(words)?;
+    let value = next_value(words)?;
+    at_end(words, LightTold::Made(Entry::Answer { inv, value }))
+}
+
+fn halted(words: &mut Words) -> Option<LightTold>
+    ensures { (d : Described) (x : WithBulk) → option_map (told_with x) result ≡ told_by d verbs.Halt words.old }
+{
+    let inv = next_number(words)?;
+    if words.is_empty() {
+        Some(LightTold::Made(Entry::Halt { inv }))
+    } else {
+        None
+    }
+}
+
+fn faulted(words: &mut Words) -> Option<LightTold>
+    ensures { (d : Described) (x : WithBulk) → option_map (told_with x) result ≡ told_by d verbs.Fault words.old }
+{
+    let inv = next_number(words)?;
+    let kind = next_fault(words)?;
+    if words.is_empty() {
+        Some(LightTold::Made(Entry::Fault { inv, kind }))
+    } else {
+        None
+    }
+}
+
+fn installed(desc: &Description, words: &mut Words, bulk: &mut Bulk) -> Option<LightTold>
+    ensures { option_map (told_with bulk.new) result ≡ told_by desc.now verbs.Install words.old }
+{
+    let handler = next_handler(desc, words)?;
+    let version = next_number(words)?;
+    bulk.image = next_image(words)?;
+    if words.is_empty() {
+        Some(LightTold::Installed { handler, version })
+    } else {
+        None
+    }
+}
+
+fn shown(desc: &Description, words: &mut Words, bulk: &mut Bulk) -> Option<LightTold>
+    ensures { option_map (told_with bulk.new) result ≡ told_by desc.now verbs.Seen words.old }
+{
+    bulk.store = store_of(desc, words)?;
+    Some(LightTold::Shown)
+}
+
+fn void(words: &mut Words) -> Option<LightTold>
+    ensures { (x : WithBulk) → option_map (told_with x) result ≡ void_of words.old }
+{
+    let word = words.next()?;
+    if b"notready".as_slice() == word {
+        at_end(
+            words,
+            LightTold::Made(Entry::Void {
+                cause: VoidCause::NotReady,
+            }),
+        )
+    } else if b"notwaiting".as_slice() == word {
+        at_end(
+            words,
+            LightTold::Made(Entry::Void {
+                cause: VoidCause::NotWaiting,
+            }),
+        )
+    } else if b"notnewer".as_slice() == word {
+        not_newer(words)
+    } else {
+        None
+    }
+}
+
+fn not_newer(words: &mut Words) -> Option<LightTold>
+    ensures { (x : WithBulk) → option_map (told_with x) result ≡ void_by newer words.old }
+{
+    let held = next_number(words)?;
+    at_end(
+        words,
+        LightTold::Made(Entry::Void {
+            cause: VoidCause::NotNewer { held },
+        }),
+    )
+}
+
+fn interval(words: &mut Words) -> Option<LightTold>
+    ensures { (d : Described) (x : WithBulk) → option_map (told_with x) result ≡ told_by d verbs.Interval words.old }
+{
+    let length = next_number(words)?;
+    if words.is_empty() {
+        Some(LightTold::OnAir(Air::Interval { length }))
+    } else {
+        None
+    }
+}
+
+fn sent(words: &mut Words) -> Option<LightTold>
+    ensures { (d : Described) (x : WithBulk) → option_map (told_with x) result ≡ told_by d verbs.Sent words.old }
+{
+    let number = next_number(words)?;
+    let bytes = next_packet(words)?;
+    at_end(words, LightTold::OnAir(Air::Sent { number, bytes }))
+}
+
+fn lost(words: &mut Words) -> Option<LightTold>
+    ensures { (d : Described) (x : WithBulk) → option_map (told_with x) result ≡ told_by d verbs.Lost words.old }
+{
+    let number = next_number(words)?;
+    let to = next_node(words)?;
+    at_end(words, LightTold::OnAir(Air::Lost { number, to }))
+}
+
+fn got(words: &mut Words) -> Option<LightTold>
+    ensures { (d : Described) (x : WithBulk) → option_map (told_with x) result ≡ told_by d verbs.Got words.old }
+{
+    let number = next_number(words)?;
+    let from = next_node(words)?;
+    at_end(words, LightTold::OnAir(Air::Got { number, from }))
+}
+
+fn noise(words: &mut Words) -> Option<LightTold>
+    ensures { (d : Described) (x : WithBulk) → option_map (told_with x) result ≡ told_by d verbs.Noise words.old }
+{
+    let bytes = next_packet(words)?;
+    if words.is_empty() {
+        Some(LightTold::OnAir(Air::Noise { bytes }))
     } else {
         None
     }

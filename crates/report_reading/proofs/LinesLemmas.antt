@@ -257,17 +257,9 @@ front-seen l front a at store back e f =
 front-next : (l : Log) (front : List Stamped) (a : Log) (at : Stamp) (x : Entry) (back : List Stamped)
     → names_in image_named (front ++ stamped at x ∷ back) ≡ below (length l.images) → names_in store_named (front ++ stamped at x ∷ back) ≡ below (length l.stores) → IsFrontOf l front a
     → IsFrontOf l (front ++ stamped at x ∷ []) (log_with_line a at (told_by_entry l x))
-front-next l front a at (entry.Post n h c payload) back i s f = front-other l front a (stamped at (entry.Post n h c payload)) refl refl refl f
-front-next l front a at (entry.Dropped h cause) back i s f = front-other l front a (stamped at (entry.Dropped h cause)) refl refl refl f
-front-next l front a at (entry.Start n) back i s f = front-other l front a (stamped at (entry.Start n)) refl refl refl f
-front-next l front a at (entry.Ask n g args) back i s f = front-other l front a (stamped at (entry.Ask n g args)) refl refl refl f
-front-next l front a at (entry.Answer n v) back i s f = front-other l front a (stamped at (entry.Answer n v)) refl refl refl f
-front-next l front a at (entry.Halt n) back i s f = front-other l front a (stamped at (entry.Halt n)) refl refl refl f
-front-next l front a at (entry.Fault n kind) back i s f = front-other l front a (stamped at (entry.Fault n kind)) refl refl refl f
 front-next l front a at (entry.Install h version image) back i s f = front-install l front a at h version image back i f
-front-next l front a at entry.Reset back i s f = front-other l front a (stamped at entry.Reset) refl refl refl f
 front-next l front a at (entry.Seen store) back i s f = front-seen l front a at store back s f
-front-next l front a at (entry.Void cause) back i s f = front-other l front a (stamped at (entry.Void cause)) refl refl refl f
+front-next l front a at x back i s f = front-other l front a (stamped at x) refl refl refl f
 
 adds-from : (l : Log) (front back : List Stamped) (a : Log) → names_in image_named (front ++ back) ≡ below (length l.images) → names_in store_named (front ++ back) ≡ below (length l.stores) → IsFrontOf l front a
     → IsFrontOf l (front ++ back) (adds l a back)

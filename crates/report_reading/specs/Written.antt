@@ -27,17 +27,9 @@ store_at l i = slice_index_or l.stores i (record { shared = record { items = [] 
 
 -- what the line of an entry says
 abbrev pub told_by_entry : Log → Entry → Told
-told_by_entry l (entry.Post n h c payload) = told.Made (entry.Post n h c payload)
-told_by_entry l (entry.Dropped h cause) = told.Made (entry.Dropped h cause)
-told_by_entry l (entry.Start n) = told.Made (entry.Start n)
-told_by_entry l (entry.Ask n f args) = told.Made (entry.Ask n f args)
-told_by_entry l (entry.Answer n v) = told.Made (entry.Answer n v)
-told_by_entry l (entry.Halt n) = told.Made (entry.Halt n)
-told_by_entry l (entry.Fault n kind) = told.Made (entry.Fault n kind)
 told_by_entry l (entry.Install h version image) = told.Installed h version (image_at l image)
-told_by_entry l entry.Reset = told.Made entry.Reset
 told_by_entry l (entry.Seen store) = told.Shown (store_at l store)
-told_by_entry l (entry.Void cause) = told.Made (entry.Void cause)
+told_by_entry l e = told.Made e
 
 abbrev pub line_of_entry : Log → ℕ → Stamped → Line
 line_of_entry l node e = record { stamp = e.stamp; node = node; told = told_by_entry l e.entry }

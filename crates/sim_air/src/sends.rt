@@ -115,16 +115,7 @@ fn message_of(desc: &Description, entry: &Entry) -> Option<Packet>
 {
     match entry {
         Entry::Ask { fun, args, .. } => message_by(desc, *fun, args),
-        Entry::Post { .. } => None,
-        Entry::Dropped { .. } => None,
-        Entry::Start { .. } => None,
-        Entry::Answer { .. } => None,
-        Entry::Halt { .. } => None,
-        Entry::Fault { .. } => None,
-        Entry::Install { .. } => None,
-        Entry::Reset => None,
-        Entry::Seen { .. } => None,
-        Entry::Void { .. } => None,
+        _ => None,
     }
 }
 

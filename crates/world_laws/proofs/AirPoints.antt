@@ -81,19 +81,11 @@ sent-told w k at node number before (p ∷ ps) =
 
 messages-none : (w : World) (told : List JournalEntry) → filter is_vector (messages w told) ≡ []
 messages-none w [] = refl
-messages-none w (Posted n h c payload ∷ told) = messages-none w told
-messages-none w (Dropped h cause ∷ told) = messages-none w told
-messages-none w (Started n ∷ told) = messages-none w told
 messages-none w (Asked n f args ∷ told) = by (is_send_kind (called_kind w f)) (messages-none w told) where
   by : (b : Bool) → filter is_vector (messages w told) ≡ [] → filter is_vector (cons_option (if b then Some (App args) else None) (messages w told)) ≡ []
   by true none = none
   by false none = none
-messages-none w (Answered n value ∷ told) = messages-none w told
-messages-none w (Ended n how ∷ told) = messages-none w told
-messages-none w (Installed p ∷ told) = messages-none w told
-messages-none w (Reset ∷ told) = messages-none w told
-messages-none w (Seen store ∷ told) = messages-none w told
-messages-none w (Void cause ∷ told) = messages-none w told
+messages-none w (_ ∷ told) = messages-none w told
 
 asks-none : (hs : List Happening) (ks : List ℕ) → filter is_vector (map (ask_for hs) ks) ≡ []
 asks-none hs [] = refl

@@ -90,16 +90,8 @@ quiet-pump w t node time false = refl
 
 quiet-answers : (w : World) (t node time : ℕ) (r : NodeState) (called : List FunId) (told : List JournalEntry) → coming w (of_time t (answers_due w node time r called told)) ≡ []
 quiet-answers w t node time r called [] = refl
-quiet-answers w t node time r called (Posted n h c payload ∷ told) = quiet-answers w t node time r called told
-quiet-answers w t node time r called (Dropped h cause ∷ told) = quiet-answers w t node time r called told
-quiet-answers w t node time r called (Started n ∷ told) = quiet-answers w t node time r called told
 quiet-answers w t node time r called (Asked n f args ∷ told) = quiet-one w t _ (answers_due w node time r (called ++ f ∷ []) told) refl ∙ quiet-answers w t node time r (called ++ f ∷ []) told
-quiet-answers w t node time r called (Answered n value ∷ told) = quiet-answers w t node time r called told
-quiet-answers w t node time r called (Ended n how ∷ told) = quiet-answers w t node time r called told
-quiet-answers w t node time r called (Installed p ∷ told) = quiet-answers w t node time r called told
-quiet-answers w t node time r called (Reset ∷ told) = quiet-answers w t node time r called told
-quiet-answers w t node time r called (Seen store ∷ told) = quiet-answers w t node time r called told
-quiet-answers w t node time r called (Void cause ∷ told) = quiet-answers w t node time r called told
+quiet-answers w t node time r called (_ ∷ told) = quiet-answers w t node time r called told
 
 -- the deliveries of a packet over some links of its node
 abbrev delivered_over : World → ℕ → Sending → List ℕ → List Scheduled

@@ -181,9 +181,6 @@ behind_entry w node time r called told x t skips a = record {
 
 answer-of : (w : World) (node time : ℕ) (r : NodeState) (called : List FunId) (told : List JournalEntry) (x : Scheduled) → Among x (answers_due w node time r called told) → AnswerOf w node time r called told x
 answer-of w node time r called [] x h = absurd h
-answer-of w node time r called (Posted n g c payload ∷ told) x h = behind_entry w node time r called told x (Posted n g c payload) (λ front. refl) (answer-of w node time r called told x h)
-answer-of w node time r called (Dropped g cause ∷ told) x h = behind_entry w node time r called told x (Dropped g cause) (λ front. refl) (answer-of w node time r called told x h)
-answer-of w node time r called (Started n ∷ told) x h = behind_entry w node time r called told x (Started n) (λ front. refl) (answer-of w node time r called told x h)
 answer-of w node time r called (Asked n f args ∷ told) x (inl e) = record {
   front = [];
   rest = told;
@@ -204,12 +201,7 @@ answer-of w node time r called (Asked n f args ∷ told) x (inr h) =
       told_is = ap (λ (ts : List JournalEntry). Asked n f args ∷ ts) a.told_is;
       is = a.is ∙ ap (λ (fs : List FunId). answer_scheduled w node time r fs a.invocation a.fun) (append_assoc called (f ∷ []) (calls_in a.front));
     }
-answer-of w node time r called (Answered n value ∷ told) x h = behind_entry w node time r called told x (Answered n value) (λ front. refl) (answer-of w node time r called told x h)
-answer-of w node time r called (Ended n how ∷ told) x h = behind_entry w node time r called told x (Ended n how) (λ front. refl) (answer-of w node time r called told x h)
-answer-of w node time r called (Installed p ∷ told) x h = behind_entry w node time r called told x (Installed p) (λ front. refl) (answer-of w node time r called told x h)
-answer-of w node time r called (Reset ∷ told) x h = behind_entry w node time r called told x Reset (λ front. refl) (answer-of w node time r called told x h)
-answer-of w node time r called (Seen store ∷ told) x h = behind_entry w node time r called told x (Seen store) (λ front. refl) (answer-of w node time r called told x h)
-answer-of w node time r called (Void cause ∷ told) x h = behind_entry w node time r called told x (Void cause) (λ front. refl) (answer-of w node time r called told x h)
+answer-of w node time r called (t ∷ told) x h = behind_entry w node time r called told x t (λ front. refl) (answer-of w node time r called told x h)
 
 answer_source : (w : World) (s : WorldState) (m : Moment) (x : Scheduled) → AnswerOf w (event_node w m.cause) m.time (node_after w (node_at w s m) m).reading (node_at w s m).called m.told x → Source w s m x
 answer_source w s m x a = answer (ap (λ (y : Scheduled). kind y.cause) a.is) (omega (arith, ap (λ (y : Scheduled). y.time) a.is)) a

@@ -75,18 +75,10 @@ came-from w before x come later = elim (origin w before x.time x.cause (among-ne
 answer-among : (w : World) (node time : ℕ) (r : NodeState) (called : List FunId) (front rest : List JournalEntry) (n : ℕ) (f : FunId) (args : ArrayVec ℤ)
     → Among (answer_scheduled w node time r (called ++ calls_in front) n f) (answers_due w node time r called (front ++ Asked n f args ∷ rest))
 answer-among w node time r called [] rest n f args = inl (ap (λ (fs : List FunId). answer_scheduled w node time r fs n f) (sym (append-nil called)))
-answer-among w node time r called (Posted k g c payload ∷ front) rest n f args = answer-among w node time r called front rest n f args
-answer-among w node time r called (Dropped g cause ∷ front) rest n f args = answer-among w node time r called front rest n f args
-answer-among w node time r called (Started k ∷ front) rest n f args = answer-among w node time r called front rest n f args
 answer-among w node time r called (Asked k g more ∷ front) rest n f args =
     inr (subst (λ (fs : List FunId). Among (answer_scheduled w node time r fs n f) (answers_due w node time r (called ++ g ∷ []) (front ++ Asked n f args ∷ rest))) (append_assoc called (g ∷ []) (calls_in front))
     (answer-among w node time r (called ++ g ∷ []) front rest n f args))
-answer-among w node time r called (Answered k value ∷ front) rest n f args = answer-among w node time r called front rest n f args
-answer-among w node time r called (Ended k how ∷ front) rest n f args = answer-among w node time r called front rest n f args
-answer-among w node time r called (Installed p ∷ front) rest n f args = answer-among w node time r called front rest n f args
-answer-among w node time r called (Reset ∷ front) rest n f args = answer-among w node time r called front rest n f args
-answer-among w node time r called (Seen store ∷ front) rest n f args = answer-among w node time r called front rest n f args
-answer-among w node time r called (Void cause ∷ front) rest n f args = answer-among w node time r called front rest n f args
+answer-among w node time r called (_ ∷ front) rest n f args = answer-among w node time r called front rest n f args
 
 answer-scheduled : (w : World) (s : WorldState) (m : Moment) (front rest : List JournalEntry) (n : ℕ) (f : FunId) (args : ArrayVec ℤ) → m.told ≡ front ++ Asked n f args ∷ rest
     → Among (at (m.time + latency_of w f) (answer_for w s m front n f)) (schedules w s m)

@@ -25,14 +25,12 @@ pub data Given : Type 0 where
 abbrev pub given_in : JournalEntry → Option Given
 given_in (Posted n h c payload) = Some (GivesOccasion h)
 given_in (Dropped h cause) = Some (GivesOccasion h)
-given_in (Started n) = None
-given_in (Asked n f args) = None
 given_in (Answered n value) = Some (GivesAnswer n value)
-given_in (Ended n how) = None
 given_in (Installed p) = Some (GivesInstall p)
 given_in Reset = Some GivesReset
 given_in (Seen store) = Some SeesItsStore
 given_in (Void cause) = Some Refuses
+given_in _ = None
 
 -- what an event gives its node, in order: before an install and a reset the store is seen, and after the install of a handler
 -- that runs once there is an occasion for it
@@ -62,15 +60,7 @@ JournalsTellWhatCame w = (k : ℕ) (ms : List Moment) → HaveCome w ms → filt
 -- a post's payload is that of its occasion: a message's or a line's values, or none
 abbrev pub HasPayload : ArrayVec ℤ → JournalEntry → Type 0
 HasPayload given (Posted n h c payload) = payload ≡ given
-HasPayload given (Dropped h cause) = Unit {0}
-HasPayload given (Started n) = Unit {0}
-HasPayload given (Asked n f args) = Unit {0}
-HasPayload given (Answered n value) = Unit {0}
-HasPayload given (Ended n how) = Unit {0}
-HasPayload given (Installed p) = Unit {0}
-HasPayload given Reset = Unit {0}
-HasPayload given (Seen store) = Unit {0}
-HasPayload given (Void cause) = Unit {0}
+HasPayload given _ = Unit {0}
 
 abbrev pub payload_given : Deed → ArrayVec ℤ
 payload_given Nothing = record { items = [] }

@@ -96,16 +96,8 @@ answers_due w node time r called [] = []
 answers_due w node time r called (t ∷ told) = option_map_or (λ (a : FunId × ℕ). due_for a.0 a.1
     ∷ answers_due w node time r (called ++ a.0 ∷ []) told) (call_in t) (answers_due w node time r called told) where
       call_in : JournalEntry → Option (FunId × ℕ)
-      call_in (Posted n h c payload) = None
-      call_in (Dropped h cause) = None
-      call_in (Started n) = None
       call_in (Asked n f args) = Some (f, n)
-      call_in (Answered n value) = None
-      call_in (Ended n how) = None
-      call_in (Installed p) = None
-      call_in Reset = None
-      call_in (Seen store) = None
-      call_in (Void cause) = None
+      call_in _ = None
 
       due_for : FunId → ℕ → Scheduled
       due_for f n = record {

@@ -167,31 +167,15 @@ pump-none k n w node time true = refl
 -- of the node's calls, each has an answer
 answers-calls : (k n : ℕ) (w : World) (time : ℕ) (r : NodeState) (called : List FunId) (told : List JournalEntry) → answers_at k n (answers_due w k time r called told) ≡ calls_of n told
 answers-calls k n w time r called [] = refl
-answers-calls k n w time r called (Posted i h c payload ∷ told) = let rest = answers-calls k n w time r called told in omega (arith, rest)
-answers-calls k n w time r called (Dropped h cause ∷ told) = let rest = answers-calls k n w time r called told in omega (arith, rest)
-answers-calls k n w time r called (Started i ∷ told) = let rest = answers-calls k n w time r called told in omega (arith, rest)
 answers-calls k n w time r called (Asked i f args ∷ told) =
     let rest = answers-calls k n w time r (called ++ f ∷ []) told in elim (eqb_tells k k) [ inr other ↦ absurd (other.1 refl) | inl same ↦ rw (same.0, rest) refl ]
-answers-calls k n w time r called (Answered i value ∷ told) = let rest = answers-calls k n w time r called told in omega (arith, rest)
-answers-calls k n w time r called (Ended i how ∷ told) = let rest = answers-calls k n w time r called told in omega (arith, rest)
-answers-calls k n w time r called (Installed p ∷ told) = let rest = answers-calls k n w time r called told in omega (arith, rest)
-answers-calls k n w time r called (Reset ∷ told) = let rest = answers-calls k n w time r called told in omega (arith, rest)
-answers-calls k n w time r called (Seen store ∷ told) = let rest = answers-calls k n w time r called told in omega (arith, rest)
-answers-calls k n w time r called (Void cause ∷ told) = let rest = answers-calls k n w time r called told in omega (arith, rest)
+answers-calls k n w time r called (_ ∷ told) = let rest = answers-calls k n w time r called told in omega (arith, rest)
 
 -- and none of another node's
 answers-other : (k n : ℕ) (w : World) (node time : ℕ) (r : NodeState) (called : List FunId) (told : List JournalEntry) → (node == k) ≡ false → answers_at k n (answers_due w node time r called told) ≡ 0
 answers-other k n w node time r called [] other = refl
-answers-other k n w node time r called (Posted i h c payload ∷ told) other = answers-other k n w node time r called told other
-answers-other k n w node time r called (Dropped h cause ∷ told) other = answers-other k n w node time r called told other
-answers-other k n w node time r called (Started i ∷ told) other = answers-other k n w node time r called told other
 answers-other k n w node time r called (Asked i f args ∷ told) other = let rest = answers-other k n w node time r (called ++ f ∷ []) told other in rw (other, rest) refl
-answers-other k n w node time r called (Answered i value ∷ told) other = answers-other k n w node time r called told other
-answers-other k n w node time r called (Ended i how ∷ told) other = answers-other k n w node time r called told other
-answers-other k n w node time r called (Installed p ∷ told) other = answers-other k n w node time r called told other
-answers-other k n w node time r called (Reset ∷ told) other = answers-other k n w node time r called told other
-answers-other k n w node time r called (Seen store ∷ told) other = answers-other k n w node time r called told other
-answers-other k n w node time r called (Void cause ∷ told) other = answers-other k n w node time r called told other
+answers-other k n w node time r called (_ ∷ told) other = answers-other k n w node time r called told other
 
 -- only what calls has answers scheduled
 only-answers : (k n : ℕ) (w : World) (s : WorldState) (m : Moment) → answers_at k n (schedules w s m) ≡ answers_at k n (answer_part w s m)

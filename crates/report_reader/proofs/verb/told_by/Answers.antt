@@ -1,6 +1,7 @@
 use Rattle.std.proofs.Common.{◌∙◌, ap, sym}
 use Rattle.report_reader.specs.declared.verb.Verb.{Verb}
 use Rattle.report_reader.specs.Reading.{told_by}
+use Rattle.report_reader.proofs.FormLemmas.{void-read}
 use Rattle.report_reader.proofs.verb.told_by.Goals as goal
 
 pub returns-in-Post : goal.returns-in-Post
@@ -28,7 +29,8 @@ pub returns-in-Reset : goal.returns-in-Reset
 returns-in-Reset c = c.at_end.ensures c.args.bulk.now ∙ ap (λ (v : Verb). told_by c.args.desc.now v c.args.words.now) (sym c.in-Reset.is)
 
 pub returns-in-Void : goal.returns-in-Void
-returns-in-Void c = c.void.ensures c.args.desc.now c.args.bulk.now ∙ ap (λ (v : Verb). told_by c.args.desc.now v c.args.words.now) (sym c.in-Void.is)
+returns-in-Void c =
+    c.void.ensures c.args.bulk.now ∙ void-read c.args.desc.now c.args.words.now ∙ ap (λ (v : Verb). told_by c.args.desc.now v c.args.words.now) (sym c.in-Void.is)
 
 pub returns-in-Interval : goal.returns-in-Interval
 returns-in-Interval c = c.interval.ensures c.args.desc.now c.args.bulk.now ∙ ap (λ (v : Verb). told_by c.args.desc.now v c.args.words.now) (sym c.in-Interval.is)
