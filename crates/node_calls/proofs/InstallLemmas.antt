@@ -53,7 +53,7 @@ use Rattle.node_invariant.specs.Starting.{Rests}
 use Rattle.node_calls.specs.declared.posting.PostAnswer.{PostAnswer}
 use Rattle.node_calls.specs.declared.posting.PostAnswer.TheVariants.{Posted as PostedAnswer, NoCode, AllBusy}
 use Rattle.node_calls.specs.Calls.{RestsAgain, AtPace, TellsStore, IsCleared}
-use Rattle.node_calls.specs.Arrivals.{HoldsCode, CanRenew, HasShown, IsOlder, Prepares, Arrives, IsPosted, Begins}
+use Rattle.node_calls.specs.Arrivals.{HoldsCode, CanRenew, HasShown, IsOlder, Prepares, Arrives, IsPosted, HasBegun}
 use Rattle.node_calls.specs.Installing.{IsUnverified, IsNoNewer, Incoming, IsInstallable, InstallsBytes, IsReadAs, Refuses, InstallGives}
 use Rattle.node_calls.specs.declared.installing.InstallFault.{InstallFault}
 use Rattle.node_calls.specs.declared.installing.InstallFault.TheVariants.{NotNewer, Code as CodeFault, Capsule as CapsuleRefused}
@@ -399,10 +399,10 @@ module _ (d : Description) (old mid : Parts) (at_ : Stamp) (bytes : List ℕ) (i
 
     -- its era has begun
     pub InstallGives-begun : (now new : Parts) → 4 ≤ old.log.all.spare → length old.log.all.entries < 4000000000 → now ≡ record mid { handlers = record { programs = set mid.handlers.programs i.handler.0 (Some i.held) } }
-        → ((a : Arrives d i.handler at_ now) → Begins d a.before new i.handler a.x at_) → RestsAgain d old new at_ (AtPace d old (InstallsBytes d (reading d old.log.all) bytes))
+        → ((a : Arrives d i.handler at_ now) → HasBegun d a.before new i.handler a.x at_) → RestsAgain d old new at_ (AtPace d old (InstallsBytes d (reading d old.log.all) bytes))
     unfolding Arrives-shown
     InstallGives-begun now new room few has_come begun_by = by ((machine_in d).runs_once i.handler) refl begins.follows where
-      begins : Begins d mid new i.handler i.held at_
+      begins : HasBegun d mid new i.handler i.held at_
       begins = begun_by (Arrives-shown now room few has_come)
 
       newer : held (reading d old.log.all) i.handler < i.held.version

@@ -1,5 +1,6 @@
 -- A program that comes to a handler: before anything of it is recorded, and when its era has begun.
-use Rattle.std.specs.Prelude.{◌≡◌, ℕ, ◌<◌, ◌≤◌, ℤ, List, [], ◌∷◌, Option, Some, Result, MatchBool, MatchResult, IsSomeAnd, true, false, ⊤, length, slice_set}
+use Rattle.std.specs.Prelude.{◌≡◌, ℕ, ◌<◌, ◌≤◌, ℤ, true, false, ⊤, List, [], ◌∷◌, length, slice_set}
+use Rattle.std.specs.Prelude.{Option, Some, Result, MatchBool, MatchResult, IsSomeAnd}
 use Rattle.arrayvec.specs.ArrayVec.{ArrayVec}
 use Rattle.mate_num.specs.declared.bounds.TheConstants.{IMAGE_MAX}
 use Rattle.mate_num.specs.declared.call.Stamp.{Stamp}
@@ -70,7 +71,7 @@ pub record IsPosted (d : Description) (old new : Parts) (h : HandlerId) (at : St
   pub again : RestsAgain d old new at (PostGives (machine_in d) (reading d old.log.all) h payload answer)
 
 -- the install was recorded, an era began, and a handler that runs once was posted
-pub record Begins (d : Description) (before new : Parts) (h : HandlerId) (x : Held) (at : Stamp) : Type 0 where
+pub record HasBegun (d : Description) (before new : Parts) (h : HandlerId) (x : Held) (at : Stamp) : Type 0 where
   pub next : Parts
   pub begun : RestsAgain d before next at (λ told. told ≡ Installed (program_of h x) ∷ [])
   pub follows : MatchBool ((machine_in d).runs_once h) (IsPosted d next new h at) (new ≡ next)

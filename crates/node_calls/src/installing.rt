@@ -1,7 +1,6 @@
 //! Installs: a newer capsule replaces a handler's program, and an era begins.
 
 ghost use Rattle.std.specs.Prelude.{◌≡◌, ◌<◌, ◌≤◌, ◌∷◌, [], length, IfSome, IsTrue};
-ghost use Rattle.mate_num.specs.declared.bounds.TheConstants.{IMAGE_MAX};
 ghost use Rattle.mate_journal.specs.Journal.{Installed};
 ghost use Rattle.vm_desc.specs.Shapes.{shape_of};
 ghost use Rattle.code_verifier.specs.Verified.{IsVerificationOf};
@@ -11,7 +10,7 @@ ghost use Rattle.node_invariant.specs.Keeps.{IsTimely};
 ghost use Rattle.node_invariant.specs.Meaning.{machine_in};
 ghost use Rattle.node_invariant.specs.Starting.{Rests};
 ghost use Rattle.node_calls.specs.Calls.{RestsAgain};
-ghost use Rattle.node_calls.specs.Arrivals.{Arrives, Begins, CanRenew, HoldsCode, Prepares};
+ghost use Rattle.node_calls.specs.Arrivals.{Arrives, HasBegun, CanRenew, HoldsCode, Prepares};
 ghost use Rattle.node_calls.specs.Installing.{IsInstallable, IsReadAs, IsReady, InstallGives};
 
 use crate::era::clear;
@@ -124,7 +123,7 @@ fn begin_era(description: &Description, parts: &mut Parts, handler: HandlerId, a
 /// The same, and then a handler that runs once is posted.
 fn begin(description: &Description, parts: &mut Parts, handler: HandlerId, at: Stamp)
     requires { Arrives description.now handler at parts.old }
-    ensures begins { (a : Arrives description.now handler at parts.old) → Begins description.now a.before parts.new handler a.x at }
+    ensures begins { (a : Arrives description.now handler at parts.old) → HasBegun description.now a.before parts.new handler a.x at }
     ensures gone { parts.new.log.gone ≡ parts.old.log.gone }
 {
     begin_era(description, parts, handler, at);
@@ -204,17 +203,6 @@ fn install_one(
     }
 }
 
-/// The bytes as an image.
-fn image_of(bytes: &[u8]) -> Image
-    requires { length bytes.now ≤ IMAGE_MAX }
-    ensures { result ≡ record { items = bytes.now } }
-{
-    let Ok(image) = Image::try_from(bytes) else {
-        unreachable!()
-    };
-    image
-}
-
 /// Installs the capsule that the bytes are, whose code its handler holds, if it is newer than what the node holds. What was verified of
 /// the code, and its locks, are still right: they depend on the machine and the code alone. So nothing is made but what changes.
 #[inline(never)]
@@ -236,8 +224,7 @@ fn install_known(
 {
     match prepare(description, parts, handler, version, at) {
         Ok(()) => {
-            let image = image_of(bytes);
-            parts.handlers.renew(handler, version, &image);
+            parts.handlers.renew(handler, version, bytes);
             begin(description, parts, handler, at);
             Ok(())
         }

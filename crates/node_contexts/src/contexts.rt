@@ -1,7 +1,7 @@
 //! The contexts of a node: the invocation in each, the locks that it waits for or holds, whether it is ready,
 //! and the call whose answer it waits for.
 
-ghost use Rattle.std.specs.Prelude.{◌≡◌, ◌<◌, ◌++◌, ◌∷◌, [], Some, None, IfOk, MatchBool, MatchOption, IsSome, IfSome, slice_get, true};
+ghost use Rattle.std.specs.Prelude.{◌≡◌, ℕ, ◌<◌, ◌++◌, ◌∷◌, [], Some, None, IfOk, MatchBool, MatchOption, IsSome, IfSome, slice_get, slice_index_or, true};
 ghost use Rattle.std.specs.Option.{option_copied};
 ghost use Rattle.mate_num.specs.declared.id.ContextId.{ContextId as Context};
 ghost use Rattle.lock_manager.specs.Claims.{AreOnce, Enqueues, Grants, GrantsNone, Releases};
@@ -156,9 +156,20 @@ impl Contexts {
     pub fn clear(&mut self)
         ensures { AreIdle self.new }
     {
-        self.seats = Default::default();
+        leave_all(&mut self.seats);
         self.locks.clear();
         self.ring.clear();
         self.pending.cancel();
+    }
+}
+
+/// Takes the invocations from their seats. Where there is none, nothing is written.
+fn leave_all(seats: &mut [Option<Seat>])
+    ensures { (k : ℕ) → slice_index_or seats.new k None ≡ None }
+{
+    for place in 0..seats.len() {
+        if seats[place].is_some() {
+            seats[place] = None;
+        }
     }
 }

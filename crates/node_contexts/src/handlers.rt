@@ -2,6 +2,7 @@
 
 ghost use Rattle.std.specs.Prelude.{◌≡◌, ◌<◌, ◌≤◌, Some, None, length, slice_index_or, slice_set, max, vec_len, vec_capacity, IfOk};
 ghost use Rattle.std.specs.Option.{option_copied};
+ghost use Rattle.mate_num.specs.declared.bounds.TheConstants.{IMAGE_MAX};
 ghost use Rattle.mate_num.specs.declared.id.HandlerId.{HandlerId as Handler};
 ghost use Rattle.node_contexts.specs.Programs.{HaveSame, renewed};
 
@@ -112,11 +113,13 @@ impl Handlers {
         self.shared[place] = Some(program);
     }
 
-    /// Gives what is installed for the handler, if anything is, this version and this image. Its code and its locks stay.
-    pub fn renew(&mut self, handler: HandlerId, version: u32, image: &Image)
-        requires { handler.0 < length self.old.programs }
+    /// Gives what is installed for the handler, if anything is, this version and the image of these bytes. Its code and its locks
+    /// stay.
+    pub fn renew(&mut self, handler: HandlerId, version: u32, image: &[u8])
+        requires handler { handler.0 < length self.old.programs }
+        requires fits { length image.now ≤ IMAGE_MAX }
         ensures { self.new.programs ≡ slice_set self.old.programs handler.0
-            (renewed version image.now (held_at self.old.programs handler)) }
+            (renewed version (record { items = image.now }) (held_at self.old.programs handler)) }
     {
         let place = usize::from(handler.0);
         match own_at(&self.own, place) {
@@ -126,10 +129,12 @@ impl Handlers {
     }
 
     /// Does so by a copy: other nodes hold the program as it is.
-    fn renew_shared(&mut self, handler: HandlerId, version: u32, image: &Image)
-        requires { handler.0 < length self.old.programs }
+    #[inline(never)]
+    fn renew_shared(&mut self, handler: HandlerId, version: u32, image: &[u8])
+        requires handler { handler.0 < length self.old.programs }
+        requires fits { length image.now ≤ IMAGE_MAX }
         ensures { self.new.programs ≡ slice_set self.old.programs handler.0
-            (renewed version image.now (held_at self.old.programs handler)) }
+            (renewed version (record { items = image.now }) (held_at self.old.programs handler)) }
     {
         if let Some(held) = self.get(handler) {
             let held = renewed_copy(held, version, image);
@@ -148,37 +153,52 @@ impl Handlers {
     }
 }
 
-/// A copy of the image. It takes no memory.
-fn copy_of(image: &Image) -> Image
-    ensures { result ≡ image.now }
+/// The image of these bytes. It takes no memory.
+fn image_of(bytes: &[u8]) -> Image
+    requires { length bytes.now ≤ IMAGE_MAX }
+    ensures { result ≡ record { items = bytes.now } }
 {
-    let Ok(copy) = Image::try_from(image.as_slice()) else {
+    let Ok(image) = Image::try_from(bytes) else {
         unreachable!()
     };
-    copy
+    image
 }
 
-/// A copy of the program, with this version and this image.
-fn renewed_copy(held: &Held, version: u32, image: &Image) -> Held
-    ensures { result ≡ record held.now { version = version; image = image.now } }
+/// A copy of the program, with this version and the image of these bytes.
+fn renewed_copy(held: &Held, version: u32, image: &[u8]) -> Held
+    requires { length image.now ≤ IMAGE_MAX }
+    ensures { result ≡ record held.now { version = version; image = record { items = image.now } } }
 {
     Held {
         version,
-        image: copy_of(image),
+        image: image_of(image),
         code: held.code.copy(),
         locks: held.locks,
     }
 }
 
-/// Gives the program at the place, if one is there, this version and this image.
-fn renew_own(own: &mut Vec<Option<Held>>, place: usize, version: u32, image: &Image)
-    requires { place < vec_len own.old }
-    ensures items { own.new.items ≡ slice_set own.old.items place (renewed version image.now (slice_index_or own.old.items place None)) }
+/// Writes the bytes in place of the image. Where it stands, no more than its length is written.
+fn write_image(image: &mut Image, bytes: &[u8])
+    requires { length bytes.now ≤ IMAGE_MAX }
+    ensures { image.new ≡ record { items = bytes.now } }
+{
+    image.clear();
+    let Ok(()) = image.try_extend_from_slice(bytes) else {
+        unreachable!()
+    };
+}
+
+/// Gives the program at the place, if one is there, this version and the image of these bytes.
+fn renew_own(own: &mut Vec<Option<Held>>, place: usize, version: u32, image: &[u8])
+    requires place { place < vec_len own.old }
+    requires fits { length image.now ≤ IMAGE_MAX }
+    ensures items { own.new.items ≡ slice_set own.old.items place
+        (renewed version (record { items = image.now }) (slice_index_or own.old.items place None)) }
     ensures capacity { vec_capacity own.new ≡ vec_capacity own.old }
 {
     if let Some(held) = &mut own[place] {
         held.version = version;
-        held.image = copy_of(image);
+        write_image(&mut held.image, image);
     }
 }
 

@@ -1,21 +1,20 @@
 -- What was held has another version and another image.
-use Rattle.std.proofs.Common.{◌≡◌, ◌∙◌, ℕ, List, Option, set, refl, ap}
-use Rattle.arrayvec.specs.ArrayVec.{ArrayVec}
+use Rattle.std.proofs.Common.{◌∙◌, List, Option, set, refl, ap}
 use Rattle.node_contexts.specs.declared.handlers.Held.{Held}
 use Rattle.node_contexts.specs.Programs.{held_at, renewed}
 use Rattle.node_invariant.specs.declared.parts.Parts.{Parts}
 use Rattle.node_calls.proofs.InstallLemmas.{Prepares-ok, Prepares-err, Refuses-older, shown-places, Arrives-shown, InstallGives-begun}
 use Rattle.node_calls.proofs.installing.install_known.Goals as goal
 
-pub renew-requires : goal.renew-requires
-renew-requires c =
+pub renew-requires-clause-handler : goal.renew-requires-clause-handler
+renew-requires-clause-handler c =
     shown-places c.args.description.now c.args.parts.now c.prepare.new.parts c.args.at c.args.bytes.now (record { handler = c.args.handler; held = c.requires.can.x }) c.args.version c.requires.rests c.requires.can.can c.requires.can.version_is
     (Prepares-ok c.args.description.now c.args.parts.now c.prepare.new.parts c.args.handler c.args.version c.args.at c.prepare.result _ c.in-Ok.is c.prepare.ensures.prepares)
 
 pub begin-requires : goal.begin-requires
 begin-requires c =
     let shown = Prepares-ok c.args.description.now c.args.parts.now c.prepare.new.parts c.args.handler c.args.version c.args.at c.prepare.result _ c.in-Ok.is c.prepare.ensures.prepares in
-    let programs = c.renew.ensures ∙ ap (λ (o : Option Held). set c.prepare.new.parts.handlers.programs c.args.handler.0 o) (ap (λ (image : ArrayVec ℕ). renewed c.args.version image (held_at c.prepare.new.parts.handlers.programs c.args.handler)) c.image_of-image.ensures ∙ ap (λ (s : Parts). renewed c.args.version (record { items = c.args.bytes.now }) (held_at s.handlers.programs c.args.handler)) shown.tells.same ∙ c.requires.can.after) in
+    let programs = c.renew.ensures ∙ ap (λ (o : Option Held). set c.prepare.new.parts.handlers.programs c.args.handler.0 o) (ap (λ (s : Parts). renewed c.args.version (record { items = c.args.bytes.now }) (held_at s.handlers.programs c.args.handler)) shown.tells.same ∙ c.requires.can.after) in
     Arrives-shown c.args.description.now c.args.parts.now c.prepare.new.parts c.args.at c.args.bytes.now (record { handler = c.args.handler; held = c.requires.can.x }) c.args.version c.requires.rests c.requires.can.can c.requires.can.version_is
     (Prepares-ok c.args.description.now c.args.parts.now c.prepare.new.parts c.args.handler c.args.version c.args.at c.prepare.result _ c.in-Ok.is c.prepare.ensures.prepares)
     _ c.requires.room c.requires.few (ap (λ (ps : List (Option Held)). let s : Parts = record (c.prepare.new.parts) { handlers = record { programs = ps } } in s) programs)
@@ -23,7 +22,7 @@ begin-requires c =
 pub returns-in-Ok-clause-installs : goal.returns-in-Ok-clause-installs
 returns-in-Ok-clause-installs c =
     let shown = Prepares-ok c.args.description.now c.args.parts.now c.prepare.new.parts c.args.handler c.args.version c.args.at c.prepare.result _ c.in-Ok.is c.prepare.ensures.prepares in
-    let programs = c.renew.ensures ∙ ap (λ (o : Option Held). set c.prepare.new.parts.handlers.programs c.args.handler.0 o) (ap (λ (image : ArrayVec ℕ). renewed c.args.version image (held_at c.prepare.new.parts.handlers.programs c.args.handler)) c.image_of-image.ensures ∙ ap (λ (s : Parts). renewed c.args.version (record { items = c.args.bytes.now }) (held_at s.handlers.programs c.args.handler)) shown.tells.same ∙ c.requires.can.after) in
+    let programs = c.renew.ensures ∙ ap (λ (o : Option Held). set c.prepare.new.parts.handlers.programs c.args.handler.0 o) (ap (λ (s : Parts). renewed c.args.version (record { items = c.args.bytes.now }) (held_at s.handlers.programs c.args.handler)) shown.tells.same ∙ c.requires.can.after) in
     InstallGives-begun c.args.description.now c.args.parts.now c.prepare.new.parts c.args.at c.args.bytes.now (record { handler = c.args.handler; held = c.requires.can.x }) c.args.version c.requires.rests c.requires.can.can c.requires.can.version_is
     (Prepares-ok c.args.description.now c.args.parts.now c.prepare.new.parts c.args.handler c.args.version c.args.at c.prepare.result _ c.in-Ok.is c.prepare.ensures.prepares)
     _ c.begin.new.parts c.requires.room c.requires.few (ap (λ (ps : List (Option Held)). let s : Parts = record (c.prepare.new.parts) { handlers = record { programs = ps } } in s) programs) c.begin.ensures.begins
@@ -36,5 +35,5 @@ returns-in-Err-clause-installs c =
 pub returns-in-Ok-clause-gone : goal.returns-in-Ok-clause-gone
 returns-in-Ok-clause-gone c = c.begin.ensures.gone ∙ c.prepare.ensures.gone
 
-pub image_of-image-requires : goal.image_of-image-requires
-image_of-image-requires c = c.requires.can.fits
+pub renew-requires-clause-fits : goal.renew-requires-clause-fits
+renew-requires-clause-fits c = c.requires.can.fits

@@ -1,7 +1,6 @@
 -- The shared program takes the place of what was held.
-use Rattle.std.proofs.Common.{◌≡◌, ◌∙◌, List, Option, set, refl, ap, sym}
+use Rattle.std.proofs.Common.{◌∙◌, List, Option, refl, ap, sym}
 use Rattle.node_contexts.specs.declared.handlers.Held.{Held}
-use Rattle.node_contexts.specs.Programs.{held_at, renewed}
 use Rattle.node_invariant.specs.declared.parts.Parts.{Parts}
 use Rattle.node_calls.proofs.InstallLemmas.{Prepares-ok, Prepares-err, Refuses-older, shown-places, Arrives-shown, InstallGives-begun}
 use Rattle.node_calls.proofs.installing.install_one.Goals as goal

@@ -1,12 +1,13 @@
 -- The own program changes where it is.
 use Rattle.std.proofs.Common.{◌≡◌, ℕ, List, Option, None, get_or, set, ap, ◌∙◌, arith}
+use Rattle.arrayvec.specs.ArrayVec.{ArrayVec}
 use Rattle.node_contexts.specs.declared.handlers.Held.{Held}
 use Rattle.node_contexts.specs.Programs.{HeldPrograms, held_either, renewed}
 use Rattle.node_contexts.proofs.HandlerLemmas.{own-below, either-renew}
 use Rattle.node_contexts.proofs.handlers.Handlers.renew.Goals as goal
 
-pub renew_own-requires : goal.renew_own-requires
-renew_own-requires c =
+pub renew_own-requires-clause-place : goal.renew_own-requires-clause-place
+renew_own-requires-clause-place c =
     let n = c.self.inside in
     let below = own-below n.own.items c.from-place.result _ c.in-Some.ensures in
     let size = n.own.ok.0 in
@@ -16,7 +17,7 @@ pub returns-in-Some : goal.returns-in-Some
 returns-in-Some c =
     let n = c.self.inside in
     let version = c.args.version in
-    let image = c.args.image.now in
+    let image : ArrayVec ℕ = record { items = c.args.image.now } in
     ap (λ (own : List (Option Held)). held_either own n.shared.items) c.renew_own.ensures.items
     ∙ either-renew n.own.items n.shared.items c.from-place.result _ version image c.self.invariant.within c.in-Some.ensures
     ∙ ap (λ (v : HeldPrograms). set v.programs c.from-place.result (renewed version image (get_or v.programs c.from-place.result None))) c.self.view_is

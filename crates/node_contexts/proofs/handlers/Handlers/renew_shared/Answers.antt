@@ -10,7 +10,7 @@ returns-in-Some c =
     let programs = c.args.self.now.programs in
     let h = c.args.handler in
     c.install.ensures
-    ∙ ap (λ (o : Option Held). set programs h.0 o) (ap (λ (x : Held). Some x) c.renewed_copy-held.ensures ∙ ap (λ (o : Option Held). renewed c.args.version c.args.image.now o) c.in-Some.ensures)
+    ∙ ap (λ (o : Option Held). set programs h.0 o) (ap (λ (x : Held). Some x) c.renewed_copy-held.ensures ∙ ap (λ (o : Option Held). renewed c.args.version (record { items = c.args.image.now }) o) c.in-Some.ensures)
 
 pub returns-in_default : goal.returns-in_default
 returns-in_default c =
@@ -18,4 +18,4 @@ returns-in_default c =
     let h = c.args.handler in
     let none : held_at programs h ≡ None = sym c.in_default.ensures in
     sym (set-get_or programs h.0 None)
-    ∙ ap (λ (o : Option Held). set programs h.0 o) (none ∙ sym (ap (λ (o : Option Held). renewed c.args.version c.args.image.now o) none))
+    ∙ ap (λ (o : Option Held). set programs h.0 o) (none ∙ sym (ap (λ (o : Option Held). renewed c.args.version (record { items = c.args.image.now }) o) none))
