@@ -79,7 +79,8 @@ impl Simulation {
         })
     }
 
-    /// Behind an event of the node, if a next one may come: lets go what it recorded, and has the room back.
+    /// Behind an event of the node in which it may have recorded something, if a next one may come: lets go what it recorded, and has
+    /// the room back.
     pub fn leave(&mut self, desc: &Description, event: &Event, number: u8, room: &mut NodeLog)
         requires node { number < length self.old.motes.items }
         requires few { self.old.records < 1000000 → IsFew self.old number }
@@ -89,6 +90,9 @@ impl Simulation {
         ensures empty { IsEmpty room.new }
     {
         if self.records >= RECORDS_MAX {
+            return;
+        }
+        if !may_tell(desc, event) {
             return;
         }
         self.let_go(desc, event, number, Written::Forgotten, room);
