@@ -159,13 +159,14 @@ impl Exchange {
         if versions.as_slice() == self.summary.held.as_slice() {
             return true;
         }
+        // (what is held and marked stays, and so does the summary)
         aim_each(self.handlers.as_mut_slice(), versions.as_slice());
         ask_each(self.handlers.as_slice(), versions.as_slice(), asks);
-        self.summary = Summary::of(self.handlers.as_slice());
         false
     }
 
     // A Status of the handler was received.
+    #[inline(never)]
     fn hear_status(&mut self, handler: HandlerId, version: u32, missing: u32)
         requires { handler.0 < length self.old.handlers }
         ensures { self.new ≡ with_state self.old handler.0 (hears_status version missing (state_at self.old.handlers handler.0)) }
@@ -176,6 +177,7 @@ impl Exchange {
     }
 
     // A fragment of the handler was received: the handler, if its fragments became complete.
+    #[inline(never)]
     fn hear_fragment(
         &mut self,
         handler: HandlerId,
@@ -195,9 +197,9 @@ impl Exchange {
     {
         let state = &mut self.handlers.as_mut_slice()[usize::from(handler.0)];
         let before = state.complete_version();
+        // (what is held and marked stays, and so does the summary)
         state.hear_fragment(version, index, form, bytes);
         let after = state.complete_version();
-        self.summary = Summary::of(self.handlers.as_slice());
         if before < after { Some(handler) } else { None }
     }
 

@@ -25,6 +25,7 @@ pub(crate) fn held_versions(states: &[HandlerState]) -> ArrayVec<u32, 8>
 }
 
 /// Each handler's version was named by a Vector.
+#[inline(never)]
 pub(crate) fn aim_each(states: &mut [HandlerState], versions: &[u32])
     requires { length versions.now ≡ length states.old }
     ensures { states.new ≡ aimed_each versions.now states.old }
@@ -35,6 +36,7 @@ pub(crate) fn aim_each(states: &mut [HandlerState], versions: &[u32])
 }
 
 /// Requests the versions that are greater than what is held.
+#[inline(never)]
 pub(crate) fn ask_each(states: &[HandlerState], versions: &[u32], asks: &mut ArrayVec<Packet, 8>)
     requires same_len { length versions.now ≡ length states.now }
     requires few { length states.now ≤ 8 }

@@ -1,7 +1,7 @@
 -- Capsules that are ready.
-use Rattle.std.proofs.Common.{◌≡◌, List, [], ◌∷◌, ◌++◌, ℕ, sym, ap, subst}
-use Rattle.std.specs.Prelude.{All}
-use Rattle.std.proofs.lemmas.List.Elements.{All-push, All-nil}
+use Rattle.std.proofs.Common.{◌≡◌, List, [], ◌∷◌, ℕ, take, drop, sym, ap, subst}
+use Rattle.std.specs.Prelude.{All, insert}
+use Rattle.std.proofs.lemmas.List.Elements.{All-append, All-cons, All-drop, All-nil, All-take}
 use Rattle.vm_desc.specs.declared.description.Description.{Description}
 use Rattle.mate_journal.specs.Machine.{HeldProgram}
 use Rattle.node_calls.specs.Installing.{IsReady}
@@ -22,9 +22,12 @@ IsReady-copy d bytes r copy ready same is =
     let C : ReadyCapsule → Type 0 = λ x. IsReady d bytes x in
     subst C (sym is) (subst B same ready)
 
--- none, and one more
+-- none, and one more at a place
 pub AreReady-none : (d : Description) (rs : List ReadyCapsule) → rs ≡ [] → All (IsReadyOn d) rs
 AreReady-none d rs none = let P : List ReadyCapsule → Type 0 = λ l. All (IsReadyOn d) l in subst P (sym none) (All-nil (IsReadyOn d))
 
-pub AreReady-more : (d : Description) (old new : List ReadyCapsule) (r : ReadyCapsule) → new ≡ old ++ r ∷ [] → All (IsReadyOn d) old → IsReadyOn d r → All (IsReadyOn d) new
-AreReady-more d old new r is all ready = let P : List ReadyCapsule → Type 0 = λ l. All (IsReadyOn d) l in subst P (sym is) (All-push (IsReadyOn d) old r all ready)
+pub AreReady-more : (d : Description) (old new : List ReadyCapsule) (place : ℕ) (r : ReadyCapsule) → new ≡ insert old place r → All (IsReadyOn d) old → IsReadyOn d r → All (IsReadyOn d) new
+AreReady-more d old new place r is all ready =
+    let P : List ReadyCapsule → Type 0 = λ l. All (IsReadyOn d) l in
+    let behind = All-cons (IsReadyOn d) r (drop place old) ready (All-drop (IsReadyOn d) place old all) in
+    subst P (sym is) (All-append (IsReadyOn d) (take place old) (r ∷ drop place old) (All-take (IsReadyOn d) place old all) behind)

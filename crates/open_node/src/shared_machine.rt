@@ -1,6 +1,6 @@
 //! What nodes of one machine share.
 
-ghost use Rattle.std.specs.Prelude.{◌≡◌, All, IfOk, IfSome, IsTrue, OnOk};
+ghost use Rattle.std.specs.Prelude.{◌≡◌, ◌≤◌, All, length, IfOk, IfSome, IsTrue, OnOk};
 ghost use Rattle.node_calls.specs.Installing.{IsReady};
 ghost use Rattle.open_node.specs.Machines.{IsReadyOn};
 
@@ -12,7 +12,10 @@ use std::marker::Model;
 use std::rc::Rc;
 use vm_desc::Description;
 
-/// A machine, and capsules that are ready to be installed on its nodes.
+/// How many capsules are ready at most. Each takes some 7 KB.
+const READY_MAX: usize = 64;
+
+/// A machine, and capsules that are ready to be installed on its nodes, in the order of their images.
 #[derive(Drop)]
 struct Machine {
     description: Description,
@@ -44,7 +47,7 @@ impl SharedMachine {
         SharedMachine::of(alloc, description, Vec::new(alloc))
     }
 
-    /// The machine, with the capsules among the images of the programs.
+    /// The machine, with the capsules among the images of the programs: the first 64 different ones if there are more.
     pub fn with_programs(
         alloc: Global,
         description: &Description,
@@ -124,7 +127,29 @@ fn ready_if(description: &Description, capsule: &ReadyCapsule, bytes: &[u8]) -> 
     }
 }
 
-/// The first of the capsules whose image the bytes are.
+/// Whether the capsule's image comes before the bytes, in the order of their bytes.
+fn is_before(capsule: &ReadyCapsule, bytes: &[u8]) -> bool {
+    capsule.program.as_held().image.as_slice() < bytes
+}
+
+/// Before which of the capsules, which are in the order of their images, that of the bytes comes.
+fn place_of(ready: &[ReadyCapsule], bytes: &[u8]) -> usize
+    ensures { result ≤ length ready.now }
+{
+    let mut low = 0;
+    let mut high = ready.len();
+    'search: while low < high {
+        let middle = low + (high - low) / 2;
+        if is_before(&ready[middle], bytes) {
+            low = middle + 1;
+        } else {
+            high = middle;
+        }
+    }
+    low
+}
+
+/// The one of the capsules, which are in the order of their images, whose image the bytes are.
 fn ready_among(
     description: &Description,
     ready: &[ReadyCapsule],
@@ -133,15 +158,21 @@ fn ready_among(
     requires { All (IsReadyOn description.now) ready.now }
     ensures { IfSome result (IsReady description.now bytes.now) }
 {
-    for capsule in ready {
-        if let Some(shared) = ready_if(description, capsule, bytes) {
-            return Some(shared);
-        }
+    match ready.get(place_of(ready, bytes)) {
+        Some(capsule) => ready_if(description, capsule, bytes),
+        None => None,
     }
-    None
 }
 
-/// The capsule that the bytes are comes behind the others, if they are one.
+/// Whether the bytes are the image of the capsule at the place.
+fn is_image_at(ready: &[ReadyCapsule], place: usize, bytes: &[u8]) -> bool {
+    match ready.get(place) {
+        Some(capsule) => is_image(capsule, bytes),
+        None => false,
+    }
+}
+
+/// The capsule that the bytes are comes to its place among the others, if they are one and it isn't there.
 fn add_ready(
     alloc: Global,
     description: &Description,
@@ -151,14 +182,18 @@ fn add_ready(
     requires { All (IsReadyOn description.now) ready.old.items }
     ensures { OnOk result (All (IsReadyOn description.now) ready.new.items) }
 {
+    let place = place_of(ready.as_slice(), bytes);
+    if is_image_at(ready.as_slice(), place, bytes) {
+        return Ok(());
+    }
     let Some(capsule) = ReadyCapsule::of(alloc, description, bytes)? else {
         return Ok(());
     };
-    ready.push(capsule)?;
+    ready.insert(place, capsule)?;
     Ok(())
 }
 
-/// The capsules among the images of the programs.
+/// The capsules among the images of the programs, the first ones if there are many.
 fn ready_capsules(
     alloc: Global,
     description: &Description,
@@ -168,6 +203,9 @@ fn ready_capsules(
 {
     let mut ready = Vec::new(alloc);
     for program in programs.as_slice() {
+        if ready.len() >= READY_MAX {
+            return Ok(ready);
+        }
         add_ready(alloc, description, program.image.as_slice(), &mut ready)?;
     }
     Ok(ready)

@@ -31,7 +31,8 @@ pub fn cancel(radio: &mut Radio, node: u8, ends: Ends)
     cancel_if(radio, ends.answers, Cancel::Answers(node));
 }
 
-/// Cancels, or does nothing.
+/// Cancels, or does nothing, as in most events.
+#[inline(always)]
 fn cancel_if(radio: &mut Radio, ends: bool, which: Cancel)
     ensures { radio.new ≡ record radio.old {
       agenda = record radio.old.agenda
@@ -43,7 +44,8 @@ fn cancel_if(radio: &mut Radio, ends: bool, which: Cancel)
     }
 }
 
-/// Records one thing of the air.
+/// Records one thing of the air. It is inlined, so that a short record isn't moved with the room of a long one.
+#[inline(always)]
 pub fn note(radio: &mut Radio, node: u8, at: Stamp, air: Air) -> Result<(), NoMemory>
     ensures { OnOk result (AddsToAir radio.old radio.new (aired_at at node air ∷ []) []) }
 {
@@ -55,7 +57,8 @@ pub fn note(radio: &mut Radio, node: u8, at: Stamp, air: Air) -> Result<(), NoMe
     Ok(())
 }
 
-/// Records what comes first in an event, if anything does.
+/// Records what comes first in an event, if anything does. It is inlined, as `note` is.
+#[inline(always)]
 pub fn note_first(
     radio: &mut Radio,
     node: u8,

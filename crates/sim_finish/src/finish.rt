@@ -23,7 +23,7 @@ use vm_desc::Description;
 use world_script::World;
 
 /// The event is recorded on the air, cancels what ends with it, and schedules what comes of it: the next period, the
-/// interval that begins, deliveries, the pump, and answers, in this order. What the effect records is taken from it.
+/// interval that begins, deliveries, the pump, and answers, in this order.
 pub fn finish(
     radio: &mut Radio,
     mote: &mut Mote,
@@ -55,7 +55,7 @@ pub fn finish(
         → IsFinished (code_world desc.now world.now programs) s m at radio.old radio.new mote.old mote.new) }
 {
     let begins = effect.begins;
-    note_all(radio, number, at, effect.first.take(), begins, &mote.timer)?;
+    note_all(radio, number, at, &effect.first, begins, &mote.timer)?;
     let ends = Ends {
         interval: begins,
         pump: effect.resets,

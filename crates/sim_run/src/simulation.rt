@@ -33,9 +33,6 @@ use std::alloc::Global;
 use vm_desc::Description;
 use world_script::World;
 
-/// Programs of a world that are made ready for its nodes: so many at most. Each takes some 7 KB, and an install looks at them all.
-const READY_MAX: usize = 16;
-
 /// What becomes of what was recorded once it is written.
 #[derive(Clone, Copy)]
 pub enum Written {
@@ -54,7 +51,7 @@ pub struct Simulation {
 
 impl Simulation {
     /// The world before its first event: the lines of the script are due, and for each node the point and the end of its
-    /// first interval and its first periods. The nodes share the machine, and the programs that they will install if these are few.
+    /// first interval and its first periods. The nodes share the machine, and the programs that they will install, or the first of many.
     pub fn start(
         alloc: Global,
         desc: &Description,
@@ -69,7 +66,7 @@ impl Simulation {
     {
         let mut radio = Radio::new(alloc, world, desc)?;
         schedule_lines(&mut radio, world)?;
-        let machine = machine_of(alloc, desc, programs)?;
+        let machine = SharedMachine::with_programs(alloc, desc, programs)?;
         let motes = begin_motes(alloc, &machine, world, &mut radio)?;
         air_is_in_range_from(radio.air(), 0);
         Ok(Simulation {
@@ -79,7 +76,8 @@ impl Simulation {
         })
     }
 
-    /// Behind an event of the node, if a next one may come: lets go what it recorded, and has the room back.
+    /// Behind an event of the node in which it may have recorded something, if a next one may come: lets go what it recorded, and has
+    /// the room back.
     pub fn leave(&mut self, desc: &Description, event: &Event, number: u8, room: &mut NodeLog)
         requires node { number < length self.old.motes.items }
         requires few { self.old.records < 1000000 → IsFew self.old number }
@@ -89,6 +87,9 @@ impl Simulation {
         ensures empty { IsEmpty room.new }
     {
         if self.records >= RECORDS_MAX {
+            return;
+        }
+        if !may_tell(desc, event) {
             return;
         }
         self.let_go(desc, event, number, Written::Forgotten, room);
@@ -139,20 +140,6 @@ fn forget_told(node: &mut OpenNode, trades: bool, room: &mut NodeLog)
         return;
     }
     node.trade(room);
-}
-
-/// The machine of a world's nodes, with its programs ready if they are few.
-fn machine_of(
-    alloc: Global,
-    desc: &Description,
-    programs: &Programs,
-) -> Result<SharedMachine, NoMemory>
-    ensures { IfOk result (λ machine. machine ≡ desc.now) }
-{
-    if programs.len() > READY_MAX {
-        return SharedMachine::new(alloc, desc);
-    }
-    SharedMachine::with_programs(alloc, desc, programs)
 }
 
 /// The nodes of the world before its first event, in order: the first events of each are due.

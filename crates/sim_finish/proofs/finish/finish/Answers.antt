@@ -30,7 +30,7 @@ returns c = λ programs s m same_time same_event same_node taken settled.
     finished-by w s m c.args.from c.args.at c.args.mote.now c.args.effect.now c.marked-marked.result c.in_ok-mote.field-0 c.schedule_answers.new.calls
     c.args.radio.now c.note_all.new.radio c.cancel.new.radio c.schedule_timed.new.radio c.send_packets.new.radio c.schedule_pump.new.radio c.schedule_answers.new.radio
     c.args.number c.args.event.now same_time same_event same_node taken settled (record {
-      notes = rw c.take.ensures.value at c.in_ok-note_all.ensures;
+      notes = c.in_ok-note_all.ensures;
       cancels = c.cancel.ensures;
       times = c.in_ok-schedule_timed.ensures;
       sends =

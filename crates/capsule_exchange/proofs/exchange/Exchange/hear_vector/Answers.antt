@@ -1,11 +1,13 @@
-use Rattle.std.proofs.Common.{◌≡◌, ℕ, ◌≤◌, List, length, get_or, sym, ap, ◌∙◌, arith}
+use Rattle.std.proofs.Common.{◌≡◌, ℕ, List, length, get_or, sym, ap, ◌∙◌}
 use Rattle.std.specs.List.{refill}
 use Rattle.std.proofs.lemmas.List.Elements.{All-same}
 use Rattle.capsule_exchange.specs.declared.handler_state.HandlerState.{HandlerState}
+use Rattle.capsule_exchange.specs.declared.summary.Summary.{Summary}
 use Rattle.capsule_exchange.specs.Sound.{IsSoundState, AreSound}
 use Rattle.capsule_exchange.specs.Steps.{aimed, aimed_each, asks_upto}
+use Rattle.capsule_exchange.specs.Summary.{AreKept}
 use Rattle.capsule_exchange.proofs.SoundLemmas.{changed_each, aimed_sound}
-use Rattle.capsule_exchange.proofs.SummaryLemmas.{kept_now, held_in, told_held, aimed_same, asks_none}
+use Rattle.capsule_exchange.proofs.SummaryLemmas.{held_in, told_held, aimed_same, asks_none, aimed_marks, kept_each}
 use Rattle.capsule_exchange.proofs.exchange.Exchange.hear_vector.Goals as goal
 
 -- the states that `aim_each` leaves
@@ -19,12 +21,17 @@ ask_each-requires-clause-sound c =
     All-same IsSoundState c.as_slice-4.result.now (refill c.self.inside.handlers.len c.self.inside.handlers.items c.aim_each.new.states) c.as_slice-4.ensures.value
     (aimed_sound_all c.self.inside.handlers.len c.self.inside.handlers.items c.as_mut_slice.result.now c.aim_each.new.states c.args.versions.now.items c.as_slice-3.result.now c.self.inside.handlers.ok.0 c.as_mut_slice.ensures.value c.as_slice-3.ensures.value c.aim_each.ensures c.self.invariant.sound)
 
+-- what is held and marked stays
+aimed_kept_all : (n : ℕ) (states lent after : List HandlerState) (versions told : List ℕ) (s : Summary) → n ≡ length states → lent ≡ states → told ≡ versions → after ≡ aimed_each told lent → AreKept states s
+    → AreKept (refill n states after) s
+aimed_kept_all n states lent after versions told s long same known is kept =
+    kept_each n states after (λ h. aimed (get_or versions h 0)) s long (is ∙ ap (aimed_each told) same ∙ ap (λ (vs : List ℕ). aimed_each vs states) known) (λ h x. aimed_marks (get_or versions h 0) x)
+    (aimed_sound_all n states lent after versions told long same known is kept.sound) kept
+
 pub invariant_of-self : goal.invariant_of-self
 invariant_of-self c =
-    let few : length c.as_slice-6.result.now ≤ 8 = omega (arith, c.as_slice-6.ensures.len, c.self.inside.handlers.ok.0, c.self.invariant.few) in
-    kept_now _ c.as_slice-6.result.now c.of-self-inside.result c.as_slice-6.ensures.value few
-    (aimed_sound_all c.self.inside.handlers.len c.self.inside.handlers.items c.as_mut_slice.result.now c.aim_each.new.states c.args.versions.now.items c.as_slice-3.result.now c.self.inside.handlers.ok.0 c.as_mut_slice.ensures.value c.as_slice-3.ensures.value c.aim_each.ensures
-    c.self.invariant.sound) c.of-self-inside.ensures
+    aimed_kept_all c.self.inside.handlers.len c.self.inside.handlers.items c.as_mut_slice.result.now c.aim_each.new.states c.args.versions.now.items c.as_slice-3.result.now c.self.inside.summary c.self.inside.handlers.ok.0
+    c.as_mut_slice.ensures.value c.as_slice-3.ensures.value c.aim_each.ensures c.self.invariant
 
 pub returns-clause-sound : goal.returns-clause-sound
 returns-clause-sound c =
