@@ -104,12 +104,6 @@ pub fn run_at(
         ),
         Entry::Install { .. } => end_era(alloc, trial, roll, place, store),
         Entry::Reset => end_era(alloc, trial, roll, place, store),
-        Entry::Post { .. } => Ok(true),
-        Entry::Dropped { .. } => Ok(true),
-        Entry::Start { .. } => Ok(true),
-        Entry::Ask { .. } => Ok(true),
-        Entry::Answer { .. } => Ok(true),
-        Entry::Seen { .. } => Ok(true),
-        Entry::Void { .. } => Ok(true),
+        _ => Ok(true),
     }
 }

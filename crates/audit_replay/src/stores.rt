@@ -32,22 +32,11 @@ pub fn shows_right(
         IfOk result (λ b. b ≡ told.shows_right (machine_for trial.now) (roll_in l.images roll.now.roll)
         store.now (journal_entry l entry.now)) }
 {
-    match entry {
-        Entry::Seen { store: number } => {
-            let Some(seen) = trial.log.stores().get(*number as usize) else {
-                unreachable!()
-            };
-            is_store_shown(alloc, trial, roll, store, &seen)
-        }
-        Entry::Post { .. }
-        | Entry::Dropped { .. }
-        | Entry::Start { .. }
-        | Entry::Ask { .. }
-        | Entry::Answer { .. }
-        | Entry::Halt { .. }
-        | Entry::Fault { .. }
-        | Entry::Install { .. }
-        | Entry::Reset
-        | Entry::Void { .. } => Ok(true),
-    }
+    let Entry::Seen { store: number } = entry else {
+        return Ok(true);
+    };
+    let Some(seen) = trial.log.stores().get(*number as usize) else {
+        unreachable!()
+    };
+    is_store_shown(alloc, trial, roll, store, &seen)
 }

@@ -19,16 +19,7 @@ pub fn start_of(entry: &Entry) -> u32
 {
     match entry {
         Entry::Start { inv } => *inv,
-        Entry::Post { .. }
-        | Entry::Dropped { .. }
-        | Entry::Ask { .. }
-        | Entry::Answer { .. }
-        | Entry::Halt { .. }
-        | Entry::Fault { .. }
-        | Entry::Install { .. }
-        | Entry::Reset
-        | Entry::Seen { .. }
-        | Entry::Void { .. } => 0,
+        _ => 0,
     }
 }
 
@@ -42,15 +33,6 @@ pub fn is_granted(trial: &Trial, roll: &ReadyRoll, place: usize, last: u32, entr
     let _place = place;
     match entry {
         Entry::Start { inv } => is_free_to_start(trial, roll, *inv) && last < *inv,
-        Entry::Post { .. }
-        | Entry::Dropped { .. }
-        | Entry::Ask { .. }
-        | Entry::Answer { .. }
-        | Entry::Halt { .. }
-        | Entry::Fault { .. }
-        | Entry::Install { .. }
-        | Entry::Reset
-        | Entry::Seen { .. }
-        | Entry::Void { .. } => all_held_back(trial, roll),
+        _ => all_held_back(trial, roll),
     }
 }

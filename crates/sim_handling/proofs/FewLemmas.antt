@@ -147,15 +147,7 @@ no-others [] all = refl
 no-others (t ∷ ts) all = let rest = no-others ts (All-tail IsStart t ts all) in let one = by t (All-head IsStart t ts all) in omega (arith, rest, one) where
   by : (t : JournalEntry) → IsStart t → others_in t ≡ 0
   by (Started n) is = refl
-  by (Posted n h c payload) is = absurd is
-  by (Dropped h cause) is = absurd is
-  by (Asked n f args) is = absurd is
-  by (Answered n value) is = absurd is
-  by (Ended n how) is = absurd is
-  by (Installed p) is = absurd is
-  by Reset is = absurd is
-  by (Seen store) is = absurd is
-  by (Void cause) is = absurd is
+  by _ is = absurd is
 
 occasion-one : (m : Machine) (r : NodeState) (h : HandlerId) (payload : ArrayVec ℤ) (told : List JournalEntry) → Occasion m r h payload told → others told ≤ 1
 occasion-one m r h payload told (inl x) = let e = ap others x.made in omega (arith, e)

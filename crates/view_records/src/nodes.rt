@@ -164,10 +164,7 @@ impl Nodes {
                 self.close(node, *inv, now, StretchEnd::Faulted(*kind), ended)
             }
             Entry::Reset => self.cut(node, now, StretchEnd::Cut, ended),
-            Entry::Dropped { .. }
-            | Entry::Install { .. }
-            | Entry::Seen { .. }
-            | Entry::Void { .. } => Ok(()),
+            _ => Ok(()),
         }
     }
 

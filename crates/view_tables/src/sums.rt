@@ -149,14 +149,7 @@ impl Sums {
                 self.handlers.add(handler.0, 1, 1);
             }
             Entry::Reset => self.nodes.add(node, 10, 1),
-            Entry::Start { .. }
-            | Entry::Ask { .. }
-            | Entry::Answer { .. }
-            | Entry::Halt { .. }
-            | Entry::Fault { .. }
-            | Entry::Install { .. }
-            | Entry::Seen { .. }
-            | Entry::Void { .. } => {}
+            _ => {}
         }
     }
 
