@@ -17,7 +17,8 @@ use Rattle.mate_journal.specs.declared.entry.Entry.{Entry}
 use Rattle.mate_journal.specs.declared.entry.Entry.TheVariants as entry
 use Rattle.mate_journal.specs.Entries.{HasVoidRanges, HasEntryRanges}
 use Rattle.mate_journal.specs.Ranges.{HasAirRanges}
-use Rattle.report_text.specs.Words.{number, values, word, drop_word, fault_word, handler_name, function_name, image_word}
+use Rattle.mate_journal.specs.Log.{Log}
+use Rattle.report_text.specs.Words.{number, values, word, entry_words, drop_word, fault_word, handler_name, function_name, image_word}
 use Rattle.report_fields.proofs.StoreLemmas.{joined}
 use Rattle.report_fields.proofs.WrittenStores.{joined-store}
 use Rattle.report_reader.specs.declared.line.Told.{Told}
@@ -26,7 +27,7 @@ use Rattle.report_reader.specs.declared.verb.Verb.{Verb}
 use Rattle.report_reader.specs.declared.verb.Verb.TheVariants as verb
 use Rattle.report_reader.specs.Told.{told_words, IsRightTold, IsRightEntry, IsRightAir, HasToldRanges}
 use Rattle.report_reader.specs.Forms.{VoidVerb, ready, waiting, newer, void_word}
-use Rattle.report_reader.specs.Verbs.{verb_word, void_form, form_of}
+use Rattle.report_reader.specs.Verbs.{verb_word, entry_verb, void_form, form_of}
 use Rattle.report_reader.proofs.FormLemmas.{Parts, told_from, words_from, FormFits}
 
 values-joined : (vs : List ℤ) → values vs ≡ joined (map signed_decimal vs)
@@ -116,6 +117,11 @@ spelled d verb.Sent ps fits = record {
 spelled d verb.Lost ps fits = record { words = paired_words (codes "lost") ps.0 (decimal ps.1.0); right = fits.1.0; ranges = fits.0 }
 spelled d verb.Got ps fits = record { words = paired_words (codes "got") ps.0 (decimal ps.1.0); right = fits.1.0; ranges = fits.0 }
 spelled d verb.Noise ps fits = record { words = simp (append_assoc, append-nil); right = fits.0.0; ranges = (fits.0.1, fits.0.2) }
+
+-- the words of an entry begin with that of its verb
+pub entry_begins : (d : Description) (l : Log) (e : Entry) → (after : List ℕ) × (entry_words d l e ≡ word (verb_word (entry_verb e)) ++ after)
+entry_begins d l entry.Reset = ([], refl)
+entry_begins d l _ = (_, refl)
 
 -- ---- the verb and the fields of what is said
 

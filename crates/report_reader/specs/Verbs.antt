@@ -2,6 +2,7 @@
 use Rattle.std.specs.Prelude.{ℕ, List, [], ◌∷◌, ◌==◌, codes, Option, if◌then◌else◌}
 use Rattle.mate_journal.specs.declared.air.Air.TheVariants as air
 use Rattle.mate_journal.specs.declared.entry.VoidCause.TheVariants as void
+use Rattle.mate_journal.specs.declared.entry.Entry.{Entry}
 use Rattle.mate_journal.specs.declared.entry.Entry.TheVariants as entry
 use Rattle.report_fields.specs.Words.{reads, only_at_end}
 use Rattle.report_fields.specs.Fields.{named_among, number_of}
@@ -30,6 +31,20 @@ verb_word verb.Sent = codes "sent"
 verb_word verb.Lost = codes "lost"
 verb_word verb.Got = codes "got"
 verb_word verb.Noise = codes "noise"
+
+-- the verb of an entry's line
+abbrev pub entry_verb : Entry → Verb
+entry_verb (entry.Post n h c payload) = verb.Post
+entry_verb (entry.Dropped h cause) = verb.Drop
+entry_verb (entry.Start n) = verb.Start
+entry_verb (entry.Ask n f args) = verb.Ask
+entry_verb (entry.Answer n v) = verb.Answer
+entry_verb (entry.Halt n) = verb.Halt
+entry_verb (entry.Fault n kind) = verb.Fault
+entry_verb (entry.Install h version place) = verb.Install
+entry_verb entry.Reset = verb.Reset
+entry_verb (entry.Seen store) = verb.Seen
+entry_verb (entry.Void cause) = verb.Void
 
 abbrev pub verbs : List Verb
 verbs =

@@ -9,3 +9,4 @@ pub mod verb;
 pub use laws::written_line_is_read;
 pub use light_line::{Bulk, LightLine, LightTold, light_line_of};
 pub use line::{Line, Told, line_of, with_bulk};
+pub use verb::entry_word;

@@ -1,15 +1,17 @@
 //! The words that begin a record, and what is read after each.
 
-ghost use Rattle.std.specs.Prelude.{◌≡◌};
+ghost use Rattle.std.specs.Prelude.{◌≡◌, ◌++◌, ℕ, List};
 ghost use Rattle.std.specs.Option.{option_map};
 ghost use Rattle.vm_desc.specs.declared.description.Description.{Description as Described};
+ghost use Rattle.mate_journal.specs.Log.{Log};
 ghost use Rattle.report_fields.specs.Words.{first, rest, only_at_end};
+ghost use Rattle.report_text.specs.Words.{word, entry_words};
 ghost use Rattle.report_reader.specs.declared.light_line.Bulk.{Bulk as WithBulk};
 ghost use Rattle.report_reader.specs.declared.verb.Verb.TheVariants as verbs;
 ghost use Rattle.report_reader.specs.Forms.{newer};
 ghost use Rattle.report_reader.specs.LightLine.{told_with};
 ghost use Rattle.report_reader.specs.Reading.{told_by};
-ghost use Rattle.report_reader.specs.Verbs.{verb_word, likely, verb_of, void_by, void_of};
+ghost use Rattle.report_reader.specs.Verbs.{verb_word, entry_verb, likely, verb_of, void_by, void_of};
 
 use crate::light_line::{Bulk, LightTold};
 use mate_journal::{Air, Entry, VoidCause};
@@ -44,29 +46,56 @@ pub enum Verb {
 }
 
 impl Verb {
-    fn word(self) -> &'static [u8]
+    /// The verb of the entry's line.
+    fn of_entry(entry: &Entry) -> Verb
+        ensures { result ≡ entry_verb entry.now }
+    {
+        match entry {
+            Entry::Post { .. } => Verb::Post,
+            Entry::Dropped { .. } => Verb::Drop,
+            Entry::Start { .. } => Verb::Start,
+            Entry::Ask { .. } => Verb::Ask,
+            Entry::Answer { .. } => Verb::Answer,
+            Entry::Halt { .. } => Verb::Halt,
+            Entry::Fault { .. } => Verb::Fault,
+            Entry::Install { .. } => Verb::Install,
+            Entry::Reset => Verb::Reset,
+            Entry::Seen { .. } => Verb::Seen,
+            Entry::Void { .. } => Verb::Void,
+        }
+    }
+
+    fn word(self) -> &'static str
         ensures { result.now ≡ verb_word self }
     {
         match self {
-            Verb::Post => b"post",
-            Verb::Drop => b"drop",
-            Verb::Start => b"start",
-            Verb::Ask => b"ask",
-            Verb::Answer => b"answer",
-            Verb::Halt => b"halt",
-            Verb::Fault => b"fault",
-            Verb::Install => b"install",
-            Verb::Reset => b"reset",
-            Verb::Seen => b"seen",
-            Verb::Void => b"void",
-            Verb::Interval => b"interval",
-            Verb::Keep => b"keep",
-            Verb::Sent => b"sent",
-            Verb::Lost => b"lost",
-            Verb::Got => b"got",
-            Verb::Noise => b"noise",
+            Verb::Post => "post",
+            Verb::Drop => "drop",
+            Verb::Start => "start",
+            Verb::Ask => "ask",
+            Verb::Answer => "answer",
+            Verb::Halt => "halt",
+            Verb::Fault => "fault",
+            Verb::Install => "install",
+            Verb::Reset => "reset",
+            Verb::Seen => "seen",
+            Verb::Void => "void",
+            Verb::Interval => "interval",
+            Verb::Keep => "keep",
+            Verb::Sent => "sent",
+            Verb::Lost => "lost",
+            Verb::Got => "got",
+            Verb::Noise => "noise",
         }
     }
+}
+
+/// The word that the line of the entry has behind its stamp and its node, as `post`.
+pub fn entry_word(entry: &Entry) -> &'static str
+    ensures value { result.now ≡ verb_word (entry_verb entry.now) }
+    ensures begins { (d : Described) (l : Log) → (after : List ℕ) × (entry_words d l entry.now ≡ word result.now ++ after) }
+{
+    Verb::of_entry(entry).word()
 }
 
 /// The verb whose word has these first and third letters; for other letters any verb.
@@ -102,7 +131,7 @@ pub fn verb_of(word: &[u8]) -> Option<Verb>
         return None;
     };
     let verb = likely(*first, *third);
-    if same_bytes(verb.word(), word) {
+    if same_bytes(verb.word().as_bytes(), word) {
         Some(verb)
     } else {
         None

@@ -158,15 +158,7 @@ impl Marks {
                 self.mark_at(at, node, what)
             }
             Entry::Reset => self.mark_at(at, node, What::Reset),
-            Entry::Post { .. }
-            | Entry::Start { .. }
-            | Entry::Ask { .. }
-            | Entry::Answer { .. }
-            | Entry::Halt { .. }
-            | Entry::Fault { .. }
-            | Entry::Install { .. }
-            | Entry::Seen { .. }
-            | Entry::Void { .. } => Ok(()),
+            _ => Ok(()),
         }
     }
 

@@ -2,7 +2,7 @@
 
 use mate_journal::{Air, Entry, VoidCause};
 use mate_num::{ContextId, FunId, HandlerId, Store};
-use report_reader::{Line, Told};
+use report_reader::{Line, Told, entry_word};
 use report_text::words::{drop_word, fault_word};
 use view_records::words::void_word;
 use view_records::{Live, Nodes};
@@ -121,7 +121,9 @@ impl<'a> Cells<'a> {
         }
     }
 
+    /// What an entry has. A kind that isn't named here has its word alone.
     fn of_entry(nodes: &Nodes, node: u8, entry: &'a Entry) -> Cells<'a> {
+        let record = entry_word(entry);
         match entry {
             Entry::Post {
                 inv,
@@ -133,27 +135,27 @@ impl<'a> Cells<'a> {
                 handler: Some(*handler),
                 ctx: Some(*ctx),
                 values: Some(payload.as_slice()),
-                ..Cells::of("post")
+                ..Cells::of(record)
             },
             Entry::Dropped { handler, cause } => Cells {
                 handler: Some(*handler),
                 cause: drop_word(*cause),
-                ..Cells::of("drop")
+                ..Cells::of(record)
             },
-            Entry::Start { inv } => Cells::of_invocation("start", *inv, nodes.live(node, *inv)),
+            Entry::Start { inv } => Cells::of_invocation(record, *inv, nodes.live(node, *inv)),
             Entry::Ask { inv, fun, args } => Cells {
                 fun: Some(*fun),
                 values: Some(args.as_slice()),
-                ..Cells::of_invocation("ask", *inv, nodes.live(node, *inv))
+                ..Cells::of_invocation(record, *inv, nodes.live(node, *inv))
             },
             Entry::Answer { inv, value } => Cells {
                 value: Some(*value),
-                ..Cells::of_invocation("answer", *inv, nodes.live(node, *inv))
+                ..Cells::of_invocation(record, *inv, nodes.live(node, *inv))
             },
-            Entry::Halt { inv } => Cells::of_invocation("halt", *inv, nodes.live(node, *inv)),
+            Entry::Halt { inv } => Cells::of_invocation(record, *inv, nodes.live(node, *inv)),
             Entry::Fault { inv, kind } => Cells {
                 cause: fault_word(*kind),
-                ..Cells::of_invocation("fault", *inv, nodes.live(node, *inv))
+                ..Cells::of_invocation(record, *inv, nodes.live(node, *inv))
             },
             Entry::Install {
                 handler,
@@ -162,15 +164,14 @@ impl<'a> Cells<'a> {
             } => Cells {
                 handler: Some(*handler),
                 version: Some(*version),
-                ..Cells::of("install")
+                ..Cells::of(record)
             },
-            Entry::Reset => Cells::of("reset"),
-            Entry::Seen { store: _ } => Cells::of("seen"),
             Entry::Void { cause } => Cells {
                 cause: void_word(*cause),
                 version: held_version(*cause),
-                ..Cells::of("void")
+                ..Cells::of(record)
             },
+            _ => Cells::of(record),
         }
     }
 }

@@ -9,9 +9,9 @@ returns-in_default c = short-word c.args.word.now c.in_default.len_below
 pub returns-then-same_bytes : goal.returns-then-same_bytes
 returns-then-same_bytes c =
     word-named c.args.word.now c.likely-verb.result
-    (sym ((bytes_eq-Decides c.word.result.now c.args.word.now).0 (sym c.same_bytes.ensures ∙ c.if-same_bytes.true)) ∙ c.word.ensures)
+    (sym ((bytes_eq-Decides c.as_bytes.result.now c.args.word.now).0 (sym c.same_bytes.ensures ∙ c.if-same_bytes.true)) ∙ c.as_bytes.ensures.value ∙ c.word.ensures)
 
 pub returns-else-same_bytes : goal.returns-else-same_bytes
 returns-else-same_bytes c =
     word-unnamed c.args.word.now c.likely-verb.result c.likely-verb.ensures
-    (λ same. let t : true ≡ false = sym ((bytes_eq-Decides c.word.result.now c.args.word.now).1 (c.word.ensures ∙ sym same)) ∙ sym c.same_bytes.ensures ∙ c.if-same_bytes.false in cc)
+    (λ same. let t : true ≡ false = sym ((bytes_eq-Decides c.as_bytes.result.now c.args.word.now).1 (c.as_bytes.ensures.value ∙ c.word.ensures ∙ sym same)) ∙ sym c.same_bytes.ensures ∙ c.if-same_bytes.false in cc)
