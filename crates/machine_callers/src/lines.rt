@@ -34,7 +34,6 @@ pub fn a_leading_zero_is_no_number() -> Option<u64>
     unsigned(b"07")
 }
 
-#[tactic(auto, unfolding(script_reader::specs::NodeScript::node_script_in, script_reader::specs::NodeScript::after_line, script_reader::specs::NodeScript::a_line, script_reader::specs::NodeScript::behind, script_reader::specs::NodeScript::behind_others))]
 pub fn the_first_line_has_the_number_1(
     alloc: Global,
     desc: &Description,
