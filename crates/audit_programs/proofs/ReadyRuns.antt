@@ -1,5 +1,5 @@
 -- Programs that are made ready: the code of an image, its run, and conflicts by locks.
-use Rattle.std.proofs.Common.{◌≡◌, ℕ, ℤ, Bool, true, false, List, Result, Ok, Err, refl, sym, ◌∙◌, ap, subst}
+use Rattle.std.proofs.Common.{◌≡◌, ℕ, ℤ, Bool, true, false, List, [], Result, Ok, Err, refl, sym, ◌∙◌, ap, subst}
 use Rattle.std.specs.Result.{result_unwrap_or}
 use Rattle.mate_num.specs.Results.{result_map}
 use Rattle.std.specs.Prelude.{IfOk, MatchResult, MatchBool, Decides, not, drop, length, nat_lt, if◌then◌else◌}

@@ -9,8 +9,8 @@ ghost use Rattle.ts_checked.specs.Statement.{Block};
 ghost use Rattle.ts_checker.specs.Accepted.{IsAccepted};
 ghost use Rattle.vm_desc.specs.Shapes.{shape_of};
 
-use crate::image::stored_image;
-use capsule_codec::Capsule;
+use crate::image::stored_in_place;
+use capsule_codec::CapsuleRef;
 use mate_journal::{Program, SharedScript};
 use mate_num::{Code, HandlerId};
 use mate_refusals::Refusal;
@@ -37,16 +37,6 @@ impl Model for SharedSource {
     ghost coded = { Prim.hlevel (codes, coded_script) };
 
     ghost view = { λ s. record { script = s.script; code = s.code.value } };
-}
-
-/// A copy of code. It takes no memory.
-fn copy_of_code(code: &Code) -> Code
-    ensures { result ≡ code.now }
-{
-    let Ok(copy) = Code::try_from(code.as_slice()) else {
-        unreachable!()
-    };
-    copy
 }
 
 impl SharedSource {
@@ -94,13 +84,13 @@ impl SharedSource {
             → IsCompiledOf (shape_of desc.now) fold tree self → IfOk result (IsRightProgram desc.now) }
     {
         let SharedSource { script, code } = self;
-        let capsule = Capsule {
+        let capsule = CapsuleRef {
             vm_id: desc.vm_id,
             handler,
             version,
-            code: copy_of_code(code.as_ref()),
+            code: code.as_ref().as_slice(),
         };
-        let image = stored_image(alloc, &capsule)?;
+        let image = stored_in_place(alloc, &capsule)?;
         Ok(Program {
             handler,
             version,

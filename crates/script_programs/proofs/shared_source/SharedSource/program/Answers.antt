@@ -1,6 +1,5 @@
-use Rattle.std.proofs.Common.{◌≡◌, ℕ, Some, refl, subst}
+use Rattle.std.proofs.Common.{◌≡◌, ℕ, List, Some, refl, subst}
 use Rattle.capsule_codec.specs.Image.{CapsuleParts, IsCapsule, capsule_image}
-use Rattle.arrayvec.specs.ArrayVec.{ArrayVec}
 use Rattle.mate_journal.specs.declared.program.Program.{Program}
 use Rattle.mate_steps.specs.SourceCode.{IsCompiledOf}
 use Rattle.mate_steps.specs.declared.code.CompiledScript.{CompiledScript}
@@ -17,9 +16,9 @@ returns-clause-right c =
     let same : c.args.self ≡ x = cc in
     let parts : CapsuleParts = record { vm_id = d.vm_id; handler = c.args.handler.0; version = c.args.version; code = x.code.items } in
     let p : Program = record { handler = c.args.handler; version = c.args.version; source = Some x.script; image = c.in_ok-image.image } in
-    let copied : c.copy_of_code.result ≡ x.code = (let e = c.copy_of_code.ensures in let f = c.as_ref.ensures in cc) in
-    let with_code : ArrayVec ℕ → CapsuleParts = λ code. record { vm_id = d.vm_id; handler = c.args.handler.0; version = c.args.version; code = code.items } in
-    let fits : IsCapsule parts = subst (λ (code : ArrayVec ℕ). IsCapsule (with_code code)) copied c.in_ok-image.ensures.fits in
-    let image : c.in_ok-image.image.items ≡ capsule_image parts = subst (λ (code : ArrayVec ℕ). c.in_ok-image.image.items ≡ capsule_image (with_code code)) copied c.in_ok-image.ensures.image in
+    let code_is : c.as_slice.result.now ≡ x.code.items = (let e = c.as_slice.ensures.value in let f = c.as_ref.ensures in cc) in
+    let with_code : List ℕ → CapsuleParts = λ code. record { vm_id = d.vm_id; handler = c.args.handler.0; version = c.args.version; code = code } in
+    let fits : IsCapsule parts = subst (λ (code : List ℕ). IsCapsule (with_code code)) code_is c.in_ok-image.ensures.fits in
+    let image : c.in_ok-image.image.items ≡ capsule_image parts = subst (λ (code : List ℕ). c.in_ok-image.image.items ≡ capsule_image (with_code code)) code_is c.in_ok-image.ensures.image in
     IsRightProgram-compiled d fold bytes tree x parts p accepted (subst (λ (s : CompiledScript). IsCompiledOf (shape_of d) fold tree s) same is) fits (record { vm_id = refl; handler = c.requires.handler }) refl refl refl refl
     image
