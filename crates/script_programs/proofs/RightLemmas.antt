@@ -1,5 +1,5 @@
 -- Programs that come from files are right.
-use Rattle.std.proofs.Common.{◌≡◌, ℕ, Bool, true, false, List, Option, None, Result, Ok, Err, refl, sym, ◌∙◌, ap, subst}
+use Rattle.std.proofs.Common.{◌≡◌, ℕ, Bool, true, false, List, [], Option, None, Result, Ok, Err, refl, sym, ◌∙◌, ap, subst}
 use Rattle.std.specs.Result.{result_unwrap_or}
 use Rattle.mate_num.specs.Results.{result_map}
 use Rattle.std.specs.Prelude.{IsOk, IfSome, drop, length, if◌then◌else◌, nat_lt}
