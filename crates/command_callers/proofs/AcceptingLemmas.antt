@@ -45,8 +45,8 @@ told_bad d (Err (Spelling (fault.BadByte place))) tells =
     let same : place ≡ 0 = cc in
     inl (ap (λ (p : ℕ). Spelling (fault.BadByte p)) same)
 told_bad d (Err (Spelling (fault.BigLiteral place))) tells = let e : Err (big_literal place) ≡ Err (bad_byte 0) = sym tells ∙ cut_now in absurd cc
-told_bad d (Err (Spelling (fault.Unexpected place))) tells = absurd (never_cut tells.tokens tells.cuts)
-told_bad d (Err (Spelling (fault.TooDeep place))) tells = absurd (never_cut tells.tokens tells.cuts)
+told_bad d (Err (Spelling (fault.Unexpected place))) tells = absurd (never_cut tells.0 tells.1)
+told_bad d (Err (Spelling (fault.TooDeep place))) tells = absurd (never_cut tells.0 tells.1)
 told_bad d (Err (Spelling fault.NoMemory)) tells = inr (inl refl)
 told_bad d (Err (Meaning f)) tells = inr (unmeant d f tells)
 
@@ -60,14 +60,14 @@ module _ (one : OneVerdict) (bytes : List ℕ) (tokens : List Token) (source : S
   well_spelt d (fault.BadByte place) is = absurd (not_both (cut bytes) tokens (bad_byte place) cuts is)
   well_spelt d (fault.BigLiteral place) is = absurd (not_both (cut bytes) tokens (big_literal place) cuts is)
   well_spelt d (fault.Unexpected place) is =
-      let same = same_ok (cut bytes) is.tokens tokens is.cuts cuts in
+      let same = same_ok (cut bytes) is.0 tokens is.1 cuts in
       let e : spelled source ≡ unexpected place =
-      one tokens (length bytes) (spelled source) (unexpected place) spells (subst (λ (ts : List Token). IsUnexpected IsScript ts (length bytes) place) same is.stops) in
+      one tokens (length bytes) (spelled source) (unexpected place) spells (subst (λ (ts : List Token). IsUnexpected IsScript ts (length bytes) place) same is.2) in
       absurd cc
   well_spelt d (fault.TooDeep place) is =
-      let same = same_ok (cut bytes) is.tokens tokens is.cuts cuts in
+      let same = same_ok (cut bytes) is.0 tokens is.1 cuts in
       let e : spelled source ≡ too_deep place =
-      one tokens (length bytes) (spelled source) (too_deep place) spells (subst (λ (ts : List Token). IsTooDeep IsScript ts place) same is.deep) in
+      one tokens (length bytes) (spelled source) (too_deep place) spells (subst (λ (ts : List Token). IsTooDeep IsScript ts place) same is.2) in
       absurd cc
   well_spelt d fault.NoMemory is = refl
 

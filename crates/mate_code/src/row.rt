@@ -68,7 +68,8 @@ impl Kind {
 impl Instr {
     /// The instruction's row. The columns are those of `Row`, in their order: the opcode, the name, what comes after the
     /// opcode, how many values it pops and pushes, where a run goes on, and what it uses. A row by `plain` or `of_byte`
-    /// leaves out the columns that all of its sort share.
+    /// leaves out the columns that all of its sort share. It is inlined, so that who asks for one column makes no other.
+    #[inline(always)]
     pub fn row(self) -> Row
         ensures { row_in result ≡ row_of self }
     {
