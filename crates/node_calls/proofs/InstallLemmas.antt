@@ -413,10 +413,3 @@ module _ (d : Description) (old mid : Parts) (at_ : Stamp) (bytes : List ℕ) (i
       by false once same =
           let P : Parts → Type 0 = λ s. RestsAgain d old s at_ (AtPace d old (InstallsBytes d (reading d old.log.all) bytes)) in
           subst P (sym same) (RestsAgain-once_none d old mid begins.next at_ bytes i can newer shown.tells begins.begun once)
-
--- what the call of the store's record told
-pub Prepares-ok : (d : Description) (old new : Parts) (h : HandlerId) (version : ℕ) (at_ : Stamp) (r : Result ⊤ InstallFault) (u : ⊤) → r ≡ Ok u → Prepares d old new h version at_ r → HasShown d old new h version at_
-Prepares-ok d old new h version at_ r u is prepared = let P : Result ⊤ InstallFault → Type 0 = λ x. Prepares d old new h version at_ x in subst P is prepared
-
-pub Prepares-err : (d : Description) (old new : Parts) (h : HandlerId) (version : ℕ) (at_ : Stamp) (r : Result ⊤ InstallFault) (fault : InstallFault) → r ≡ Err fault → Prepares d old new h version at_ r → IsOlder old h version fault × (new ≡ old)
-Prepares-err d old new h version at_ r fault is prepared = let P : Result ⊤ InstallFault → Type 0 = λ x. Prepares d old new h version at_ x in subst P is prepared

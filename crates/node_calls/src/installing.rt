@@ -163,14 +163,10 @@ fn install_own(
     ensures gone { parts.new.log.gone ≡ parts.old.log.gone }
 {
     let _bytes = bytes;
-    match prepare(description, parts, handler, held.version, at) {
-        Ok(()) => {
-            parts.handlers.install(handler, held);
-            begin(description, parts, handler, at);
-            Ok(())
-        }
-        Err(fault) => Err(fault),
-    }
+    prepare(description, parts, handler, held.version, at)?;
+    parts.handlers.install(handler, held);
+    begin(description, parts, handler, at);
+    Ok(())
 }
 
 /// Installs a program that nodes share, if it is newer than what the node holds. It stays in its one place.
@@ -193,14 +189,10 @@ fn install_one(
 {
     let _bytes = bytes;
     let version = program.as_held().version;
-    match prepare(description, parts, handler, version, at) {
-        Ok(()) => {
-            parts.handlers.share(handler, program);
-            begin(description, parts, handler, at);
-            Ok(())
-        }
-        Err(fault) => Err(fault),
-    }
+    prepare(description, parts, handler, version, at)?;
+    parts.handlers.share(handler, program);
+    begin(description, parts, handler, at);
+    Ok(())
 }
 
 /// Installs the capsule that the bytes are, whose code its handler holds, if it is newer than what the node holds. What was verified of
@@ -222,14 +214,10 @@ fn install_known(
     ensures installs { InstallGives description.now parts.old parts.new bytes.now at result }
     ensures gone { parts.new.log.gone ≡ parts.old.log.gone }
 {
-    match prepare(description, parts, handler, version, at) {
-        Ok(()) => {
-            parts.handlers.renew(handler, version, bytes);
-            begin(description, parts, handler, at);
-            Ok(())
-        }
-        Err(fault) => Err(fault),
-    }
+    prepare(description, parts, handler, version, at)?;
+    parts.handlers.renew(handler, version, bytes);
+    begin(description, parts, handler, at);
+    Ok(())
 }
 
 /// Installs the program of the capsule that the bytes are, if it is newer than what the node holds.

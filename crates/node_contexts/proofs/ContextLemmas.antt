@@ -18,23 +18,19 @@ use Rattle.mate_num.specs.declared.id.FunId.{FunId}
 use Rattle.split_phase.specs.declared.pending.NotWaiting.{NotWaiting}
 use Rattle.split_phase.specs.Calls as calls
 use Rattle.split_phase.specs.Calls.{Asked, call_at, AreNone, IsOf}
-use Rattle.mate_code.specs.Effect.{Private, push}
-use Rattle.code_verifier.specs.Verified.{VerifiedCode}
-use Rattle.exec_unit.specs.declared.step_end.StepEnd.{StepEnd}
-use Rattle.exec_unit.specs.declared.step_end.StepEnd.TheVariants.{Next, Ask, Halt, Fault}
-use Rattle.exec_unit.specs.Step.{IsStep}
+use Rattle.mate_code.specs.Effect.{push}
 use Rattle.node_contexts.specs.declared.handlers.Held.{Held}
 use Rattle.exec_unit.specs.declared.running.Ran.{Ran}
 use Rattle.node_contexts.specs.declared.seat.Seat.{Seat}
 use Rattle.node_contexts.specs.declared.contexts.Contexts.{Contexts}
-use Rattle.node_contexts.specs.At.{At, seat_at, at, Becomes, AreIdle, StartsContext, GivesWay}
+use Rattle.node_contexts.specs.At.{At, at, Becomes, AreIdle, StartsContext, GivesWay}
 use Rattle.node_contexts.specs.Programs.{Programs}
 use Rattle.exec_unit.specs.Running.{HasExecuted}
 use Rattle.node_contexts.specs.Executing.{IsSameSeat, with_seat, HasTurn, IsAnswered}
 
 -- ---- idle contexts
 
-pub none-at : (seats : List (Option Seat)) (n : ℕ) → length seats ≡ n → ((k : ℕ) → k < n → get_or seats k None ≡ None) → (k : ℕ) → get_or seats k None ≡ None
+none-at : (seats : List (Option Seat)) (n : ℕ) → length seats ≡ n → ((k : ℕ) → k < n → get_or seats k None ≡ None) → (k : ℕ) → get_or seats k None ≡ None
 none-at seats n len none k = by (cases_lt k n) where
   by : (k < n) ⊎ (n ≤ k) → get_or seats k None ≡ None
   by (inl below) = none k below
@@ -51,19 +47,6 @@ AreIdle-from s n len none locks ring calls = record {
   locks = locks;
   ring = ring;
 }
-
--- one more place has no seat
-pub none-left : (seats : List (Option Seat)) (n : ℕ) → n < length seats → ((k : ℕ) → k < n → get_or seats k None ≡ None) → (k : ℕ) → k < n + 1 → get_or (set seats n None) k None ≡ None
-none-left seats n within none k below = by (cases_eq k n) where
-  by : (k ≡ n) ⊎ (k ≢ n) → get_or (set seats n None) k None ≡ None
-  by (inl same) = ap (λ (j : ℕ). get_or (set seats n None) j None) same ∙ get_or-set_same seats n None None within
-  by (inr other) = get_or-set_other seats n k None None other ∙ none k (omega arith)
-
-pub none-there : (seats : List (Option Seat)) (n : ℕ) → get_or seats n None ≡ None → ((k : ℕ) → k < n → get_or seats k None ≡ None) → (k : ℕ) → k < n + 1 → get_or seats k None ≡ None
-none-there seats n here none k below = by (cases_eq k n) where
-  by : (k ≡ n) ⊎ (k ≢ n) → get_or seats k None ≡ None
-  by (inl same) = ap (λ (j : ℕ). get_or seats j None) same ∙ here
-  by (inr other) = none k (omega arith)
 
 -- ---- starts
 

@@ -177,7 +177,7 @@ fn renewed_copy(held: &Held, version: u32, image: &[u8]) -> Held
     }
 }
 
-/// Writes the bytes in place of the image. Where it stands, no more than its length is written.
+/// Writes the bytes in place of the image. It writes no more than their length, and not all the room that an image has.
 fn write_image(image: &mut Image, bytes: &[u8])
     requires { length bytes.now ≤ IMAGE_MAX }
     ensures { image.new ≡ record { items = bytes.now } }

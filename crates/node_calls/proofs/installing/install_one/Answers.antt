@@ -1,33 +1,36 @@
 -- The shared program takes the place of what was held.
 use Rattle.std.proofs.Common.{◌∙◌, List, Option, refl, ap, sym}
+use Rattle.std.proofs.lemmas.Result.{err_from_is_err_and}
 use Rattle.node_contexts.specs.declared.handlers.Held.{Held}
 use Rattle.node_invariant.specs.declared.parts.Parts.{Parts}
-use Rattle.node_calls.proofs.InstallLemmas.{Prepares-ok, Prepares-err, Refuses-older, shown-places, Arrives-shown, InstallGives-begun}
+use Rattle.node_calls.proofs.InstallLemmas.{Refuses-older, shown-places, Arrives-shown, InstallGives-begun}
 use Rattle.node_calls.proofs.installing.install_one.Goals as goal
 
 pub share-requires : goal.share-requires
 share-requires c =
     shown-places c.args.description.now c.args.parts.now c.prepare.new.parts c.args.at c.args.bytes.now (record { handler = c.args.handler; held = c.args.program }) c.as_held.result.now.version c.requires.rests c.requires.can (ap (λ (x : Held). x.version) (sym c.as_held.ensures))
-    (Prepares-ok c.args.description.now c.args.parts.now c.prepare.new.parts c.args.handler c.as_held.result.now.version c.args.at c.prepare.result _ c.in-Ok.is c.prepare.ensures.prepares)
+    c.in_ok-prepare.ensures.prepares
 
 pub begin-requires : goal.begin-requires
 begin-requires c =
     let programs = c.share.ensures in
     Arrives-shown c.args.description.now c.args.parts.now c.prepare.new.parts c.args.at c.args.bytes.now (record { handler = c.args.handler; held = c.args.program }) c.as_held.result.now.version c.requires.rests c.requires.can (ap (λ (x : Held). x.version) (sym c.as_held.ensures))
-    (Prepares-ok c.args.description.now c.args.parts.now c.prepare.new.parts c.args.handler c.as_held.result.now.version c.args.at c.prepare.result _ c.in-Ok.is c.prepare.ensures.prepares)
+    c.in_ok-prepare.ensures.prepares
     _ c.requires.room c.requires.few (ap (λ (ps : List (Option Held)). let s : Parts = record (c.prepare.new.parts) { handlers = record { programs = ps } } in s) programs)
 
-pub returns-in-Ok-clause-installs : goal.returns-in-Ok-clause-installs
-returns-in-Ok-clause-installs c =
+pub returns-clause-installs : goal.returns-clause-installs
+returns-clause-installs c =
     let programs = c.share.ensures in
     InstallGives-begun c.args.description.now c.args.parts.now c.prepare.new.parts c.args.at c.args.bytes.now (record { handler = c.args.handler; held = c.args.program }) c.as_held.result.now.version c.requires.rests c.requires.can (ap (λ (x : Held). x.version) (sym c.as_held.ensures))
-    (Prepares-ok c.args.description.now c.args.parts.now c.prepare.new.parts c.args.handler c.as_held.result.now.version c.args.at c.prepare.result _ c.in-Ok.is c.prepare.ensures.prepares)
+    c.in_ok-prepare.ensures.prepares
     _ c.begin.new.parts c.requires.room c.requires.few (ap (λ (ps : List (Option Held)). let s : Parts = record (c.prepare.new.parts) { handlers = record { programs = ps } } in s) programs) c.begin.ensures.begins
 
-pub returns-in-Err-clause-installs : goal.returns-in-Err-clause-installs
-returns-in-Err-clause-installs c =
-    Refuses-older c.args.description.now c.args.parts.now c.prepare.new.parts c.args.at c.args.bytes.now (record { handler = c.args.handler; held = c.args.program }) c.as_held.result.now.version c.requires.rests c.requires.can (ap (λ (x : Held). x.version) (sym c.as_held.ensures)) c.in-Err.fault
-    (Prepares-err c.args.description.now c.args.parts.now c.prepare.new.parts c.args.handler c.as_held.result.now.version c.args.at c.prepare.result c.in-Err.fault c.in-Err.is c.prepare.ensures.prepares)
+pub returns-in_err-prepare-clause-installs : goal.returns-in_err-prepare-clause-installs
+returns-in_err-prepare-clause-installs c =
+    let p = err_from_is_err_and c.from_residual.result c.from_residual.ensures.1 in
+    rw (p.1, p.2) (
+    Refuses-older c.args.description.now c.args.parts.now c.prepare.new.parts c.args.at c.args.bytes.now (record { handler = c.args.handler; held = c.args.program }) c.as_held.result.now.version c.requires.rests c.requires.can (ap (λ (x : Held). x.version) (sym c.as_held.ensures)) c.in_err-prepare.field-0.0
+    c.in_err-prepare.ensures.prepares)
 
-pub returns-in-Ok-clause-gone : goal.returns-in-Ok-clause-gone
-returns-in-Ok-clause-gone c = c.begin.ensures.gone ∙ c.prepare.ensures.gone
+pub returns-clause-gone : goal.returns-clause-gone
+returns-clause-gone c = c.begin.ensures.gone ∙ c.prepare.ensures.gone

@@ -1,5 +1,5 @@
 -- The call is taken out, and the context goes last into the ring.
-use Rattle.std.proofs.Common.{◌≡◌, Some, refl, sym, arith}
+use Rattle.std.proofs.Common.{◌≡◌, Some, refl, arith}
 use Rattle.std.proofs.lemmas.Int.{to_z-of_z}
 use Rattle.std.specs.Int.{w16}
 use Rattle.std.proofs.lemmas.Grind.{common_steps}

@@ -1,5 +1,5 @@
 -- A place more has no program.
-use Rattle.std.proofs.Common.{◌≡◌, List, Option, length, refl, ap, ◌∙◌, arith}
+use Rattle.std.proofs.Common.{List, Option, length, refl, ap, ◌∙◌, arith}
 use Rattle.node_contexts.specs.declared.handlers.Held.{Held}
 use Rattle.node_contexts.specs.Programs.{held_either}
 use Rattle.node_contexts.proofs.HandlerLemmas.{either-none, one-place-more}

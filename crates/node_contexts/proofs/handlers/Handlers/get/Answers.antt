@@ -1,5 +1,5 @@
 -- The handler's own program, or else the shared one.
-use Rattle.std.proofs.Common.{◌≡◌, ℕ, Option, None, get_or, sym, ap, ◌∙◌}
+use Rattle.std.proofs.Common.{ℕ, Option, None, get_or, sym, ap, ◌∙◌}
 use Rattle.std.specs.Option.{option_or}
 use Rattle.node_contexts.specs.declared.handlers.Held.{Held}
 use Rattle.node_contexts.specs.Programs.{HeldPrograms}

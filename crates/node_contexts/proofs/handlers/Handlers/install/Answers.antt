@@ -1,5 +1,5 @@
 -- The place is there, and has the program.
-use Rattle.std.proofs.Common.{◌≡◌, ℕ, List, Option, None, Some, length, length-set, set, ap, ◌∙◌, arith}
+use Rattle.std.proofs.Common.{ℕ, List, Option, None, Some, length, length-set, set, ap, ◌∙◌, arith}
 use Rattle.node_contexts.specs.declared.handlers.Held.{Held}
 use Rattle.node_contexts.specs.Programs.{HeldPrograms}
 use Rattle.node_contexts.proofs.HandlerLemmas.{either-length, either-install}

@@ -1,5 +1,5 @@
 -- No place has a program.
-use Rattle.std.proofs.Common.{◌≡◌, List, Option, [], sym, subst, ap, arith}
+use Rattle.std.proofs.Common.{◌≡◌, List, Option, sym, subst}
 use Rattle.node_contexts.specs.declared.handlers.Held.{Held}
 use Rattle.node_contexts.specs.Programs.{held_at, held_either}
 use Rattle.node_contexts.proofs.HandlerLemmas.{nothing-held, no-place, nothing-yet, one-place-more, nothing-more}

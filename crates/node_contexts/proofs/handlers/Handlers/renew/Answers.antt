@@ -1,5 +1,5 @@
 -- The own program changes where it is.
-use Rattle.std.proofs.Common.{◌≡◌, ℕ, List, Option, None, get_or, set, ap, ◌∙◌, arith}
+use Rattle.std.proofs.Common.{ℕ, List, Option, None, get_or, set, ap, ◌∙◌, arith}
 use Rattle.arrayvec.specs.ArrayVec.{ArrayVec}
 use Rattle.node_contexts.specs.declared.handlers.Held.{Held}
 use Rattle.node_contexts.specs.Programs.{HeldPrograms, held_either, renewed}

@@ -1,5 +1,5 @@
 -- The place has none of its own, and the shared one.
-use Rattle.std.proofs.Common.{◌≡◌, ℕ, List, Option, Some, length, set, ap, ◌∙◌, arith}
+use Rattle.std.proofs.Common.{ℕ, List, Option, Some, length, set, ap, ◌∙◌, arith}
 use Rattle.node_contexts.specs.declared.handlers.Held.{Held}
 use Rattle.node_contexts.specs.Programs.{HeldPrograms, held_either}
 use Rattle.node_contexts.proofs.HandlerLemmas.{either-length, either-share}
