@@ -12,7 +12,8 @@ use Rattle.mate_steps.specs.declared.code.CompiledScript.{CompiledScript}
 use Rattle.vm_desc.specs.Shapes.{shape_of}
 use Rattle.vm_desc.specs.declared.description.Description.{Description}
 use Rattle.mate_journal.specs.declared.program.Program.{Program}
-use Rattle.mate_steps.specs.CapsuleFiles.{SpellsVerified, capsule}
+use Rattle.mate_steps.specs.CapsuleFiles.{capsule}
+use Rattle.mate_steps.proofs.CapsuleLemmas.{SpelledSteps, spelled-steps}
 use Rattle.mate_steps.specs.Parts.{Folder}
 use Rattle.mate_steps.specs.Sources.{source}
 use Rattle.mate_steps.specs.Steps.{goes_on, stops}
@@ -37,8 +38,8 @@ source-tree f d fold name c (goes_on bytes read (stops r is_refused is)) = cc
 source-tree f d fold name c (stops r unread is) = cc
 
 -- a capsule stands in a text
-pub capsule-text : (f : Folder) (d : Description) (name : List ℕ) (x : CapsuleParts × Code) → capsule f d name (Ok x) → (text : List ℕ) × SpellsVerified d text x.0 x.1
-capsule-text f d name x (goes_on bytes read is) = (bytes.items, is)
+pub capsule-text : (f : Folder) (d : Description) (name : List ℕ) (x : CapsuleParts × Code) → capsule f d name (Ok x) → (text : List ℕ) × SpelledSteps d text x
+capsule-text f d name x (goes_on bytes read is) = (bytes.items, spelled-steps d bytes.items x is)
 capsule-text f d name x (stops r unread is) = cc
 
 -- ---- steps

@@ -99,7 +99,7 @@ module _ (f : Folder) (d : Description) (fold : Bool) (names : List (List ℕ)) 
   right-loaded : (name : List ℕ) (p : Program) → loaded f d name (Ok p) → IsRightProgram d p
   right-loaded name p (goes_on c spelled is) =
       let text = capsule-text f d name c spelled in
-      let read = capsule_is d text.1.spells.image.items c.0 (image-bytes text.0 text.1.spells.image text.1.spells.spelled) text.1.spells.decoded in
+      let read = capsule_is d text.1.image.items c.0 (image-bytes text.0 text.1.image text.1.spelled) text.1.decoded in
       IsRightProgram-loaded d c.1 text.1.marks c.0 p text.1.accepted read.1 read.2 (sym is.handler) (sym is.version_is) is.source is.image
   right-loaded name p (stops r refused is) = cc
 
