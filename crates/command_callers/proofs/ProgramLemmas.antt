@@ -39,9 +39,7 @@ missing_program f d name r h = refuses_first (is_missing name) (source f d false
 
 missing_step : (f : Folder) (d : Description) (name : List ℕ) (names : List (List ℕ)) (r : Result (Option Program) Refusal) → HoldsFile f name None
     → step_program f d false (name ∷ names) first_install r → RefusesAs (is_missing name) r
-missing_step f d name names (Ok None) h is = is
-missing_step f d name names (Ok (Some p)) h is = missing_program f d name (Ok p) h is
-missing_step f d name names (Err r) h is = missing_program f d name (Err r) h is
+missing_step f d name names r h = refuses_first (is_missing name) (installed f d false (record { 0 = 0 }) 1 name) _ r (λ a. missing_program f d name a h)
 
 missing_first : (f : Folder) (d : Description) (name : List ℕ) (names : List (List ℕ)) (steps : List Step) (r : Result (List Program) Refusal) → HoldsFile f name None
     → programs_after f d false (name ∷ names) [] (first_install ∷ steps) r → RefusesAs (is_missing name) r
@@ -72,8 +70,8 @@ loaded_program f d name p (goes_on c spelled is) = is.source
 loaded_program f d name p (stops r refused clash) = cc
 
 loaded_step : (f : Folder) (d : Description) (name : List ℕ) (o : Option Program) → step_program f d false (name ∷ []) (Load 0) (Ok o) → IfSome o (λ p. p.source ≡ None)
-loaded_step f d name None is = absurd is
-loaded_step f d name (Some p) is = loaded_program f d name p is
+loaded_step f d name o (goes_on p is same) = subst (λ (x : Option Program). IfSome x (λ p. p.source ≡ None)) (sym same) (loaded_program f d name p is)
+loaded_step f d name o (stops r is clash) = cc
 
 pub loaded_alone : (f : Folder) (d : Description) (s : NodeScript) (name : List ℕ) (r : Result (List Program) Refusal) → s ≡ loading name → script_programs f d false s r
     → IfOk r (λ ps. All (λ (p : Program). p.source ≡ None) ps)
@@ -92,8 +90,8 @@ installed_program f d name bytes p h (stops r refused clash) = cc
 
 installed_step : (f : Folder) (d : Description) (name bytes : List ℕ) (o : Option Program) → HoldsFile f name (Some bytes) → step_program f d false (name ∷ []) first_install (Ok o)
     → IfSome o (Means d bytes)
-installed_step f d name bytes None h is = absurd is
-installed_step f d name bytes (Some p) h is = installed_program f d name bytes p h is
+installed_step f d name bytes o h (goes_on p is same) = subst (λ (x : Option Program). IfSome x (Means d bytes)) (sym same) (installed_program f d name bytes p h is)
+installed_step f d name bytes o h (stops r is clash) = cc
 
 pub installed_alone : (f : Folder) (d : Description) (s : NodeScript) (name bytes : List ℕ) (r : Result (List Program) Refusal) → s ≡ installing name → HoldsFile f name (Some bytes)
     → script_programs f d false s r → IfOk r (λ ps. All (λ (p : Program). IfSome p.source (λ (source : ScriptTree). IsAccepted d bytes source.tree)) ps)

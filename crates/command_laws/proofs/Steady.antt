@@ -23,7 +23,7 @@ use Rattle.mate_steps.specs.Steps.{Then, goes_on, stops}
 use Rattle.mate_steps.proofs.Laws.{unread-as}
 use Rattle.mate_journal.specs.declared.program.Program.{Program}
 use Rattle.mate_num.specs.declared.id.HandlerId.{HandlerId}
-use Rattle.script_programs.specs.Programs.{installed, loaded, name_at, gives_program, step_program, programs_after}
+use Rattle.script_programs.specs.Programs.{installed, loaded, name_at, step_program, programs_after}
 use Rattle.script_programs.specs.Scripts.{script}
 use Rattle.script_reader.specs.declared.steps.Step.{Step}
 use Rattle.script_reader.specs.declared.steps.Step.TheVariants as step
@@ -79,14 +79,6 @@ module _ (f : Folder) (names : Names) (told : f.told ≡ Some names) where
   world_stays : (d : Description) (name : List ℕ) → Stays (world f d name) (world (steady names) d name)
   world_stays d name = then_stays _ _ _ _ (file_stays name) (λ bytes. stays _)
 
-  gives_stays : (p q : Result Program Refusal → Type 0) → Stays p q → Stays (gives_program p) (gives_program q)
-  gives_stays p q all (Ok None) is = absurd is
-  gives_stays p q all (Ok (Some a)) is = all (Ok a) is
-  gives_stays p q all (Err r) is = by (all (Err r) is) where
-    by : q (Err r) ⊎ IsUnreadAnswer {A = Program} (Err r) → q (Err r) ⊎ IsUnreadAnswer {A = Option Program} (Err r)
-    by (inl stands) = inl stands
-    by (inr unread) = inr (unread-as Program (Option Program) r unread)
-
   installed_stays : (d : Description) (fold : Bool) (h : HandlerId) (version : ℕ) (name : List ℕ) → Stays (installed f d fold h version name) (installed (steady names) d fold h version name)
   installed_stays d fold h version name = then_stays _ _ _ _ (source_stays d fold name) (λ c. stays _)
 
@@ -94,8 +86,8 @@ module _ (f : Folder) (names : Names) (told : f.told ≡ Some names) where
   loaded_stays d name = then_stays _ _ _ _ (capsule_stays d name) (λ c. stays _)
 
   step_stays : (d : Description) (fold : Bool) (files : List (List ℕ)) (x : Step) → Stays (step_program f d fold files x) (step_program (steady names) d fold files x)
-  step_stays d fold files (step.Install h version k) = gives_stays _ _ (installed_stays d fold h version (name_at files k))
-  step_stays d fold files (step.Load k) = gives_stays _ _ (loaded_stays d (name_at files k))
+  step_stays d fold files (step.Install h version k) = then_stays _ _ _ _ (installed_stays d fold h version (name_at files k)) (λ p. stays _)
+  step_stays d fold files (step.Load k) = then_stays _ _ _ _ (loaded_stays d (name_at files k)) (λ p. stays _)
   step_stays d fold files _ = stays _
 
   programs_stay : (d : Description) (fold : Bool) (files : List (List ℕ)) (ps : List Program) (left : List Step) → Stays (programs_after f d fold files ps left) (programs_after (steady names) d fold files ps left)

@@ -26,7 +26,7 @@ use Rattle.ts_checker.specs.Accepted.{IsAccepted}
 use Rattle.ts_checker.proofs.RightLemmas.{checked-right}
 use Rattle.vm_desc.specs.Shapes.{shape_of}
 use Rattle.vm_desc.specs.declared.description.Description.{Description}
-use Rattle.mate_steps.specs.SourceCode.{compiled_tree, IsCodeOf, HasNoCode, MeansTree}
+use Rattle.mate_steps.specs.SourceCode.{compiled_tree, IsCodeOf, MeansTree}
 
 -- what the compiler promises of the code of a tree
 pub record IsCompiledAs (shape : Shape) (tree : Block) (code : ArrayVec ℕ) : Type 0 where
@@ -46,7 +46,7 @@ folded_code s shape tree new code shape_is tree_is is =
     subst (λ (t : Block). IsCompiledAs shape t code) tree_is (subst (λ (x : Shape). IsCompiledAs x new code) shape_is is) in
     record { need = all.compiled.need; size = all.compiled.size; bytes = all.bytes; verified = all.verified }
 
-pub folded_no_code : (tree new : Block) (fault : CompileFault) → new ≡ folded tree → IsUncompiled new fault → HasNoCode true tree fault
+pub folded_no_code : (tree new : Block) (fault : CompileFault) → new ≡ folded tree → IsUncompiled new fault → IsUncompiled (compiled_tree true tree) fault
 folded_no_code tree new fault tree_is none = subst (λ (t : Block). IsUncompiled t fault) tree_is none
 
 -- the code of a tree has one encoding

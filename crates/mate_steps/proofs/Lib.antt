@@ -7,4 +7,5 @@ pub mod OneCapsule
 pub mod OneExpansion
 pub mod AcceptanceLemmas
 pub mod JointLemmas
+pub mod CapsuleLemmas
 pub mod CodeLemmas

@@ -10,7 +10,7 @@ use Rattle.ts_compiler.specs.declared.fault.CompileFault.TheVariants.{StackDepth
 use Rattle.ts_checker.specs.Accepted.{IsAccepted}
 use Rattle.mate_steps.proofs.CodeLemmas.{one-code}
 use Rattle.mate_steps.proofs.AcceptanceLemmas.{one_tree, one_refusal, apart}
-use Rattle.mate_steps.specs.SourceCode.{IsCodeOf, IsCompiledOf, HasNoCode, compiled_tree}
+use Rattle.mate_steps.specs.SourceCode.{IsCodeOf, IsCompiledOf, compiled_tree}
 use Rattle.mate_steps.specs.declared.code.CompiledScript.{CompiledScript}
 use Rattle.vm_desc.specs.Shapes.{shape_of}
 use Rattle.vm_desc.specs.declared.description.Description.{Description}
@@ -32,15 +32,15 @@ accepted_agrees d name bytes = judged_agrees ◌≡◌ _ _ _ (one_tree d bytes) 
 
 -- ---- code
 
-compiles_apart : (shape : Shape) (fold : Bool) (tree : Block) (code : ArrayVec ℕ) (e : CompileFault) → IsCodeOf shape fold tree code → HasNoCode fold tree e → ⊥
-compiles_apart shape fold tree code (StackDepth need) p q = omega (arith, p.need, q.over)
-compiles_apart shape fold tree code (TooLong size) p q = omega (arith, p.size, q.over)
+compiles_apart : (shape : Shape) (fold : Bool) (tree : Block) (code : ArrayVec ℕ) (e : CompileFault) → IsCodeOf shape fold tree code → IsUncompiled (compiled_tree fold tree) e → ⊥
+compiles_apart shape fold tree code (StackDepth need) p q = omega (arith, p.need, q.0)
+compiles_apart shape fold tree code (TooLong size) p q = omega (arith, p.size, q.1)
 
 compiles_once : (tree : Block) (e h : CompileFault) → IsUncompiled tree e → IsUncompiled tree h → e ≡ h
-compiles_once tree (StackDepth m) (StackDepth n) p q = ap StackDepth (p.need_is ∙ sym q.need_is)
-compiles_once tree (StackDepth m) (TooLong n) p q = absurd (omega (arith, p.over, q.fits))
-compiles_once tree (TooLong m) (StackDepth n) p q = absurd (omega (arith, p.fits, q.over))
-compiles_once tree (TooLong m) (TooLong n) p q = ap TooLong (p.size_is ∙ sym q.size_is)
+compiles_once tree (StackDepth m) (StackDepth n) p q = ap StackDepth (p.1 ∙ sym q.1)
+compiles_once tree (StackDepth m) (TooLong n) p q = absurd (omega (arith, p.0, q.0))
+compiles_once tree (TooLong m) (StackDepth n) p q = absurd (omega (arith, p.0, q.0))
+compiles_once tree (TooLong m) (TooLong n) p q = ap TooLong (p.2 ∙ sym q.2)
 
 -- the same tree, with the same code
 pub record SameCompiled (a b : CompiledScript) : Type 0 where
@@ -55,10 +55,10 @@ compiled_agrees d fold name tree = judged_agrees SameCompiled _ _ _ one not same
     code = one-code (shape_of d) fold tree a.code b.code p.code_is q.code_is;
   }
 
-  not : (a : CompiledScript) (e : CompileFault) → IsCompiledOf (shape_of d) fold tree a → HasNoCode fold tree e → ⊥
+  not : (a : CompiledScript) (e : CompileFault) → IsCompiledOf (shape_of d) fold tree a → IsUncompiled (compiled_tree fold tree) e → ⊥
   not a e p q = compiles_apart (shape_of d) fold tree a.code e p.code_is q
 
-  same : (e h : CompileFault) → HasNoCode fold tree e → HasNoCode fold tree h → e ≡ h
+  same : (e h : CompileFault) → IsUncompiled (compiled_tree fold tree) e → IsUncompiled (compiled_tree fold tree) h → e ≡ h
   same e h p q = compiles_once (compiled_tree fold tree) e h p q
 
 compiled_bytes_agrees : (d : Description) (fold : Bool) (name bytes : List ℕ) → AnswersAgree SameCompiled (compiled_bytes d fold name bytes) (compiled_bytes d fold name bytes)

@@ -1,15 +1,13 @@
 -- What a file is that should hold a capsule in hexadecimal digits: a capsule of the machine with code that the verifier takes, or the
 -- first refusal.
 use Rattle.std.specs.Prelude.{◌≡◌, ℕ, List, Result, Ok, Err}
-use Rattle.arrayvec.specs.ArrayVec.{ArrayVec}
-use Rattle.capsule_codec.specs.Image.{CapsuleParts, capsule_image}
+use Rattle.std.specs.Result.{result_map_both}
+use Rattle.mate_num.specs.Results.{◌>>=◌}
+use Rattle.capsule_codec.specs.Image.{CapsuleParts}
 use Rattle.capsule_codec.specs.Reading.{capsule_in}
 use Rattle.capsule_codec.specs.HexText.{image_in}
-use Rattle.capsule_codec.specs.declared.decoding.CapsuleFault.{CapsuleFault}
-use Rattle.mate_code.specs.declared.fault.VerifyFault.{VerifyFault}
 use Rattle.mate_code.specs.BytesVerification.{bytes_verification}
 use Rattle.mate_code.specs.Run.{Code}
-use Rattle.mate_code.specs.Verification.{Marks}
 use Rattle.vm_desc.specs.Shapes.{shape_of}
 use Rattle.vm_desc.specs.declared.description.Description.{Description}
 use Rattle.mate_refusals.specs.declared.cause.Cause.TheVariants as cause
@@ -22,43 +20,22 @@ use Rattle.mate_refusals.specs.declared.capsule_cause.CapsuleCause.TheVariants.{
 
 -- ---- texts
 
--- the text spells an image, and this is the capsule of the machine whose one image it is
-pub record SpellsCapsule (d : Description) (text : List ℕ) (c : CapsuleParts) : Type 0 where
-  pub image : ArrayVec ℕ
-  pub spelled : image_in text ≡ Ok image
-  pub decoded : capsule_in d image.items ≡ Ok c
-  pub image_is : image.items ≡ capsule_image c
+-- the capsule of the machine whose image the text spells, or the first refusal: of the digits, then of the image
+abbrev pub spelled_parts : Description → List ℕ → Result CapsuleParts CapsuleCause
+spelled_parts d text =
+    result_map_both (λ i. i) Digits (image_in text) >>= (λ image. result_map_both (λ c. c) Image (capsule_in d image.items))
 
--- the text spells a capsule of the machine, and the verifier takes its bytes as this code
-pub record SpellsVerified (d : Description) (text : List ℕ) (c : CapsuleParts) (code : Code) : Type 0 where
-  pub spells : SpellsCapsule d text c
-  pub marks : Marks
-  pub accepted : bytes_verification (shape_of d) c.code ≡ Ok (code, marks)
-
--- the text spells an image that is no capsule of the machine, with the first fault
-pub record SpellsNoCapsule (d : Description) (text : List ℕ) (fault : CapsuleFault) : Type 0 where
-  pub image : ArrayVec ℕ
-  pub spelled : image_in text ≡ Ok image
-  pub refused : capsule_in d image.items ≡ Err fault
-
--- the text spells a capsule of the machine with code that the verifier refuses, with the first refusal
-pub record SpellsUnverified (d : Description) (text : List ℕ) (fault : VerifyFault) : Type 0 where
-  pub capsule : CapsuleParts
-  pub spells : SpellsCapsule d text capsule
-  pub refused : bytes_verification (shape_of d) capsule.code ≡ Err fault
-
--- the first refusal of a text: of its digits, of the image that they spell, or of the capsule's code
-abbrev pub RefusesText : Description → List ℕ → CapsuleCause → Type 0
-RefusesText d text (Digits fault) = image_in text ≡ Err fault
-RefusesText d text (Image fault) = SpellsNoCapsule d text fault
-RefusesText d text (BadCode fault) = SpellsUnverified d text fault
+-- this capsule with the code as which the verifier takes its bytes, or the first refusal, also of the code
+abbrev pub spelled_code : Description → List ℕ → Result (CapsuleParts × Code) CapsuleCause
+spelled_code d text =
+    spelled_parts d text >>= (λ c. result_map_both (λ v. (c, v.0)) BadCode (bytes_verification (shape_of d) c.code))
 
 -- ---- steps
 
 -- the capsule that a text spells, with its code
 abbrev pub spelled_capsule : Description → List ℕ → List ℕ → Result (CapsuleParts × Code) Refusal → Type 0
 spelled_capsule d name bytes =
-    judged (λ c. SpellsVerified d bytes c.0 c.1) (RefusesText d bytes) (λ why. InFile name (cause.Capsule why))
+    judged (λ c. spelled_code d bytes ≡ Ok c) (λ why. spelled_code d bytes ≡ Err why) (λ why. InFile name (cause.Capsule why))
 
 -- the capsule of a file
 abbrev pub capsule : Folder → Description → List ℕ → Result (CapsuleParts × Code) Refusal → Type 0

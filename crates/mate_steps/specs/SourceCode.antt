@@ -31,10 +31,6 @@ pub record IsCodeOf (shape : Shape) (fold : Bool) (tree : Block) (code : ArrayVe
   pub bytes : AreBytes code.items
   pub verified : AreAccepted shape (compiled_tree fold tree) code
 
--- the compiled tree has no code, for this reason
-abbrev pub HasNoCode : Bool → Block → CompileFault → Type 0
-HasNoCode fold tree fault = IsUncompiled (compiled_tree fold tree) fault
-
 -- the compiled script of an accepted tree, with its code
 pub record IsCompiledOf (shape : Shape) (fold : Bool) (tree : Block) (c : CompiledScript) : Type 0 where
   pub shape_is : c.script.shape ≡ shape
@@ -44,7 +40,7 @@ pub record IsCompiledOf (shape : Shape) (fold : Bool) (tree : Block) (c : Compil
 -- the compiled script of an accepted tree, or why there is none; only a fold takes memory
 abbrev pub GivesCode : Shape → Bool → Block → Result CompiledScript CodeFault → Type 0
 GivesCode shape fold tree (Ok c) = IsCompiledOf shape fold tree c
-GivesCode shape fold tree (Err (Uncompiled fault)) = HasNoCode fold tree fault
+GivesCode shape fold tree (Err (Uncompiled fault)) = IsUncompiled (compiled_tree fold tree) fault
 GivesCode shape fold tree (Err NoMemory) = fold ≡ true
 
 -- ---- what follows of it

@@ -3,7 +3,8 @@ use Rattle.std.specs.Prelude.{ℕ, Bool, List, Result, Ok, Err}
 use Rattle.ts_checked.specs.Statement.{Block}
 use Rattle.ts_checked.specs.Checked.{ScriptTree}
 use Rattle.ts_checker.specs.Accepted.{IsAccepted}
-use Rattle.mate_steps.specs.SourceCode.{IsCompiledOf, HasNoCode}
+use Rattle.ts_compiler.specs.Compiled.{IsUncompiled}
+use Rattle.mate_steps.specs.SourceCode.{IsCompiledOf, compiled_tree}
 use Rattle.mate_steps.specs.declared.code.CompiledScript.{CompiledScript}
 use Rattle.vm_desc.specs.Shapes.{shape_of}
 use Rattle.vm_desc.specs.declared.description.Description.{Description}
@@ -25,7 +26,7 @@ tree_in (Err r) = Err r
 
 -- the compiled script of its accepted tree, folded before or not
 abbrev pub compiled : Description → Bool → List ℕ → Block → Result CompiledScript Refusal → Type 0
-compiled d fold name tree = judged (IsCompiledOf (shape_of d) fold tree) (HasNoCode fold tree)
+compiled d fold name tree = judged (IsCompiledOf (shape_of d) fold tree) (IsUncompiled (compiled_tree fold tree))
     (λ why. InFile name (cause.Code why))
 
 -- that of its bytes

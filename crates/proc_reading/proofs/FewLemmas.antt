@@ -7,7 +7,7 @@ use Rattle.ts_syntax.specs.declared.token.Token.{Token}
 use Rattle.ts_syntax.specs.declared.token.TokenKind.{TokenKind}
 use Rattle.ts_syntax.specs.declared.token.TokenKind.TheVariants as kind
 use Rattle.ts_syntax.specs.declared.word.Word.{Word}
-use Rattle.ts_syntax.specs.Cut.{CutFault, Mode, between, comment, word, literal, less, greater, CutStep, stop, go, behind, sign_turn, sign_of, fresh, turn, at_end, with_front, turned, cut_from, cut, cut_in, all_in, token_in, is_blank, begins_name, is_digit, in_name}
+use Rattle.ts_syntax.specs.Cut.{token, CutFault, big_literal, Mode, between, comment, word, literal, less, greater, CutStep, stop, go, behind, sign_turn, sign_of, fresh, turn, with_front, turned, cut_from, cut, cut_in, all_in, token_in, is_blank, begins_name, is_digit, in_name}
 use Rattle.ts_syntax.specs.Spelling.{decls_spelled, acts_spelled, params_spelled, other_params_spelled, procedure_spelled, procedures_spelled, procedure_source_spelled, kinds}
 use Rattle.ts_syntax.specs.Tree.{Procedure, ProcedureSource}
 use Rattle.ts_lexer.proofs.CutLemmas.{cut_from-nil, cut_from-cons}
@@ -63,15 +63,14 @@ turn_within i (less from) b =
     either 2 (b == 61) _ _ (omega arith) (either 2 (b == 62) _ _ (omega arith) (behind_within _ (fresh i b) (fresh_within i b)))
 turn_within i (greater from) b = either 2 (b == 61) _ _ (omega arith) (behind_within _ (fresh i b) (fresh_within i b))
 
-few_if : (n : ℕ) (b : Bool) (x y : Result (List Token) CutFault) → Few n x → Few n y → Few n (if b then x else y)
-few_if n true x y p q = p
-few_if n false x y p q = q
-
-ends_few : (i : ℕ) (m : Mode) → Few (owed m) (at_end i m)
+ends_few : (i : ℕ) (m : Mode) → Few (owed m) (turned (λ _. Ok []) (turn i m 10))
 ends_few i between = omega arith
 ends_few i comment = omega arith
 ends_few i (word from w) = omega arith
-ends_few i (literal from n) = few_if 1 (nat_lt 65535 n) _ _ tt (omega arith)
+ends_few i (literal from n) = by (nat_lt 65535 n) where
+  by : (b : Bool) → Few 1 (turned (λ _. Ok []) (if b then stop (big_literal from) else go (token (kind.Num n) from i ∷ []) between))
+  by true = tt
+  by false = omega arith
 ends_few i (less from) = omega arith
 ends_few i (greater from) = omega arith
 

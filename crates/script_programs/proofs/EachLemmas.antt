@@ -12,13 +12,15 @@ use Rattle.mate_steps.specs.declared.code.CompiledScript.{CompiledScript}
 use Rattle.vm_desc.specs.Shapes.{shape_of}
 use Rattle.vm_desc.specs.declared.description.Description.{Description}
 use Rattle.mate_journal.specs.declared.program.Program.{Program}
-use Rattle.mate_steps.specs.CapsuleFiles.{SpellsVerified, capsule}
+use Rattle.mate_steps.specs.CapsuleFiles.{capsule}
+use Rattle.mate_steps.proofs.CapsuleLemmas.{SpelledSteps, spelled-steps}
 use Rattle.mate_steps.specs.Parts.{Folder}
 use Rattle.mate_steps.specs.Sources.{source}
 use Rattle.mate_steps.specs.Steps.{goes_on, stops}
 use Rattle.node_programs.specs.ScriptSteps.{IsProgramOf}
 use Rattle.script_programs.specs.Numbers.{file_of, NamesNext, IsNumbered}
-use Rattle.script_programs.specs.Programs.{step_program, programs_after}
+use Rattle.script_programs.specs.Programs.{installed, loaded, name_at, step_program, programs_after}
+use Rattle.script_programs.proofs.StepLaws.{gives-one, gives-no_none}
 use Rattle.script_reader.specs.declared.steps.Step.{Step}
 use Rattle.script_reader.specs.declared.steps.Step.TheVariants as step
 
@@ -37,8 +39,8 @@ source-tree f d fold name c (goes_on bytes read (stops r is_refused is)) = cc
 source-tree f d fold name c (stops r unread is) = cc
 
 -- a capsule stands in a text
-pub capsule-text : (f : Folder) (d : Description) (name : List ℕ) (x : CapsuleParts × Code) → capsule f d name (Ok x) → (text : List ℕ) × SpellsVerified d text x.0 x.1
-capsule-text f d name x (goes_on bytes read is) = (bytes.items, is)
+pub capsule-text : (f : Folder) (d : Description) (name : List ℕ) (x : CapsuleParts × Code) → capsule f d name (Ok x) → (text : List ℕ) × SpelledSteps d text x
+capsule-text f d name x (goes_on bytes read is) = (bytes.items, spelled-steps d bytes.items x is)
 capsule-text f d name x (stops r unread is) = cc
 
 -- ---- steps
@@ -49,30 +51,34 @@ IsOfStep x None = (file_of x ≡ None) × ((ps : List Program) → IsProgramOf p
 IsOfStep x (Some p) = (k : ℕ) × (file_of x ≡ Some k) × ((ps : List Program) → slice_get ps k ≡ Some p → IsProgramOf ps x)
 
 step-is : (f : Folder) (d : Description) (fold : Bool) (names : List (List ℕ)) (x : Step) (o : Option Program) → step_program f d fold names x (Ok o) → IsOfStep x o
-step-is f d fold names (step.Install h version k) (Some p) (goes_on c compiled is) = (
-  k,
-  refl,
-  λ ps at. subst (λ (q : Option Program). IsSomeAnd q (λ p. IsSome p.source × (p.handler ≡ h) × (p.version ≡ version))) (sym at)
-      (subst (λ (s : _). IsSome s) (sym is.source) refl, is.handler, is.version_is),
-)
-step-is f d fold names (step.Install h version k) (Some p) (stops r refused is) = cc
-step-is f d fold names (step.Install h version k) None given = absurd given
-step-is f d fold names (step.Load k) (Some p) (goes_on c spelled is) =
-    (k, refl, λ ps at. subst (λ (q : Option Program). IsSomeAnd q (λ p. IsNone p.source)) (sym at) (subst (λ (s : _). IsNone s) (sym is.source) refl))
-step-is f d fold names (step.Load k) (Some p) (stops r refused is) = cc
-step-is f d fold names (step.Load k) None given = absurd given
+step-is f d fold names (step.Install h version k) (Some p) given = by (gives-one (installed f d fold h version (name_at names k)) p given) where
+  by : installed f d fold h version (name_at names k) (Ok p) → IsOfStep (step.Install h version k) (Some p)
+  by (goes_on c compiled is) = (
+    k,
+    refl,
+    λ ps at. subst (λ (q : Option Program). IsSomeAnd q (λ p. IsSome p.source × (p.handler ≡ h) × (p.version ≡ version))) (sym at)
+        (subst (λ (s : _). IsSome s) (sym is.source) refl, is.handler, is.version_is),
+  )
+  by (stops r refused is) = cc
+step-is f d fold names (step.Install h version k) None given = absurd (gives-no_none (installed f d fold h version (name_at names k)) given)
+step-is f d fold names (step.Load k) (Some p) given = by (gives-one (loaded f d (name_at names k)) p given) where
+  by : loaded f d (name_at names k) (Ok p) → IsOfStep (step.Load k) (Some p)
+  by (goes_on c spelled is) =
+      (k, refl, λ ps at. subst (λ (q : Option Program). IsSomeAnd q (λ p. IsNone p.source)) (sym at) (subst (λ (s : _). IsNone s) (sym is.source) refl))
+  by (stops r refused is) = cc
+step-is f d fold names (step.Load k) None given = absurd (gives-no_none (loaded f d (name_at names k)) given)
 step-is f d fold names (step.Post h payload) None given = (refl, λ ps. tt)
-step-is f d fold names (step.Post h payload) (Some p) given = absurd given
+step-is f d fold names (step.Post h payload) (Some p) given = cc
 step-is f d fold names (step.Step ctx n) None given = (refl, λ ps. tt)
-step-is f d fold names (step.Step ctx n) (Some p) given = absurd given
+step-is f d fold names (step.Step ctx n) (Some p) given = cc
 step-is f d fold names step.Run None given = (refl, λ ps. tt)
-step-is f d fold names step.Run (Some p) given = absurd given
+step-is f d fold names step.Run (Some p) given = cc
 step-is f d fold names (step.Answer ctx value) None given = (refl, λ ps. tt)
-step-is f d fold names (step.Answer ctx value) (Some p) given = absurd given
+step-is f d fold names (step.Answer ctx value) (Some p) given = cc
 step-is f d fold names step.Show None given = (refl, λ ps. tt)
-step-is f d fold names step.Show (Some p) given = absurd given
+step-is f d fold names step.Show (Some p) given = cc
 step-is f d fold names step.Reset None given = (refl, λ ps. tt)
-step-is f d fold names step.Reset (Some p) given = absurd given
+step-is f d fold names step.Reset (Some p) given = cc
 
 slice_get-seam : {A : Type 0} (xs : List A) (y : A) (ys : List A) → slice_get (xs ++ y ∷ ys) (length xs) ≡ Some y
 slice_get-seam [] y ys = refl

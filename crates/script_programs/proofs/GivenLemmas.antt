@@ -37,7 +37,7 @@ use Rattle.script_programs.specs.Numbers.{NamesInOrder}
 use Rattle.script_programs.specs.Programs.{installed, loaded, name_at, step_program, programs_after, script_programs}
 use Rattle.script_programs.proofs.EachLemmas.{HasTree, source-tree, capsule-text, are_made}
 use Rattle.script_programs.proofs.RightLemmas.{IsRightProgram-compiled, IsRightProgram-loaded}
-use Rattle.script_programs.proofs.StepLaws.{All-with}
+use Rattle.script_programs.proofs.StepLaws.{All-with, gives-one}
 
 -- ---- bytes
 
@@ -99,26 +99,26 @@ module _ (f : Folder) (d : Description) (fold : Bool) (names : List (List ℕ)) 
   right-loaded : (name : List ℕ) (p : Program) → loaded f d name (Ok p) → IsRightProgram d p
   right-loaded name p (goes_on c spelled is) =
       let text = capsule-text f d name c spelled in
-      let read = capsule_is d text.1.spells.image.items c.0 (image-bytes text.0 text.1.spells.image text.1.spells.spelled) text.1.spells.decoded in
+      let read = capsule_is d text.1.image.items c.0 (image-bytes text.0 text.1.image text.1.spelled) text.1.decoded in
       IsRightProgram-loaded d c.1 text.1.marks c.0 p text.1.accepted read.1 read.2 (sym is.handler) (sym is.version_is) is.source is.image
   right-loaded name p (stops r refused is) = cc
 
   right-step : (x : Step) (o : Option Program) → IsRightStep d (length names) x → step_program f d fold names x (Ok o) → IfSome o (IsRightProgram d)
-  right-step (step.Install h version k) (Some p) right given = right-installed h version k (name_at names k) p right given
+  right-step (step.Install h version k) (Some p) right given = right-installed h version k (name_at names k) p right (gives-one (installed f d fold h version (name_at names k)) p given)
   right-step (step.Install h version k) None right given = tt
-  right-step (step.Load k) (Some p) right given = right-loaded (name_at names k) p given
+  right-step (step.Load k) (Some p) right given = right-loaded (name_at names k) p (gives-one (loaded f d (name_at names k)) p given)
   right-step (step.Load k) None right given = tt
-  right-step (step.Post h payload) (Some p) right given = absurd given
+  right-step (step.Post h payload) (Some p) right given = cc
   right-step (step.Post h payload) None right given = tt
-  right-step (step.Step ctx n) (Some p) right given = absurd given
+  right-step (step.Step ctx n) (Some p) right given = cc
   right-step (step.Step ctx n) None right given = tt
-  right-step step.Run (Some p) right given = absurd given
+  right-step step.Run (Some p) right given = cc
   right-step step.Run None right given = tt
-  right-step (step.Answer ctx value) (Some p) right given = absurd given
+  right-step (step.Answer ctx value) (Some p) right given = cc
   right-step (step.Answer ctx value) None right given = tt
-  right-step step.Show (Some p) right given = absurd given
+  right-step step.Show (Some p) right given = cc
   right-step step.Show None right given = tt
-  right-step step.Reset (Some p) right given = absurd given
+  right-step step.Reset (Some p) right given = cc
   right-step step.Reset None right given = tt
 
   right-after : (ps qs : List Program) (xs : List Step) → All (IsRightStep d (length names)) xs → All (IsRightProgram d) ps → programs_after f d fold names ps xs (Ok qs) → All (IsRightProgram d) qs

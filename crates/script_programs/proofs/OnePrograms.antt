@@ -23,8 +23,9 @@ use Rattle.mate_steps.specs.Steps.{obtained}
 use Rattle.mate_steps.proofs.OneAnswer.{then_agrees, judged_agrees, SameBytes, file_agrees}
 use Rattle.mate_steps.proofs.OneCapsule.{SameCapsule, capsule_agrees}
 use Rattle.mate_steps.proofs.OneSource.{SameCompiled, source_agrees}
-use Rattle.script_programs.specs.Programs.{IsInstalled, IsLoaded, installed, loaded, name_at, gives_program, gives_none, step_program, programs_after, script_programs}
+use Rattle.script_programs.specs.Programs.{IsInstalled, IsLoaded, installed, loaded, name_at, step_program, programs_after, script_programs}
 use Rattle.script_programs.specs.SamePrograms.{SameSource, SameProgram, SamePrograms}
+use Rattle.script_programs.proofs.StepLaws.{named_program}
 use Rattle.script_programs.specs.Scripts.{IsBadScript, script_text, script}
 
 -- ---- the script
@@ -100,22 +101,16 @@ SameNamed None None = ⊤
 SameNamed (Some p) (Some q) = SameProgram p q
 SameNamed _ _ = ⊥
 
-gives_agree : (given : Result Program Refusal → Type 0) → AnswersAgree SameProgram given given → AnswersAgree SameNamed (gives_program given) (gives_program given)
-gives_agree given agree (Ok None) y p q = absurd p
-gives_agree given agree (Ok (Some a)) (Ok None) p q = absurd q
-gives_agree given agree (Ok (Some a)) (Ok (Some b)) p q = agree (Ok a) (Ok b) p q
-gives_agree given agree (Ok (Some a)) (Err r) p q = agree (Ok a) (Err r) p q
-gives_agree given agree (Err r) (Ok None) p q = absurd q
-gives_agree given agree (Err r) (Ok (Some b)) p q = agree (Err r) (Ok b) p q
-gives_agree given agree (Err r) (Err t) p q = agree (Err r) (Err t) p q
+gives_agree : (given : Result Program Refusal → Type 0) → AnswersAgree SameProgram given given → AnswersAgree SameNamed (named_program given) (named_program given)
+gives_agree given agree =
+    then_agrees SameProgram SameNamed _ _ _ _ agree
+    (λ p q same. obtained_agrees SameNamed (λ o. o ≡ Some p) (λ o. o ≡ Some q)
+    (λ a b is is'. subst (λ (o : Option Program). SameNamed o b) (sym is) (subst (λ (o : Option Program). SameNamed (Some p) o) (sym is') same)))
 
-none_agrees : AnswersAgree SameNamed gives_none gives_none
-none_agrees (Ok None) (Ok None) p q = tt
-none_agrees (Ok None) (Ok (Some b)) p q = absurd q
-none_agrees (Ok (Some a)) y p q = absurd p
-none_agrees (Ok None) (Err r) p q = q
-none_agrees (Err r) (Ok b) p q = p
-none_agrees (Err r) (Err t) p q = inr (inl p)
+none_agrees : AnswersAgree SameNamed (obtained (λ o. o ≡ None)) (obtained (λ o. o ≡ None))
+none_agrees =
+    obtained_agrees SameNamed (λ o. o ≡ None) (λ o. o ≡ None)
+    (λ a b is is'. subst (λ (o : Option Program). SameNamed o b) (sym is) (subst (λ (o : Option Program). SameNamed None o) (sym is') tt))
 
 step_agrees : (names : Names) (d : Description) (fold : Bool) (files : List (List ℕ)) (x : Step) → AnswersAgree SameNamed (step_program (steady names) d fold files x) (step_program (steady names) d fold files x)
 step_agrees names d fold files (step.Install h version k) = gives_agree (installed (steady names) d fold h version (name_at files k)) (installed_agrees names d fold h version (name_at files k))

@@ -5,8 +5,8 @@ use Rattle.mate_journal.specs.declared.program.Program.{Program}
 use Rattle.mate_refusals.specs.declared.refusal.Refusal.{Refusal}
 use Rattle.mate_refusals.specs.declared.refusal.Refusal.TheVariants.{NoMemory}
 use Rattle.mate_steps.specs.Parts.{Folder}
-use Rattle.mate_steps.specs.Steps.{Then, stops}
-use Rattle.script_programs.specs.Programs.{gives_program, names_file, step_program, programs_after, script_programs, Owing}
+use Rattle.mate_steps.specs.Steps.{Then, goes_on, stops, obtained, ◌▸◌}
+use Rattle.script_programs.specs.Programs.{names_file, step_program, programs_after, script_programs, Owing}
 use Rattle.script_reader.specs.Steps.{NodeScript}
 use Rattle.script_reader.specs.declared.steps.Step.{Step}
 use Rattle.script_reader.specs.declared.steps.Step.TheVariants as step
@@ -34,20 +34,33 @@ at_end f d fold script ps i past owing =
 
 -- memory may be wanting at any step
 pub step_wants : (f : Folder) (d : Description) (fold : Bool) (names : List (List ℕ)) (x : Step) → step_program f d fold names x (Err NoMemory)
-step_wants f d fold names (step.Install h version k) = stops NoMemory (stops NoMemory (inr refl) refl) refl
-step_wants f d fold names (step.Load k) = stops NoMemory (stops NoMemory (inr refl) refl) refl
+step_wants f d fold names (step.Install h version k) = stops NoMemory (stops NoMemory (stops NoMemory (inr refl) refl) refl) refl
+step_wants f d fold names (step.Load k) = stops NoMemory (stops NoMemory (stops NoMemory (inr refl) refl) refl) refl
 step_wants f d fold names _ = refl
 
 -- a step that names no file gives no program
 pub gives-nothing : (f : Folder) (d : Description) (fold : Bool) (names : List (List ℕ)) (x : Step) → names_file x ≡ false → step_program f d fold names x (Ok None)
 gives-nothing f d fold names (step.Install h version k) is = absurd (let e : true ≡ false = is in cc)
 gives-nothing f d fold names (step.Load k) is = absurd (let e : true ≡ false = is in cc)
-gives-nothing f d fold names _ is = tt
+gives-nothing f d fold names _ is = refl
 
--- a step that names a program answers with its refusal, as a `?` does
-pub gives-stops : (given : Result Program Refusal → Type 0) (e : Refusal) (answer : Result (Option Program) Refusal) → given (Err e) → IsErrAnd answer (λ y. y ≡ e) → gives_program given answer
+-- a step that names a program
+abbrev pub named_program : (Result Program Refusal → Type 0) → Result (Option Program) Refusal → Type 0
+named_program given = given ▸ λ p. obtained (λ o. o ≡ Some p)
+
+-- it answers with its refusal, as a `?` does
+pub gives-stops : (given : Result Program Refusal → Type 0) (e : Refusal) (answer : Result (Option Program) Refusal) → given (Err e) → IsErrAnd answer (λ y. y ≡ e) → named_program given answer
 gives-stops given e (Ok o) h is = absurd is
-gives-stops given e (Err r) h is = subst (λ (x : Refusal). given (Err x)) (sym is) h
+gives-stops given e (Err r) h is = stops e h (ap (λ (x : Refusal). Err x) is)
+
+-- it gives one
+pub gives-one : (given : Result Program Refusal → Type 0) (p : Program) → named_program given (Ok (Some p)) → given (Ok p)
+gives-one given p (goes_on q is same) = let e : q ≡ p = cc in subst (λ (x : Program). given (Ok x)) e is
+gives-one given p (stops r is clash) = cc
+
+pub gives-no_none : (given : Result Program Refusal → Type 0) → named_program given (Ok None) → ⊥
+gives-no_none given (goes_on q is same) = cc
+gives-no_none given (stops r is clash) = cc
 
 -- one more, if there is one
 pub All-with : {A : Type 0} (P : A → Type 0) (xs : List A) (o : Option A) → All P xs → IfSome o P → All P (xs ++ option_to_list o)

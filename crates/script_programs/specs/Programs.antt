@@ -1,6 +1,5 @@
 -- The programs of the files that a node script names, in the order of its steps.
 use Rattle.std.specs.Prelude.{◌≡◌, ℕ, Bool, true, false, List, [], ◌∷◌, ◌++◌, slice_index_or, Option, Some, None, option_to_list, Result}
-use Rattle.std.specs.Prelude.{Ok, Err, ⊤}
 use Rattle.mate_num.specs.declared.id.HandlerId.{HandlerId}
 use Rattle.capsule_codec.specs.Image.{CapsuleParts, capsule_image}
 use Rattle.mate_journal.specs.declared.program.Program.{Program}
@@ -10,7 +9,6 @@ use Rattle.script_reader.specs.declared.steps.Step.TheVariants as step
 use Rattle.mate_steps.specs.declared.code.CompiledScript.{CompiledScript}
 use Rattle.vm_desc.specs.declared.description.Description.{Description}
 use Rattle.mate_refusals.specs.declared.refusal.Refusal.{Refusal}
-use Rattle.mate_refusals.specs.declared.refusal.Refusal.TheVariants.{NoMemory}
 use Rattle.mate_steps.specs.CapsuleFiles.{capsule}
 use Rattle.mate_steps.specs.Parts.{Folder}
 use Rattle.mate_steps.specs.Sources.{source}
@@ -40,18 +38,6 @@ loaded f d name = capsule f d name ▸ λ c. obtained (IsLoaded c.0)
 abbrev pub name_at : List (List ℕ) → ℕ → List ℕ
 name_at names k = slice_index_or names k []
 
--- a program is named, and this step gives it
-abbrev pub gives_program : (Result Program Refusal → Type 0) → Result (Option Program) Refusal → Type 0
-gives_program given (Ok None) = ⊥
-gives_program given (Ok (Some p)) = given (Ok p)
-gives_program given (Err r) = given (Err r)
-
--- no program is named, unless memory runs out
-abbrev pub gives_none : Result (Option Program) Refusal → Type 0
-gives_none (Ok None) = ⊤
-gives_none (Ok (Some p)) = ⊥
-gives_none (Err r) = r ≡ NoMemory
-
 -- a step names a file
 abbrev pub names_file : Step → Bool
 names_file (step.Install h version k) = true
@@ -63,11 +49,11 @@ names_file (step.Answer ctx value) = false
 names_file step.Show = false
 names_file step.Reset = false
 
--- the program that a step of the script names
+-- the program that a step of the script names, if it names one
 abbrev pub step_program : Folder → Description → Bool → List (List ℕ) → Step → Result (Option Program) Refusal → Type 0
-step_program f d fold names (step.Install h version k) = gives_program (installed f d fold h version (name_at names k))
-step_program f d fold names (step.Load k) = gives_program (loaded f d (name_at names k))
-step_program f d fold names _ = gives_none
+step_program f d fold names (step.Install h version k) = installed f d fold h version (name_at names k) ▸ λ p. obtained (λ o. o ≡ Some p)
+step_program f d fold names (step.Load k) = loaded f d (name_at names k) ▸ λ p. obtained (λ o. o ≡ Some p)
+step_program f d fold names _ = obtained (λ o. o ≡ None)
 
 -- after these programs, those of the steps that are left
 abbrev pub programs_after : Folder → Description → Bool → List (List ℕ) → List Program → List Step → Result (List Program) Refusal → Type 0

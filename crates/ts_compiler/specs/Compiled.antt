@@ -19,21 +19,10 @@ pub record IsCompiled (shape : Shape) (tree : Block) (bytes : ArrayVec ℕ) : Ty
   pub size : script_size tree ≤ CODE_MAX
   pub code : bytes.items ≡ code_bytes (table_of shape) (script_code tree)
 
--- it needs a deeper stack
-pub record NeedsDeeperStack (tree : Block) (need : ℕ) : Type 0 where
-  pub over : STACK_MAX < script_need tree
-  pub need_is : need ≡ capped (script_need tree)
-
--- it doesn't, but its code is too long
-pub record HasLongCode (tree : Block) (size : ℕ) : Type 0 where
-  pub fits : script_need tree ≤ STACK_MAX
-  pub over : CODE_MAX < script_size tree
-  pub size_is : size ≡ capped (script_size tree)
-
--- why the script has no code
+-- why the script has no code: it needs a deeper stack, or it doesn't, but its code is too long
 abbrev pub IsUncompiled : Block → CompileFault → Type 0
-IsUncompiled tree (StackDepth need) = NeedsDeeperStack tree need
-IsUncompiled tree (TooLong size) = HasLongCode tree size
+IsUncompiled tree (StackDepth need) = (STACK_MAX < script_need tree) × (need ≡ capped (script_need tree))
+IsUncompiled tree (TooLong size) = (script_need tree ≤ STACK_MAX) × (CODE_MAX < script_size tree) × (size ≡ capped (script_size tree))
 
 -- what the result says; it says each exactly if it holds, since no two hold at once
 abbrev pub Compiles : Shape → Block → Result (ArrayVec ℕ) CompileFault → Type 0

@@ -11,18 +11,20 @@ use Rattle.mate_num.specs.Store.{buffer_at, item_of}
 use Rattle.mate_num.specs.declared.call.FaultKind.{FaultKind}
 use Rattle.mate_num.specs.declared.id.BufId.{BufId}
 use Rattle.mate_num.specs.declared.id.FunId.{FunId}
-use Rattle.mate_num.specs.declared.resource.Resource.{Resource}
+use Rattle.mate_num.specs.declared.resource.Resource.TheVariants as resource
 use Rattle.mate_num.specs.declared.shape.Shape.{Shape}
 use Rattle.mate_code.specs.declared.instr.Instr.{Instr}
 use Rattle.mate_code.specs.declared.instr.Instr.TheVariants as instr
 use Rattle.mate_code.specs.Instr.{size_of}
+use Rattle.mate_code.specs.declared.uses.Use.{Use}
+use Rattle.mate_code.specs.declared.uses.Use.TheVariants.{Gets, Calls}
 use Rattle.ts_checked.specs.Expression.{Expression, Arguments, no_arguments, argument, Num, Shared, Private, Item, Size, MsgItem, MsgSize, Call, SendBuf, Neg, Not, Two}
 use Rattle.ts_checked.specs.Right.{is_buffer, is_call, argument_count, is_right_expr, are_right}
 use Rattle.ts_checked.specs.declared.bin_op.BinOp.{BinOp}
 use Rattle.ts_meaning.specs.State.{ScriptState, Evaluation, Done, Over, then_do, value_or_fault, first_ten, next_answer}
 use Rattle.ts_meaning.specs.Meaning.{applied, value_of, values_of}
 use Rattle.mate_num.specs.Operators.{truth_value}
-use Rattle.ts_meaning.specs.Uses.{is_this_buffer as is_buffer_used, calls_device, expr_reads, args_read, expr_writes, args_write}
+use Rattle.ts_meaning.specs.Uses.{expr_has, args_have}
 use Rattle.ts_meaning.specs.Translation.{size_of_instrs, number_code, operator_code, expr_code, args_code, expr_need, args_need, expr_size}
 use Rattle.ts_meaning.proofs.PlaceLemmas.{bytes_of-append, bytes_of-then, size_of-operator_code}
 use Rattle.ts_fold.specs.Folded.{literal_of, operated, negation, inverse, operation, folded_expr, folded_args}
@@ -44,16 +46,14 @@ and_within a b c d first second all = both c d (first (and_parts a b all).0) (se
 
 pub record Keeps (old new : Expression) : Type 0 where
   pub value : (s : ScriptState) → value_of new s ≡ value_of old s
-  pub reads : (r : Resource) → expr_reads old r ≡ false → expr_reads new r ≡ false
-  pub writes : (shape : Shape) (r : Resource) → expr_writes shape old r ≡ false → expr_writes shape new r ≡ false
+  pub uses : (test : Use → Bool) → expr_has test old ≡ false → expr_has test new ≡ false
   pub right : (shape : Shape) (calls : Bool) → is_right_expr shape calls old ≡ true → is_right_expr shape calls new ≡ true
   pub need : expr_need new ≤ expr_need old
   pub size : expr_size new ≤ expr_size old
 
 pub record KeepsArgs (old new : Arguments) : Type 0 where
   pub values : (s : ScriptState) → values_of new s ≡ values_of old s
-  pub reads : (r : Resource) → args_read old r ≡ false → args_read new r ≡ false
-  pub writes : (shape : Shape) (r : Resource) → args_write shape old r ≡ false → args_write shape new r ≡ false
+  pub uses : (test : Use → Bool) → args_have test old ≡ false → args_have test new ≡ false
   pub right : (shape : Shape) (calls : Bool) → are_right shape calls old ≡ true → are_right shape calls new ≡ true
   pub count : argument_count new ≡ argument_count old
   pub need : (below : ℕ) → args_need below new ≤ args_need below old
@@ -63,8 +63,7 @@ keeps_same : (e : Expression) → Keeps e e
 keeps_same e =
     record {
       value = λ s. refl;
-      reads = λ r h. h;
-      writes = λ shape r h. h;
+      uses = λ test h. h;
       right = λ shape calls h. h;
       need = omega arith;
       size = omega arith;
@@ -74,8 +73,7 @@ keeps_along : (a b c : Expression) → Keeps a b → Keeps b c → Keeps a c
 keeps_along a b c f g =
     record {
       value = λ s. g.value s ∙ f.value s;
-      reads = λ r h. g.reads r (f.reads r h);
-      writes = λ shape r h. g.writes shape r (f.writes shape r h);
+      uses = λ test h. g.uses test (f.uses test h);
       right = λ shape calls h. g.right shape calls (f.right shape calls h);
       need = omega arith;
       size = omega arith;
@@ -91,8 +89,8 @@ keeps_item : (p : BufId) (e f : Expression) → Keeps e f → Keeps (Item p e) (
 keeps_item p e f k =
     record {
       value = λ s. ap (λ (o : Evaluation ℤ). then_do o (λ i s. value_or_fault (item_of (buffer_at s.store p.0) i) s)) (k.value s);
-      reads = λ r h. or_within (is_buffer_used p r) (expr_reads e r) (is_buffer_used p r) (expr_reads f r) (λ g. g) (k.reads r) h;
-      writes = k.writes;
+      uses = λ test h.
+          or_within (test (Gets (resource.Buffer p))) (expr_has test e) (test (Gets (resource.Buffer p))) (expr_has test f) (λ g. g) (k.uses test) h;
       right = λ shape calls h.
           and_within (is_buffer shape p) (is_right_expr shape calls e) (is_buffer shape p) (is_right_expr shape calls f) (λ g. g) (k.right shape calls) h;
       need = k.need;
@@ -103,8 +101,7 @@ keeps_msg_item : (e f : Expression) → Keeps e f → Keeps (MsgItem e) (MsgItem
 keeps_msg_item e f k =
     record {
       value = λ s. ap (λ (o : Evaluation ℤ). then_do o (λ i s. value_or_fault (item_of s.msg i) s)) (k.value s);
-      reads = k.reads;
-      writes = k.writes;
+      uses = k.uses;
       right = k.right;
       need = k.need;
       size = let a = size_push e instr.MsgGet in let b = size_push f instr.MsgGet in let c = k.size in omega arith;
@@ -114,8 +111,7 @@ keeps_neg : (e f : Expression) → Keeps e f → Keeps (Neg e) (Neg f)
 keeps_neg e f k =
     record {
       value = λ s. ap (λ (o : Evaluation ℤ). then_do o (λ a s. Done (wrap (neg_ℤ a)) s)) (k.value s);
-      reads = k.reads;
-      writes = k.writes;
+      uses = k.uses;
       right = k.right;
       need = k.need;
       size = let a = size_push e instr.Neg in let b = size_push f instr.Neg in let c = k.size in omega arith;
@@ -125,8 +121,7 @@ keeps_not : (e f : Expression) → Keeps e f → Keeps (Not e) (Not f)
 keeps_not e f k =
     record {
       value = λ s. ap (λ (o : Evaluation ℤ). then_do o (λ a s. value_or_fault (truth_value (not (is_truth a))) s)) (k.value s);
-      reads = k.reads;
-      writes = k.writes;
+      uses = k.uses;
       right = k.right;
       need = k.need;
       size = let a = size_push e instr.Not in let b = size_push f instr.Not in let c = k.size in omega arith;
@@ -154,9 +149,8 @@ keeps_two op l m r n k q =
           then_same (value_of m s) (value_of l s) (λ a s. then_do (value_of n s) (λ b s. value_or_fault (applied op a b) s))
           (λ a s. then_do (value_of r s) (λ b s. value_or_fault (applied op a b) s)) (k.value s)
           (λ a s. ap (λ (o : Evaluation ℤ). then_do o (λ b s. value_or_fault (applied op a b) s)) (q.value s));
-      reads = λ z h. or_within (expr_reads l z) (expr_reads r z) (expr_reads m z) (expr_reads n z) (k.reads z) (q.reads z) h;
-      writes = λ shape z h.
-          or_within (expr_writes shape l z) (expr_writes shape r z) (expr_writes shape m z) (expr_writes shape n z) (k.writes shape z) (q.writes shape z) h;
+      uses = λ test h.
+          or_within (expr_has test l) (expr_has test r) (expr_has test m) (expr_has test n) (k.uses test) (q.uses test) h;
       right = λ shape calls h.
           and_within (is_right_expr shape calls l) (is_right_expr shape calls r) (is_right_expr shape calls m) (is_right_expr shape calls n)
           (k.right shape calls) (q.right shape calls) h;
@@ -168,9 +162,8 @@ pub keeps_call : (f : FunId) (es fs : Arguments) → KeepsArgs es fs → Keeps (
 keeps_call f es fs k =
     record {
       value = λ s. ap (λ (o : Evaluation (List ℤ)). then_do o (λ values s. next_answer f (first_ten values) s)) (k.values s);
-      reads = k.reads;
-      writes = λ shape r h.
-          or_within (calls_device shape f r) (args_write shape es r) (calls_device shape f r) (args_write shape fs r) (λ g. g) (k.writes shape r) h;
+      uses = λ test h.
+          or_within (test (Calls f)) (args_have test es) (test (Calls f)) (args_have test fs) (λ g. g) (k.uses test) h;
       right = λ shape calls h.
           and_within (calls && is_call shape f (argument_count es)) (are_right shape calls es) (calls && is_call shape f (argument_count fs)) (are_right shape calls fs)
           (λ g. ap (λ n. calls && is_call shape f n) k.count ∙ g) (k.right shape calls) h;
@@ -185,8 +178,7 @@ keeps_argument e f es fs k q =
           then_same (value_of f s) (value_of e s) (λ a s. then_do (values_of fs s) (λ values s. Done (a ∷ values) s))
           (λ a s. then_do (values_of es s) (λ values s. Done (a ∷ values) s)) (k.value s)
           (λ a s. ap (λ (o : Evaluation (List ℤ)). then_do o (λ values s. Done (a ∷ values) s)) (q.values s));
-      reads = λ r h. or_within (expr_reads e r) (args_read es r) (expr_reads f r) (args_read fs r) (k.reads r) (q.reads r) h;
-      writes = λ shape r h. or_within (expr_writes shape e r) (args_write shape es r) (expr_writes shape f r) (args_write shape fs r) (k.writes shape r) (q.writes shape r) h;
+      uses = λ test h. or_within (expr_has test e) (args_have test es) (expr_has test f) (args_have test fs) (k.uses test) (q.uses test) h;
       right = λ shape calls h.
           and_within (is_right_expr shape calls e) (are_right shape calls es) (is_right_expr shape calls f) (are_right shape calls fs) (k.right shape calls) (q.right shape calls) h;
       count = ap suc q.count;
@@ -207,8 +199,7 @@ keeps_number : (e : Expression) (n : ℤ) → ((s : ScriptState) → value_of e 
 keeps_number e n value need size =
     record {
       value = λ s. sym (value s);
-      reads = λ r h. refl;
-      writes = λ shape r h. refl;
+      uses = λ test h. refl;
       right = λ shape calls h. refl;
       need = need;
       size = let a = number_size n in omega (arith, a.1);
@@ -269,8 +260,7 @@ mutual
   keeps_args no_arguments =
       record {
         values = λ s. refl;
-        reads = λ r h. h;
-        writes = λ shape r h. h;
+        uses = λ test h. h;
         right = λ shape calls h. h;
         count = refl;
         need = λ below. omega arith;

@@ -7,7 +7,7 @@ use Rattle.mate_num.specs.Number.{is_truth}
 use Rattle.mate_num.specs.Store.{buffer_at, item_set, appended}
 use Rattle.mate_num.specs.declared.id.BufId.{BufId}
 use Rattle.mate_num.specs.declared.id.FunId.{FunId}
-use Rattle.mate_num.specs.declared.resource.Resource.{Resource}
+use Rattle.mate_num.specs.declared.resource.Resource.TheVariants as resource
 use Rattle.mate_num.specs.declared.shape.Shape.{Shape}
 use Rattle.mate_code.specs.Instr.{size_of}
 use Rattle.ts_checked.specs.Expression.{Expression, Arguments, Num, Shared, Private, Item, Size, MsgItem, MsgSize, Call, SendBuf, Neg, Not, Two}
@@ -17,7 +17,10 @@ use Rattle.ts_checked.specs.Statement.{Statement, Block, no_statements, statemen
 use Rattle.ts_checked.specs.declared.checked_stmt.CVar.{CVar}
 use Rattle.ts_meaning.specs.State.{ScriptState, Evaluation, Done, Over, then_do, with_variable, buffer_changed, dropped, loop_does, choose, round_if, begun_state}
 use Rattle.ts_meaning.specs.Meaning.{value_of, while_round, for_round, run_stmt, run_block, played}
-use Rattle.ts_meaning.specs.Uses.{is_this_variable as is_variable_used, is_this_buffer as is_buffer_used, calls_device, expr_reads, args_read, expr_writes, args_write, stmt_reads, block_reads, stmt_writes, block_writes}
+use Rattle.mate_code.specs.CodeUses.{reads_in, writes_in}
+use Rattle.mate_code.specs.declared.uses.Use.{Use}
+use Rattle.mate_code.specs.declared.uses.Use.TheVariants.{Gets, Changes}
+use Rattle.ts_meaning.specs.Uses.{variable_has, expr_has, stmt_has, block_has, script_uses}
 use Rattle.ts_meaning.proofs.LoopLemmas.{loop_ends, while_wins_none}
 use Rattle.ts_meaning.specs.Translation.{number_code, expr_need, expr_size, stmt_need, block_need, stmt_size, block_size, script_need, script_size}
 use Rattle.ts_fold.specs.Folded.{decision, branch_left, if_left, if_else_left, while_left, folded_expr, folded_args, folded_stmt, folded_stmts, folded}
@@ -28,24 +31,21 @@ use Rattle.ts_fold.proofs.ExpressionLemmas.{or_within, and_within, then_same, Ke
 
 record KeepsOne (old new : Statement) : Type 0 where
   run : (s : ScriptState) → run_stmt new s ≡ run_stmt old s
-  reads : (r : Resource) → stmt_reads old r ≡ false → stmt_reads new r ≡ false
-  writes : (shape : Shape) (r : Resource) → stmt_writes shape old r ≡ false → stmt_writes shape new r ≡ false
+  uses : (test : Use → Bool) → stmt_has test old ≡ false → stmt_has test new ≡ false
   right : (shape : Shape) → is_right_stmt shape old ≡ true → is_right_stmt shape new ≡ true
   need : stmt_need new ≤ stmt_need old
   size : stmt_size new ≤ stmt_size old
 
 record KeepsStmt (old : Statement) (new : List Statement) : Type 0 where
   run : (s : ScriptState) → run_block (block new) s ≡ run_stmt old s
-  reads : (r : Resource) → stmt_reads old r ≡ false → block_reads (block new) r ≡ false
-  writes : (shape : Shape) (r : Resource) → stmt_writes shape old r ≡ false → block_writes shape (block new) r ≡ false
+  uses : (test : Use → Bool) → stmt_has test old ≡ false → block_has test (block new) ≡ false
   right : (shape : Shape) → is_right_stmt shape old ≡ true → is_right_block shape (block new) ≡ true
   need : block_need (block new) ≤ stmt_need old
   size : block_size (block new) ≤ stmt_size old
 
 pub record KeepsBlock (old : Block) (new : List Statement) : Type 0 where
   pub run : (s : ScriptState) → run_block (block new) s ≡ run_block old s
-  pub reads : (r : Resource) → block_reads old r ≡ false → block_reads (block new) r ≡ false
-  pub writes : (shape : Shape) (r : Resource) → block_writes shape old r ≡ false → block_writes shape (block new) r ≡ false
+  pub uses : (test : Use → Bool) → block_has test old ≡ false → block_has test (block new) ≡ false
   pub right : (shape : Shape) → is_right_block shape old ≡ true → is_right_block shape (block new) ≡ true
   pub need : block_need (block new) ≤ block_need old
   pub size : block_size (block new) ≤ block_size old
@@ -54,8 +54,7 @@ same : (x : Statement) → KeepsOne x x
 same x =
     record {
       run = λ s. refl;
-      reads = λ r h. h;
-      writes = λ shape r h. h;
+      uses = λ test h. h;
       right = λ shape h. h;
       need = omega arith;
       size = omega arith;
@@ -70,8 +69,7 @@ alone : (x y : Statement) → KeepsOne x y → KeepsStmt x (y ∷ [])
 alone x y k =
     record {
       run = λ s. then_nothing (run_stmt y s) ∙ k.run s;
-      reads = λ r h. or-false (stmt_reads y r) ∙ k.reads r h;
-      writes = λ shape r h. or-false (stmt_writes shape y r) ∙ k.writes shape r h;
+      uses = λ test h. or-false (stmt_has test y) ∙ k.uses test h;
       right = λ shape h. and-true (is_right_stmt shape y) ∙ k.right shape h;
       need = let a = k.need in omega arith;
       size = let a = k.size in omega arith;
@@ -81,8 +79,7 @@ along : (x y : Statement) (new : List Statement) → KeepsOne x y → KeepsStmt 
 along x y new k q =
     record {
       run = λ s. q.run s ∙ k.run s;
-      reads = λ r h. q.reads r (k.reads r h);
-      writes = λ shape r h. q.writes shape r (k.writes shape r h);
+      uses = λ test h. q.uses test (k.uses test h);
       right = λ shape h. q.right shape (k.right shape h);
       need = let a = k.need in let b = q.need in omega arith;
       size = let a = k.size in let b = q.size in omega arith;
@@ -101,9 +98,8 @@ keeps_set : (x : CVar) (e f : Expression) → Keeps e f → KeepsOne (Set x e) (
 keeps_set x e f k =
     record {
       run = λ s. ap (λ (o : Evaluation ℤ). then_do o (λ a s. Done (tt {0}) (with_variable x a s))) (k.value s);
-      reads = k.reads;
-      writes = λ shape r h.
-          or_within (is_variable_used x r) (expr_writes shape e r) (is_variable_used x r) (expr_writes shape f r) (λ g. g) (k.writes shape r) h;
+      uses = λ test h.
+          or_within (variable_has test Changes x) (expr_has test e) (variable_has test Changes x) (expr_has test f) (λ g. g) (k.uses test) h;
       right = λ shape h.
           and_within (is_variable shape x) (is_right_expr shape true e) (is_variable shape x) (is_right_expr shape true f) (λ g. g) (k.right shape true) h;
       need = k.need;
@@ -118,11 +114,10 @@ keeps_set_item p i j e f k q =
           (λ i s. then_do (value_of f s) (λ a s. buffer_changed p (item_set (buffer_at s.store p.0) i a) s))
           (λ i s. then_do (value_of e s) (λ a s. buffer_changed p (item_set (buffer_at s.store p.0) i a) s)) (k.value s)
           (λ i s. ap (λ (o : Evaluation ℤ). then_do o (λ a s. buffer_changed p (item_set (buffer_at s.store p.0) i a) s)) (q.value s));
-      reads = λ r h. or_within (expr_reads i r) (expr_reads e r) (expr_reads j r) (expr_reads f r) (k.reads r) (q.reads r) h;
-      writes = λ shape r h.
-          or_within (is_buffer_used p r || expr_writes shape i r) (expr_writes shape e r) (is_buffer_used p r || expr_writes shape j r) (expr_writes shape f r)
-          (λ g. or_within (is_buffer_used p r) (expr_writes shape i r) (is_buffer_used p r) (expr_writes shape j r) (λ g. g) (k.writes shape r) g)
-          (q.writes shape r) h;
+      uses = λ test h.
+          or_within (test (Changes (resource.Buffer p)) || expr_has test i) (expr_has test e) (test (Changes (resource.Buffer p)) || expr_has test j) (expr_has test f)
+          (λ g. or_within (test (Changes (resource.Buffer p))) (expr_has test i) (test (Changes (resource.Buffer p))) (expr_has test j) (λ g. g) (k.uses test) g)
+          (q.uses test) h;
       right = λ shape h.
           and_within (is_buffer shape p && is_right_expr shape true i) (is_right_expr shape true e) (is_buffer shape p && is_right_expr shape true j) (is_right_expr shape true f)
           (λ g. and_within (is_buffer shape p) (is_right_expr shape true i) (is_buffer shape p) (is_right_expr shape true j) (λ g. g) (k.right shape true) g)
@@ -135,8 +130,7 @@ keeps_append : (p : BufId) (e f : Expression) → Keeps e f → KeepsOne (Append
 keeps_append p e f k =
     record {
       run = λ s. ap (λ (o : Evaluation ℤ). then_do o (λ a s. buffer_changed p (appended (buffer_at s.store p.0) a) s)) (k.value s);
-      reads = k.reads;
-      writes = λ shape r h. or_within (is_buffer_used p r) (expr_writes shape e r) (is_buffer_used p r) (expr_writes shape f r) (λ g. g) (k.writes shape r) h;
+      uses = λ test h. or_within (test (Changes (resource.Buffer p))) (expr_has test e) (test (Changes (resource.Buffer p))) (expr_has test f) (λ g. g) (k.uses test) h;
       right = λ shape h. and_within (is_buffer shape p) (is_right_expr shape true e) (is_buffer shape p) (is_right_expr shape true f) (λ g. g) (k.right shape true) h;
       need = k.need;
       size = let a = k.size in omega arith;
@@ -146,8 +140,7 @@ keeps_do : (f : FunId) (es fs : Arguments) → KeepsArgs es fs → KeepsOne (Do 
 keeps_do f es fs k =
     record {
       run = λ s. ap (λ (o : Evaluation ℤ). then_do o dropped) ((keeps_call f es fs k).value s);
-      reads = k.reads;
-      writes = (keeps_call f es fs k).writes;
+      uses = (keeps_call f es fs k).uses;
       right = λ shape h.
           and_within (is_call shape f (argument_count es)) (are_right shape true es) (is_call shape f (argument_count fs)) (are_right shape true fs)
           (λ g. ap (λ n. is_call shape f n) k.count ∙ g) (k.right shape true) h;
@@ -162,8 +155,7 @@ keeps_if e f a c k q =
           then_same (value_of f s) (value_of e s) (λ v s. choose (is_truth v) (run_block (block c)) (Done (tt {0})) s)
           (λ v s. choose (is_truth v) (run_block a) (Done (tt {0})) s) (k.value s)
           (λ v s. choose_same (is_truth v) (run_block (block c)) (run_block a) (Done (tt {0})) (Done (tt {0})) s (q.run s) refl);
-      reads = λ r h. or_within (expr_reads e r) (block_reads a r) (expr_reads f r) (block_reads (block c) r) (k.reads r) (q.reads r) h;
-      writes = λ shape r h. or_within (expr_writes shape e r) (block_writes shape a r) (expr_writes shape f r) (block_writes shape (block c) r) (k.writes shape r) (q.writes shape r) h;
+      uses = λ test h. or_within (expr_has test e) (block_has test a) (expr_has test f) (block_has test (block c)) (k.uses test) (q.uses test) h;
       right = λ shape h. and_within (is_right_expr shape true e) (is_right_block shape a) (is_right_expr shape true f) (is_right_block shape (block c)) (k.right shape true) (q.right shape) h;
       need = let a = k.need in let b = q.need in omega arith;
       size = let a = k.size in let b = q.size in omega arith;
@@ -177,13 +169,10 @@ keeps_if_else e f a b c d k q o =
           then_same (value_of f s) (value_of e s) (λ v s. choose (is_truth v) (run_block (block c)) (run_block (block d)) s)
           (λ v s. choose (is_truth v) (run_block a) (run_block b) s) (k.value s)
           (λ v s. choose_same (is_truth v) (run_block (block c)) (run_block a) (run_block (block d)) (run_block b) s (q.run s) (o.run s));
-      reads = λ r h.
-          or_within (expr_reads e r || block_reads a r) (block_reads b r) (expr_reads f r || block_reads (block c) r) (block_reads (block d) r)
-          (λ g. or_within (expr_reads e r) (block_reads a r) (expr_reads f r) (block_reads (block c) r) (k.reads r) (q.reads r) g) (o.reads r) h;
-      writes = λ shape r h.
-          or_within (expr_writes shape e r || block_writes shape a r) (block_writes shape b r) (expr_writes shape f r || block_writes shape (block c) r) (block_writes shape (block d) r)
-          (λ g. or_within (expr_writes shape e r) (block_writes shape a r) (expr_writes shape f r) (block_writes shape (block c) r) (k.writes shape r) (q.writes shape r) g)
-          (o.writes shape r) h;
+      uses = λ test h.
+          or_within (expr_has test e || block_has test a) (block_has test b) (expr_has test f || block_has test (block c)) (block_has test (block d))
+          (λ g. or_within (expr_has test e) (block_has test a) (expr_has test f) (block_has test (block c)) (k.uses test) (q.uses test) g)
+          (o.uses test) h;
       right = λ shape h.
           and_within (is_right_expr shape true e && is_right_block shape a) (is_right_block shape b) (is_right_expr shape true f && is_right_block shape (block c)) (is_right_block shape (block d))
           (λ g. and_within (is_right_expr shape true e) (is_right_block shape a) (is_right_expr shape true f) (is_right_block shape (block c)) (k.right shape true) (q.right shape) g)
@@ -198,8 +187,7 @@ keeps_while e f a c k q =
       run = λ s.
           ap (λ (value : ScriptState → Evaluation ℤ). loop_does (while_round value (run_block (block c))) s) (same_function (value_of f) (value_of e) k.value)
           ∙ ap (λ (body : ScriptState → Evaluation ⊤). loop_does (while_round (value_of e) body) s) (same_function (run_block (block c)) (run_block a) q.run);
-      reads = λ r h. or_within (expr_reads e r) (block_reads a r) (expr_reads f r) (block_reads (block c) r) (k.reads r) (q.reads r) h;
-      writes = λ shape r h. or_within (expr_writes shape e r) (block_writes shape a r) (expr_writes shape f r) (block_writes shape (block c) r) (k.writes shape r) (q.writes shape r) h;
+      uses = λ test h. or_within (expr_has test e) (block_has test a) (expr_has test f) (block_has test (block c)) (k.uses test) (q.uses test) h;
       right = λ shape h. and_within (is_right_expr shape true e) (is_right_block shape a) (is_right_expr shape true f) (is_right_block shape (block c)) (k.right shape true) (q.right shape) h;
       need = let a = k.need in let b = q.need in omega arith;
       size = let a = k.size in let b = q.size in omega arith;
@@ -231,17 +219,11 @@ keeps_for x from first to limit step a c k q o =
           (λ v s. loop_does (for_round x (value_of limit) step (run_block (block c))) (with_variable x v s))
           (λ v s. loop_does (for_round x (value_of to) step (run_block a)) (with_variable x v s)) (k.value s)
           (λ v s. rounds_same x to limit step a c (with_variable x v s) q o);
-      reads = λ r h.
-          or_within (is_variable_used x r || expr_reads from r || expr_reads to r) (block_reads a r) (is_variable_used x r || expr_reads first r || expr_reads limit r) (block_reads (block c) r)
-          (λ g. or_within (is_variable_used x r || expr_reads from r) (expr_reads to r) (is_variable_used x r || expr_reads first r) (expr_reads limit r)
-          (λ g. or_within (is_variable_used x r) (expr_reads from r) (is_variable_used x r) (expr_reads first r) (λ g. g) (k.reads r) g) (q.reads r) g)
-          (o.reads r) h;
-      writes = λ shape r h.
-          or_within (is_variable_used x r || expr_writes shape from r || expr_writes shape to r) (block_writes shape a r)
-          (is_variable_used x r || expr_writes shape first r || expr_writes shape limit r) (block_writes shape (block c) r)
-          (λ g. or_within (is_variable_used x r || expr_writes shape from r) (expr_writes shape to r) (is_variable_used x r || expr_writes shape first r) (expr_writes shape limit r)
-          (λ g. or_within (is_variable_used x r) (expr_writes shape from r) (is_variable_used x r) (expr_writes shape first r) (λ g. g) (k.writes shape r) g) (q.writes shape r) g)
-          (o.writes shape r) h;
+      uses = λ test h. let of_variable : Bool = variable_has test Changes x || variable_has test Gets x in
+          or_within (of_variable || expr_has test from || expr_has test to) (block_has test a) (of_variable || expr_has test first || expr_has test limit) (block_has test (block c))
+          (λ g. or_within (of_variable || expr_has test from) (expr_has test to) (of_variable || expr_has test first) (expr_has test limit)
+          (λ g. or_within of_variable (expr_has test from) of_variable (expr_has test first) (λ g. g) (k.uses test) g) (q.uses test) g)
+          (o.uses test) h;
       right = λ shape h.
           and_within (is_head shape x from to step) (is_right_block shape a) (is_head shape x first limit step) (is_right_block shape (block c))
           (head_right shape x from first to limit step k q) (o.right shape) h;
@@ -255,8 +237,7 @@ decided_if : (n : ℤ) (a : List Statement) (b : Bool) → is_truth n ≡ b → 
 decided_if n a true e =
     record {
       run = λ s. sym (ap (λ (b : Bool). choose b (run_block (block a)) (Done (tt {0})) s) e);
-      reads = λ r h. h;
-      writes = λ shape r h. h;
+      uses = λ test h. h;
       right = λ shape h. h;
       need = omega arith;
       size = omega arith;
@@ -264,8 +245,7 @@ decided_if n a true e =
 decided_if n a false e =
     record {
       run = λ s. sym (ap (λ (b : Bool). choose b (run_block (block a)) (Done (tt {0})) s) e);
-      reads = λ r h. refl;
-      writes = λ shape r h. refl;
+      uses = λ test h. refl;
       right = λ shape h. refl;
       need = omega arith;
       size = omega arith;
@@ -280,8 +260,7 @@ decided_if_else : (n : ℤ) (a b : List Statement) (t : Bool) → is_truth n ≡
 decided_if_else n a b true e =
     record {
       run = λ s. sym (ap (λ (t : Bool). choose t (run_block (block a)) (run_block (block b)) s) e);
-      reads = λ r h. (or_parts (block_reads (block a) r) (block_reads (block b) r) h).0;
-      writes = λ shape r h. (or_parts (block_writes shape (block a) r) (block_writes shape (block b) r) h).0;
+      uses = λ test h. (or_parts (block_has test (block a)) (block_has test (block b)) h).0;
       right = λ shape h. (and_parts (is_right_block shape (block a)) (is_right_block shape (block b)) h).0;
       need = omega arith;
       size = omega arith;
@@ -289,8 +268,7 @@ decided_if_else n a b true e =
 decided_if_else n a b false e =
     record {
       run = λ s. sym (ap (λ (t : Bool). choose t (run_block (block a)) (run_block (block b)) s) e);
-      reads = λ r h. (or_parts (block_reads (block a) r) (block_reads (block b) r) h).1;
-      writes = λ shape r h. (or_parts (block_writes shape (block a) r) (block_writes shape (block b) r) h).1;
+      uses = λ test h. (or_parts (block_has test (block a)) (block_has test (block b)) h).1;
       right = λ shape h. (and_parts (is_right_block shape (block a)) (is_right_block shape (block b)) h).1;
       need = omega arith;
       size = omega arith;
@@ -308,8 +286,7 @@ decided_while n a false e =
       run = λ s.
           sym (loop_ends (while_round (value_of (Num n)) (run_block (block a))) (while_wins_none (Num n) (block a)) s s
           (ap (λ (b : Bool). round_if b (run_block (block a)) s) e));
-      reads = λ r h. refl;
-      writes = λ shape r h. refl;
+      uses = λ test h. refl;
       right = λ shape h. refl;
       need = omega arith;
       size = omega arith;
@@ -332,17 +309,12 @@ run-append (x ∷ xs) ys s =
     (λ _ s. run-append xs ys s)
     ∙ sym (then_twice (run_stmt x s) (λ _ s. run_block (block xs) s) (λ _ s. run_block (block ys) s))
 
-reads-append : (xs ys : List Statement) (r : Resource) → block_reads (block xs) r ≡ false → block_reads (block ys) r ≡ false → block_reads (block (xs ++ ys)) r ≡ false
-reads-append [] ys r first second = second
-reads-append (x ∷ xs) ys r first second =
-    or_within (stmt_reads x r) (block_reads (block xs) r) (stmt_reads x r) (block_reads (block (xs ++ ys)) r) (λ g. g) (λ g. reads-append xs ys r g second) first
-
-writes-append : (shape : Shape) (xs ys : List Statement) (r : Resource) → block_writes shape (block xs) r ≡ false → block_writes shape (block ys) r ≡ false
-    → block_writes shape (block (xs ++ ys)) r ≡ false
-writes-append shape [] ys r first second = second
-writes-append shape (x ∷ xs) ys r first second =
-    or_within (stmt_writes shape x r) (block_writes shape (block xs) r) (stmt_writes shape x r) (block_writes shape (block (xs ++ ys)) r) (λ g. g)
-    (λ g. writes-append shape xs ys r g second) first
+uses-append : (test : Use → Bool) (xs ys : List Statement) → block_has test (block xs) ≡ false → block_has test (block ys) ≡ false
+    → block_has test (block (xs ++ ys)) ≡ false
+uses-append test [] ys first second = second
+uses-append test (x ∷ xs) ys first second =
+    or_within (stmt_has test x) (block_has test (block xs)) (stmt_has test x) (block_has test (block (xs ++ ys))) (λ g. g)
+    (λ g. uses-append test xs ys g second) first
 
 right-append : (shape : Shape) (xs ys : List Statement) → is_right_block shape (block xs) ≡ true → is_right_block shape (block ys) ≡ true
     → is_right_block shape (block (xs ++ ys)) ≡ true
@@ -365,9 +337,7 @@ keeps_then x b xs ys k q =
       run = λ s.
           run-append xs ys s
           ∙ then_same (run_block (block xs) s) (run_stmt x s) (λ _ s. run_block (block ys) s) (λ _ s. run_block b s) (k.run s) (λ _ s. q.run s);
-      reads = λ r h. let p = or_parts (stmt_reads x r) (block_reads b r) h in reads-append xs ys r (k.reads r p.0) (q.reads r p.1);
-      writes = λ shape r h.
-          let p = or_parts (stmt_writes shape x r) (block_writes shape b r) h in writes-append shape xs ys r (k.writes shape r p.0) (q.writes shape r p.1);
+      uses = λ test h. let p = or_parts (stmt_has test x) (block_has test b) h in uses-append test xs ys (k.uses test p.0) (q.uses test p.1);
       right = λ shape h.
           let p = and_parts (is_right_stmt shape x) (is_right_block shape b) h in right-append shape xs ys (k.right shape p.0) (q.right shape p.1);
       need = let a = k.need in let b = q.need in let c = need-append xs ys in omega arith;
@@ -404,8 +374,7 @@ mutual
   keeps_stmts no_statements =
       record {
         run = λ s. refl;
-        reads = λ r h. h;
-        writes = λ shape r h. h;
+        uses = λ test h. h;
         right = λ shape h. h;
         need = omega arith;
         size = omega arith;
@@ -424,8 +393,8 @@ RunsAs-folded tree store msg answers turns = ap played ((keeps_stmts tree).run (
 pub UsesNoMore-folded : (shape : Shape) (tree : Block) → UsesNoMore shape tree (folded tree)
 UsesNoMore-folded shape tree =
     record {
-      reads = λ r. within (block_reads tree r) (block_reads (folded tree) r) ((keeps_stmts tree).reads r);
-      writes = λ r. within (block_writes shape tree r) (block_writes shape (folded tree) r) ((keeps_stmts tree).writes shape r);
+      reads = λ r. within ((script_uses shape tree).reads r) ((script_uses shape (folded tree)).reads r) ((keeps_stmts tree).uses (λ u. reads_in u r));
+      writes = λ r. within ((script_uses shape tree).writes r) ((script_uses shape (folded tree)).writes r) ((keeps_stmts tree).uses (λ u. writes_in shape u r));
     }
 
 pub TakesNoMore-folded : (tree : Block) → TakesNoMore tree (folded tree)

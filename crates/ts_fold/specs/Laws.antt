@@ -6,7 +6,7 @@ use Rattle.mate_num.specs.declared.shape.Shape.{Shape}
 use Rattle.mate_num.specs.declared.store.Store.{Store}
 use Rattle.ts_checked.specs.Statement.{Block}
 use Rattle.ts_meaning.specs.Meaning.{run_of}
-use Rattle.ts_meaning.specs.Uses.{block_reads, block_writes}
+use Rattle.ts_meaning.specs.Uses.{script_uses}
 use Rattle.ts_meaning.specs.Translation.{script_need, script_size}
 
 -- the new tree runs as the old one: the end, the store and the calls are the same, whatever the store, the message,
@@ -18,8 +18,8 @@ RunsAs old new =
 
 -- on a machine of this shape the new tree reads and writes only what the old one does
 pub record UsesNoMore (shape : Shape) (old new : Block) : Type 0 where
-  pub reads : (r : Resource) → IsTrue (block_reads new r) → IsTrue (block_reads old r)
-  pub writes : (r : Resource) → IsTrue (block_writes shape new r) → IsTrue (block_writes shape old r)
+  pub reads : (r : Resource) → IsTrue ((script_uses shape new).reads r) → IsTrue ((script_uses shape old).reads r)
+  pub writes : (r : Resource) → IsTrue ((script_uses shape new).writes r) → IsTrue ((script_uses shape old).writes r)
 
 -- the new tree needs at most the stack that the old one needs, and its code takes at most as many bytes
 pub record TakesNoMore (old new : Block) : Type 0 where

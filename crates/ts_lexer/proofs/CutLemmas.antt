@@ -3,7 +3,7 @@ use Rattle.std.proofs.Common.{◌≡◌, ℕ, ◌+◌, ◌-◌, ◌*◌, ◌<◌
 use Rattle.std.proofs.lemmas.Bool.{false≢true, cond-true, cond-false, or_cases, or_from, or_right, and_parts, and_left, and_right, not-true, not-false, leb-true, eqb-true, lt-leb, lt-ltb, le-ltb, ne_eqb, cases_lt}
 use Rattle.ts_syntax.specs.declared.token.Token.{Token}
 use Rattle.ts_syntax.specs.declared.token.TokenKind.TheVariants as kind
-use Rattle.ts_syntax.specs.Cut.{is_blank, is_digit, begins_name, in_name, word_kind, token, CutFault, bad_byte, big_literal, Mode, between, comment, word, literal, CutStep, stop, go, behind, fresh, turn, at_end, with_front, turned, cut_from}
+use Rattle.ts_syntax.specs.Cut.{is_blank, is_digit, begins_name, in_name, word_kind, token, CutFault, bad_byte, big_literal, Mode, between, comment, word, literal, CutStep, stop, go, behind, fresh, turn, with_front, turned, cut_from}
 use Rattle.ts_lexer.specs.Spans.{begins, BeginsWith, Passes, digits_value}
 
 -- the bytes are at their end, or their first one fails the test
@@ -75,7 +75,7 @@ turned-behind rest t (go ts m) = sym (with_front-append (t ∷ []) ts (rest m))
 
 -- one byte
 
-pub cut_from-nil : (i : ℕ) (m : Mode) → cut_from i m [] ≡ at_end i m
+pub cut_from-nil : (i : ℕ) (m : Mode) → cut_from i m [] ≡ turned (λ _. Ok []) (turn i m 10)
 unfolding cut_from
 cut_from-nil i m = refl
 
@@ -162,7 +162,9 @@ literal_begins i (x ∷ xs) rest b p =
     ∙ ap (λ n. cut_from (i + length (x ∷ xs)) (literal i (digits_value n xs)) rest) (let e : x - 48 ≡ 0 * 10 + (x - 48) = omega arith in e)
 
 literal_big : (i from n : ℕ) (rest : List ℕ) → Stops is_digit rest → 65535 < n → cut_from i (literal from n) rest ≡ Err (big_literal from)
-literal_big i from n [] s big = cut_from-nil i (literal from n) ∙ cond-true (nat_lt 65535 n) _ _ (lt-ltb 65535 n big)
+literal_big i from n [] s big =
+    cut_from-nil i (literal from n)
+    ∙ ap (turned (λ _. Ok [])) (cond-true (nat_lt 65535 n) (stop (big_literal from)) (go (token (kind.Num n) from i ∷ []) between) (lt-ltb 65535 n big))
 literal_big i from n (b ∷ bs) s big = cut_from-turn i (literal from n) b bs (stop (big_literal from)) (cond-false (is_digit b) _ _ s ∙ cond-true (nat_lt 65535 n) _ _ (lt-ltb 65535 n big))
 
 letter_no_digit : (b : ℕ) → begins_name b ≡ true → is_digit b ≡ false
@@ -174,7 +176,10 @@ literal_letter i from n (x ∷ rest) b small = cut_from-turn i (literal from n) 
     (cond-false (is_digit x) _ _ (letter_no_digit x b) ∙ cond-false (nat_lt 65535 n) _ _ (le-ltb 65535 n small) ∙ cond-true (begins_name x) _ _ b)
 
 literal_end : (i from n : ℕ) (rest : List ℕ) → Stops is_digit rest → Stops begins_name rest → n ≤ 65535 → cut_from i (literal from n) rest ≡ with_front (token (kind.Num n) from i ∷ []) (cut_from i between rest)
-literal_end i from n [] d s small = cut_from-nil i (literal from n) ∙ cond-false (nat_lt 65535 n) _ _ (le-ltb 65535 n small) ∙ ap (with_front (token (kind.Num n) from i ∷ [])) (sym (cut_from-nil i between))
+literal_end i from n [] d s small =
+    cut_from-nil i (literal from n)
+    ∙ ap (turned (λ _. Ok [])) (cond-false (nat_lt 65535 n) (stop (big_literal from)) (go (token (kind.Num n) from i ∷ []) between) (le-ltb 65535 n small))
+    ∙ ap (with_front (token (kind.Num n) from i ∷ [])) (sym (cut_from-nil i between))
 literal_end i from n (x ∷ rest) d s small = ends_before i (literal from n) (token (kind.Num n) from i) x rest
     (cond-false (is_digit x) _ _ d ∙ cond-false (nat_lt 65535 n) _ _ (le-ltb 65535 n small) ∙ cond-false (begins_name x) _ _ s)
 

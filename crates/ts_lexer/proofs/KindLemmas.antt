@@ -7,7 +7,7 @@ use Rattle.ts_syntax.specs.declared.token.TokenKind.{TokenKind}
 use Rattle.ts_syntax.specs.declared.token.TokenKind.TheVariants as kind
 use Rattle.ts_syntax.specs.Text.{token_text}
 use Rattle.ts_syntax.specs.Spelling.{kinds}
-use Rattle.ts_syntax.specs.Cut.{is_blank, is_digit, begins_name, in_name, sign_of, keywords, keyword_among, word_kind, token, CutFault, Mode, between, comment, word, literal, less, greater, CutStep, stop, go, behind, sign_turn, fresh, turn, at_end, with_front, turned, cut_from, cut}
+use Rattle.ts_syntax.specs.Cut.{is_blank, is_digit, begins_name, in_name, sign_of, keywords, keyword_among, word_kind, token, CutFault, Mode, between, comment, word, literal, less, greater, CutStep, stop, go, behind, sign_turn, fresh, turn, with_front, turned, cut_from, cut}
 use Rattle.ts_lexer.specs.Spans.{BeginsWith, Passes}
 use Rattle.ts_lexer.specs.Printed.{IsWord, IsKind, AreKinds}
 use Rattle.ts_lexer.proofs.WordLemmas.{sign-is}
@@ -120,14 +120,6 @@ turn-IsTurn i (less from) b h =
 turn-IsTurn i (greater from) b h =
     cond_both (b == 61) _ _ IsTurn (λ _. ((tt, tt), tt)) (λ _. behind-IsTurn (token kind.Gt from i) (fresh i b) tt (fresh-IsTurn i b))
 
-at_end-IsResult : (i : ℕ) (m : Mode) → IsMode m → IsResult (at_end i m)
-at_end-IsResult i between h = tt
-at_end-IsResult i comment h = tt
-at_end-IsResult i (word from w) h = (word_kind-IsKind w h, tt)
-at_end-IsResult i (literal from n) h = cond_both (nat_lt 65535 n) _ _ IsResult (λ _. tt) (λ small. (ltb-false 65535 n small, tt))
-at_end-IsResult i (less from) h = (tt, tt)
-at_end-IsResult i (greater from) h = (tt, tt)
-
 -- texts
 
 AreKinds-append : (ts us : List Token) → AreKinds (kinds ts) → AreKinds (kinds us) → AreKinds (kinds (ts ++ us))
@@ -143,7 +135,7 @@ turned-IsResult rest each (go ts m) h = front (rest m) (each m h.1)
     front (Err f) g = tt
 
 cut_from-IsResult : (i : ℕ) (m : Mode) (bs : List ℕ) → IsMode m → IsResult (cut_from i m bs)
-cut_from-IsResult i m [] h = subst IsResult (sym (cut_from-nil i m)) (at_end-IsResult i m h)
+cut_from-IsResult i m [] h = subst IsResult (sym (cut_from-nil i m)) (turned-IsResult (λ _. Ok []) (λ n g. tt) (turn i m 10) (turn-IsTurn i m 10 h))
 cut_from-IsResult i m (b ∷ bs) h =
     subst IsResult (sym (cut_from-cons i m b bs)) (turned-IsResult (λ n. cut_from (i + 1) n bs) (λ n g. cut_from-IsResult (i + 1) n bs g) (turn i m b) (turn-IsTurn i m b h))
 

@@ -11,7 +11,7 @@ use Rattle.mate_code.specs.declared.instr.Instr.{Instr}
 use Rattle.mate_code.specs.declared.instr.Instr.TheVariants as instr
 use Rattle.mate_code.specs.Code.{placed}
 use Rattle.mate_code.specs.CodeUses.{use_of, reads_in, writes_in}
-use Rattle.mate_code.specs.declared.uses.Use.TheVariants.{Nothing}
+use Rattle.mate_code.specs.declared.uses.Use.TheVariants.{Nothing, Gets, Changes, Calls, Sends}
 use Rattle.mate_code.specs.declared.uses.Use.{Use}
 use Rattle.mate_code.specs.Instr.{size_of}
 use Rattle.ts_checked.specs.Expression.{Expression, Arguments, no_arguments, argument, Num, Shared, Private, Item, Size, MsgItem, MsgSize, Call, SendBuf, Neg, Not, Two}
@@ -20,7 +20,7 @@ use Rattle.ts_checked.specs.declared.bin_op.BinOp.{BinOp}
 use Rattle.ts_checked.specs.declared.bin_op.BinOp.TheVariants as op
 use Rattle.ts_checked.specs.declared.checked_stmt.CVar.{CVar}
 use Rattle.ts_checked.specs.declared.checked_stmt.CVar.TheVariants as variable
-use Rattle.ts_meaning.specs.Uses.{is_this_buffer, is_this_variable, expr_reads, args_read, expr_writes, args_write, stmt_reads, block_reads, stmt_writes, block_writes}
+use Rattle.ts_meaning.specs.Uses.{variable_has, expr_has, args_have, stmt_has, block_has}
 use Rattle.ts_meaning.specs.Translation.{number_code, get_code, set_code, operator_code, expr_code, args_code, expr_size, stmt_size, block_size, within_code, while_body, while_end, else_begin, else_end, for_test, for_body, for_end, step_code, stmt_code, block_code, script_code, code_of}
 use Rattle.ts_meaning.specs.Laws.{UsesAsItsScript}
 
@@ -82,201 +82,120 @@ within_uses (negsuc step) = refl
 
 -- ---- truth values
 
--- the variable of a `for` is read before its limit and after its body
-for_order : (from x to body : Bool) → (from || (false || (x || (to || (false || (false || (body || (x || false)))))))) ≡ (x || from || to || body)
-for_order true true to body = refl
-for_order true false to body = refl
-for_order false true to body = refl
-for_order false false true body = refl
-for_order false false false true = refl
-for_order false false false false = refl
-
--- and it is written before the limit and after the body
-written_order : (from x to body : Bool) → (from || (x || (false || (to || (false || (false || (body || (x || false)))))))) ≡ (x || from || to || body)
-written_order true true to body = refl
-written_order true false to body = refl
-written_order false true to body = refl
-written_order false false true body = refl
-written_order false false false true = refl
-written_order false false false false = refl
+-- the variable of a `for` is set and read before the limit, and read and set after the body
+for_order : (from set get to body : Bool) → (from || (set || (get || (to || (false || (false || (body || (get || (false || (false || (set || false)))))))))))
+    ≡ (set || get || from || to || body)
+for_order true true get to body = refl
+for_order true false true to body = refl
+for_order true false false to body = refl
+for_order false true get to body = refl
+for_order false false true to body = refl
+for_order false false false true body = refl
+for_order false false false false true = refl
+for_order false false false false false = refl
 
 if_order : (test a b : Bool) → (test || (a || b)) ≡ (test || a || b)
 if_order test a b = sym (or_assoc test a b)
 
--- ---- what is read
+-- a buffer that is written after two values
+item_order : (a b c : Bool) → (a || (b || c)) ≡ (c || a || b)
+item_order a b c = sym (or_assoc a b c) ∙ or_comm (a || b) c ∙ sym (or_assoc c a b)
 
-module _ (r : Resource) where
-  -- an instruction reads r
-  abbrev reads : Instr → Bool
-  reads i = reads_in (use_of i) r
+-- ---- what passes a test of uses that no use at all passes
 
-  reads_nothing : (i : Instr) → use_of i ≡ Nothing → reads i ≡ false
-  reads_nothing i nothing = ap (λ (u : Use). reads_in u r) nothing
+module _ (test : Use → Bool) (none : test Nothing ≡ false) where
+  -- the use of an instruction passes
+  abbrev passes : Instr → Bool
+  passes i = test (use_of i)
 
-  reads_get : (x : CVar) → reads (get_code x) ≡ is_this_variable x r
-  reads_get (variable.Shared v) = refl
-  reads_get (variable.Private i) = refl
+  passes_nothing : (i : Instr) → use_of i ≡ Nothing → passes i ≡ false
+  passes_nothing i nothing = ap test nothing ∙ none
 
-  reads_set : (x : CVar) → reads (set_code x) ≡ false
-  reads_set (variable.Shared v) = refl
-  reads_set (variable.Private i) = refl
+  passes_get : (x : CVar) → passes (get_code x) ≡ variable_has test Gets x
+  passes_get (variable.Shared v) = refl
+  passes_get (variable.Private i) = none
 
-  mutual
-    expr-reads : (e : Expression) → Tells reads (expr_code e) (expr_reads e r)
-    expr-reads (Num n) = tells_one (number_code n) (reads_nothing (number_code n) (number_uses n))
-    expr-reads (Shared v) = tells_one (instr.GetS v) refl
-    expr-reads (Private i) = tells_one (instr.GetP i) refl
-    expr-reads (Item p e) = tells_same (or_comm (expr_reads e r) (is_this_buffer p r)) (tells_push (instr.BGet p) (expr-reads e) refl)
-    expr-reads (Size p) = tells_one (instr.BSize p) refl
-    expr-reads (MsgItem e) = tells_quiet instr.MsgGet (expr-reads e) refl
-    expr-reads MsgSize = tells_one instr.MsgSize refl
-    expr-reads (Call f args) = tells_quiet (instr.Fun f) (args-read args) refl
-    expr-reads (SendBuf f p) = tells_one (instr.FunBuf f p) refl
-    expr-reads (Neg e) = tells_quiet instr.Neg (expr-reads e) refl
-    expr-reads (Not e) = tells_quiet instr.Not (expr-reads e) refl
-    expr-reads (Two o a b) =
-        tells_append (expr-reads a) (tells_quiet (operator_code o) (expr-reads b) (reads_nothing (operator_code o) (operator_uses o)))
+  passes_set : (x : CVar) → passes (set_code x) ≡ variable_has test Changes x
+  passes_set (variable.Shared v) = refl
+  passes_set (variable.Private i) = none
 
-    args-read : (es : Arguments) → Tells reads (args_code es) (args_read es r)
-    args-read no_arguments = tells_none
-    args-read (argument e es) = tells_append (expr-reads e) (args-read es)
-
-  -- the step of a `for`, and the going back
-  step_reads : (x : CVar) (step : ℤ) (place : ℕ) → Tells reads (step_code x step ++ instr.Back place ∷ []) (is_this_variable x r || false)
-  step_reads x step place =
-      tells_cons (get_code x) (reads_get x)
-      (tells_cons (number_code step) (reads_nothing (number_code step) (number_uses step))
-      (tells_cons instr.Add refl (tells_cons (set_code x) (reads_set x) (tells_one (instr.Back place) refl))))
-
-  mutual
-    stmt-reads : (place : ℕ) (s : Statement) → Tells reads (stmt_code place s) (stmt_reads s r)
-    stmt-reads place (Set x e) = tells_quiet (set_code x) (expr-reads e) (reads_set x)
-    stmt-reads place (SetItem p i e) = tells_append (expr-reads i) (tells_quiet (instr.BSet p) (expr-reads e) refl)
-    stmt-reads place (Append p e) = tells_quiet (instr.BAdd p) (expr-reads e) refl
-    stmt-reads place (Take x p) = tells_cons (instr.BTake p) refl (tells_one (set_code x) (reads_set x))
-    stmt-reads place (Clear p) = tells_one (instr.BClear p) refl
-    stmt-reads place (Do f args) = tells_quiet instr.Drop (expr-reads (Call f args)) refl
-    stmt-reads place (DoSend f p) = tells_quiet instr.Drop (expr-reads (SendBuf f p)) refl
-    stmt-reads place (If e a) =
-        tells_append (expr-reads e) (tells_cons (instr.Jz (place + expr_size e + 3 + block_size a)) refl (block-reads (place + expr_size e + 3) a))
-    stmt-reads place (IfElse e a b) =
-        tells_same (if_order (expr_reads e r) (block_reads a r) (block_reads b r))
-        (tells_append (expr-reads e)
-        (tells_cons (instr.Jz (else_begin place e a)) refl
-        (tells_append (block-reads (place + expr_size e + 3) a)
-        (tells_cons (instr.Jmp (else_end place e a b)) refl (block-reads (else_begin place e a) b)))))
-    stmt-reads place (For x from to step a) =
-        tells_same (for_order (expr_reads from r) (is_this_variable x r) (expr_reads to r) (block_reads a r))
-        (tells_append (expr-reads from)
-        (tells_cons (set_code x) (reads_set x) (tells_cons (get_code x) (reads_get x)
-        (tells_append (expr-reads to)
-        (tells_cons (within_code step) (reads_nothing (within_code step) (within_uses step))
-        (tells_cons (instr.Jz (for_end place from to step a)) refl
-        (tells_append (block-reads (for_body place from to) a) (step_reads x step (for_test place from)))))))))
-    stmt-reads place (While e a) =
-        tells_append (expr-reads e)
-        (tells_cons (instr.Jz (while_end place e a)) refl (tells_quiet (instr.Back place) (block-reads (while_body place e) a) refl))
-
-    block-reads : (place : ℕ) (b : Block) → Tells reads (block_code place b) (block_reads b r)
-    block-reads place no_statements = tells_none
-    block-reads place (statement s b) = tells_append (stmt-reads place s) (block-reads (place + stmt_size s) b)
-
-  pub script-reads : (tree : Block) → list_any (λ (p : ℕ × Instr). reads_in (use_of p.1) r) (code_of tree) ≡ block_reads tree r
-  script-reads tree = any-placed reads 0 (script_code tree) ∙ (tells_quiet instr.Halt (block-reads 0 tree) refl).value
-
--- ---- what is written
-
-module _ (shape : Shape) (r : Resource) where
-  -- an instruction writes r
-  abbrev writes : Instr → Bool
-  writes i = writes_in shape (use_of i) r
-
-  writes_nothing : (i : Instr) → use_of i ≡ Nothing → writes i ≡ false
-  writes_nothing i nothing = ap (λ (u : Use). writes_in shape u r) nothing
-
-  writes_get : (x : CVar) → writes (get_code x) ≡ false
-  writes_get (variable.Shared v) = refl
-  writes_get (variable.Private i) = refl
-
-  writes_set : (x : CVar) → writes (set_code x) ≡ is_this_variable x r
-  writes_set (variable.Shared v) = refl
-  writes_set (variable.Private i) = refl
-
-  -- what is written last stands first among the writes
-  tells_first : {is : List Instr} {a b : Bool} (i : Instr) → Tells writes is a → writes i ≡ b → Tells writes (is ++ i ∷ []) (b || a)
+  -- what is used last stands first in the script
+  tells_first : {is : List Instr} {a b : Bool} (i : Instr) → Tells passes is a → passes i ≡ b → Tells passes (is ++ i ∷ []) (b || a)
   tells_first {is} {a} {b} i first last = tells_same (or_comm a b) (tells_push i first last)
 
   mutual
-    expr-writes : (e : Expression) → Tells writes (expr_code e) (expr_writes shape e r)
-    expr-writes (Num n) = tells_one (number_code n) (writes_nothing (number_code n) (number_uses n))
-    expr-writes (Shared v) = tells_one (instr.GetS v) refl
-    expr-writes (Private i) = tells_one (instr.GetP i) refl
-    expr-writes (Item p e) = tells_quiet (instr.BGet p) (expr-writes e) refl
-    expr-writes (Size p) = tells_one (instr.BSize p) refl
-    expr-writes (MsgItem e) = tells_quiet instr.MsgGet (expr-writes e) refl
-    expr-writes MsgSize = tells_one instr.MsgSize refl
-    expr-writes (Call f args) = tells_first (instr.Fun f) (args-write args) refl
-    expr-writes (SendBuf f p) = tells_one (instr.FunBuf f p) refl
-    expr-writes (Neg e) = tells_quiet instr.Neg (expr-writes e) refl
-    expr-writes (Not e) = tells_quiet instr.Not (expr-writes e) refl
-    expr-writes (Two o a b) =
-        tells_append (expr-writes a) (tells_quiet (operator_code o) (expr-writes b) (writes_nothing (operator_code o) (operator_uses o)))
+    expr-has : (e : Expression) → Tells passes (expr_code e) (expr_has test e)
+    expr-has (Num n) = tells_one (number_code n) (passes_nothing (number_code n) (number_uses n))
+    expr-has (Shared v) = tells_one (instr.GetS v) refl
+    expr-has (Private i) = tells_one (instr.GetP i) none
+    expr-has (Item p e) = tells_first (instr.BGet p) (expr-has e) refl
+    expr-has (Size p) = tells_one (instr.BSize p) refl
+    expr-has (MsgItem e) = tells_quiet instr.MsgGet (expr-has e) none
+    expr-has MsgSize = tells_one instr.MsgSize none
+    expr-has (Call f args) = tells_first (instr.Fun f) (args-have args) refl
+    expr-has (SendBuf f p) = tells_one (instr.FunBuf f p) refl
+    expr-has (Neg e) = tells_quiet instr.Neg (expr-has e) none
+    expr-has (Not e) = tells_quiet instr.Not (expr-has e) none
+    expr-has (Two o a b) =
+        tells_append (expr-has a) (tells_quiet (operator_code o) (expr-has b) (passes_nothing (operator_code o) (operator_uses o)))
 
-    args-write : (es : Arguments) → Tells writes (args_code es) (args_write shape es r)
-    args-write no_arguments = tells_none
-    args-write (argument e es) = tells_append (expr-writes e) (args-write es)
+    args-have : (es : Arguments) → Tells passes (args_code es) (args_have test es)
+    args-have no_arguments = tells_none
+    args-have (argument e es) = tells_append (expr-has e) (args-have es)
 
-  step_writes : (x : CVar) (step : ℤ) (place : ℕ) → Tells writes (step_code x step ++ instr.Back place ∷ []) (is_this_variable x r || false)
-  step_writes x step place =
-      tells_cons (get_code x) (writes_get x)
-      (tells_cons (number_code step) (writes_nothing (number_code step) (number_uses step))
-      (tells_cons instr.Add refl (tells_cons (set_code x) (writes_set x) (tells_one (instr.Back place) refl))))
-
-  -- a buffer that is written after two values
-  item_order : (a b c : Bool) → (a || (b || c)) ≡ (c || a || b)
-  item_order a b c = sym (or_assoc a b c) ∙ or_comm (a || b) c ∙ sym (or_assoc c a b)
+  -- the step of a `for`, and the going back
+  step_has : (x : CVar) (step : ℤ) (place : ℕ)
+      → Tells passes (step_code x step ++ instr.Back place ∷ []) (variable_has test Gets x || (false || (false || (variable_has test Changes x || false))))
+  step_has x step place =
+      tells_cons (get_code x) (passes_get x)
+      (tells_cons (number_code step) (passes_nothing (number_code step) (number_uses step))
+      (tells_cons instr.Add none (tells_cons (set_code x) (passes_set x) (tells_one (instr.Back place) none))))
 
   mutual
-    stmt-writes : (place : ℕ) (s : Statement) → Tells writes (stmt_code place s) (stmt_writes shape s r)
-    stmt-writes place (Set x e) = tells_first (set_code x) (expr-writes e) (writes_set x)
-    stmt-writes place (SetItem p i e) =
-        tells_same (item_order (expr_writes shape i r) (expr_writes shape e r) (is_this_buffer p r))
-        (tells_append (expr-writes i) (tells_push (instr.BSet p) (expr-writes e) refl))
-    stmt-writes place (Append p e) = tells_first (instr.BAdd p) (expr-writes e) refl
-    stmt-writes place (Take x p) =
-        tells_same (or_comm (is_this_buffer p r) (is_this_variable x r)) (tells_cons (instr.BTake p) refl (tells_one (set_code x) (writes_set x)))
-    stmt-writes place (Clear p) = tells_one (instr.BClear p) refl
-    stmt-writes place (Do f args) = tells_quiet instr.Drop (expr-writes (Call f args)) refl
-    stmt-writes place (DoSend f p) = tells_quiet instr.Drop (expr-writes (SendBuf f p)) refl
-    stmt-writes place (If e a) =
-        tells_append (expr-writes e) (tells_cons (instr.Jz (place + expr_size e + 3 + block_size a)) refl (block-writes (place + expr_size e + 3) a))
-    stmt-writes place (IfElse e a b) =
-        tells_same (if_order (expr_writes shape e r) (block_writes shape a r) (block_writes shape b r))
-        (tells_append (expr-writes e)
-        (tells_cons (instr.Jz (else_begin place e a)) refl
-        (tells_append (block-writes (place + expr_size e + 3) a)
-        (tells_cons (instr.Jmp (else_end place e a b)) refl (block-writes (else_begin place e a) b)))))
-    stmt-writes place (For x from to step a) =
-        tells_same (written_order (expr_writes shape from r) (is_this_variable x r) (expr_writes shape to r) (block_writes shape a r))
-        (tells_append (expr-writes from)
-        (tells_cons (set_code x) (writes_set x) (tells_cons (get_code x) (writes_get x)
-        (tells_append (expr-writes to)
-        (tells_cons (within_code step) (writes_nothing (within_code step) (within_uses step))
-        (tells_cons (instr.Jz (for_end place from to step a)) refl
-        (tells_append (block-writes (for_body place from to) a) (step_writes x step (for_test place from)))))))))
-    stmt-writes place (While e a) =
-        tells_append (expr-writes e)
-        (tells_cons (instr.Jz (while_end place e a)) refl (tells_quiet (instr.Back place) (block-writes (while_body place e) a) refl))
+    stmt-has : (place : ℕ) (s : Statement) → Tells passes (stmt_code place s) (stmt_has test s)
+    stmt-has place (Set x e) = tells_first (set_code x) (expr-has e) (passes_set x)
+    stmt-has place (SetItem p i e) =
+        tells_same (item_order (expr_has test i) (expr_has test e) (test (Changes (resource.Buffer p))))
+        (tells_append (expr-has i) (tells_push (instr.BSet p) (expr-has e) refl))
+    stmt-has place (Append p e) = tells_first (instr.BAdd p) (expr-has e) refl
+    stmt-has place (Take x p) =
+        tells_same (or_comm (test (Changes (resource.Buffer p))) (variable_has test Changes x))
+        (tells_cons (instr.BTake p) refl (tells_one (set_code x) (passes_set x)))
+    stmt-has place (Clear p) = tells_one (instr.BClear p) refl
+    stmt-has place (Do f args) = tells_quiet instr.Drop (expr-has (Call f args)) none
+    stmt-has place (DoSend f p) = tells_quiet instr.Drop (expr-has (SendBuf f p)) none
+    stmt-has place (If e a) =
+        tells_append (expr-has e) (tells_cons (instr.Jz (place + expr_size e + 3 + block_size a)) none (block-has (place + expr_size e + 3) a))
+    stmt-has place (IfElse e a b) =
+        tells_same (if_order (expr_has test e) (block_has test a) (block_has test b))
+        (tells_append (expr-has e)
+        (tells_cons (instr.Jz (else_begin place e a)) none
+        (tells_append (block-has (place + expr_size e + 3) a)
+        (tells_cons (instr.Jmp (else_end place e a b)) none (block-has (else_begin place e a) b)))))
+    stmt-has place (For x from to step a) =
+        tells_same (for_order (expr_has test from) (variable_has test Changes x) (variable_has test Gets x) (expr_has test to) (block_has test a))
+        (tells_append (expr-has from)
+        (tells_cons (set_code x) (passes_set x) (tells_cons (get_code x) (passes_get x)
+        (tells_append (expr-has to)
+        (tells_cons (within_code step) (passes_nothing (within_code step) (within_uses step))
+        (tells_cons (instr.Jz (for_end place from to step a)) none
+        (tells_append (block-has (for_body place from to) a) (step_has x step (for_test place from)))))))))
+    stmt-has place (While e a) =
+        tells_append (expr-has e)
+        (tells_cons (instr.Jz (while_end place e a)) none (tells_quiet (instr.Back place) (block-has (while_body place e) a) none))
 
-    block-writes : (place : ℕ) (b : Block) → Tells writes (block_code place b) (block_writes shape b r)
-    block-writes place no_statements = tells_none
-    block-writes place (statement s b) = tells_append (stmt-writes place s) (block-writes (place + stmt_size s) b)
+    block-has : (place : ℕ) (b : Block) → Tells passes (block_code place b) (block_has test b)
+    block-has place no_statements = tells_none
+    block-has place (statement s b) = tells_append (stmt-has place s) (block-has (place + stmt_size s) b)
 
-  pub script-writes : (tree : Block) → list_any (λ (p : ℕ × Instr). writes_in shape (use_of p.1) r) (code_of tree) ≡ block_writes shape tree r
-  script-writes tree = any-placed writes 0 (script_code tree) ∙ (tells_quiet instr.Halt (block-writes 0 tree) refl).value
+  pub script-has : (tree : Block) → list_any (λ (p : ℕ × Instr). test (use_of p.1)) (code_of tree) ≡ block_has test tree
+  script-has tree = any-placed passes 0 (script_code tree) ∙ (tells_quiet instr.Halt (block-has 0 tree) none).value
 
--- ---- both
+-- ---- reads and writes
 
 pub UsesAsItsScript-script_code : (shape : Shape) (tree : Block) → UsesAsItsScript shape tree
 UsesAsItsScript-script_code shape tree =
-    λ i. record { reads = λ r. script-reads r tree i; writes = λ r. script-writes shape r tree i }
+    λ i. record {
+      reads = λ r. script-has (λ u. reads_in u r) refl tree i;
+      writes = λ r. script-has (λ u. writes_in shape u r) refl tree i;
+    }

@@ -1,14 +1,16 @@
 -- What a script reads and writes, whatever way it takes through its tree.
 use Rattle.std.specs.Prelude.{◌≡◌, Bool, false, ◌||◌}
 use Rattle.mate_num.specs.Store.{value_at, buffer_at}
-use Rattle.mate_num.specs.Uses.{Uses, is_same_resource, is_device_of, function_shape}
+use Rattle.mate_num.specs.Uses.{Uses}
 use Rattle.mate_num.specs.declared.id.VarId.{VarId}
 use Rattle.mate_num.specs.declared.id.BufId.{BufId}
-use Rattle.mate_num.specs.declared.id.FunId.{FunId}
 use Rattle.mate_num.specs.declared.resource.Resource.{Resource}
 use Rattle.mate_num.specs.declared.resource.Resource.TheVariants as resource
 use Rattle.mate_num.specs.declared.shape.Shape.{Shape}
 use Rattle.mate_num.specs.declared.store.Store.{Store}
+use Rattle.mate_code.specs.CodeUses.{reads_in, writes_in}
+use Rattle.mate_code.specs.declared.uses.Use.{Use}
+use Rattle.mate_code.specs.declared.uses.Use.TheVariants.{Gets, Changes, Calls, Sends}
 use Rattle.ts_checked.specs.Expression.{Expression, Arguments, no_arguments, argument, Shared, Private, Item, Size, MsgItem}
 use Rattle.ts_checked.specs.Expression.{Call, SendBuf, Neg, Not, Two}
 use Rattle.ts_checked.specs.Statement.{Statement, Block, no_statements, statement, Set, SetItem, Append, Take, Clear, Do, DoSend, If, IfElse}
@@ -16,95 +18,54 @@ use Rattle.ts_checked.specs.Statement.{For, While}
 use Rattle.ts_checked.specs.declared.checked_stmt.CVar.{CVar}
 use Rattle.ts_checked.specs.declared.checked_stmt.CVar.TheVariants as variable
 
--- r is the buffer
-abbrev pub is_this_buffer : BufId → Resource → Bool
-is_this_buffer p r = is_same_resource (resource.Buffer p) r
+-- whether a variable is used in a way that passes the test; a private one is no resource
+abbrev pub variable_has : (Use → Bool) → (Resource → Use) → CVar → Bool
+variable_has test way (variable.Shared v) = test (way (resource.Shared v))
+variable_has test way (variable.Private i) = false
 
--- r is the variable; a private one is no resource
-abbrev pub is_this_variable : CVar → Resource → Bool
-is_this_variable (variable.Shared v) r = is_same_resource (resource.Shared v) r
-is_this_variable (variable.Private i) r = false
-
--- r is the device of the function
-abbrev pub calls_device : Shape → FunId → Resource → Bool
-calls_device shape f r = is_device_of (function_shape shape f) r
-
--- an expression reads r: its variables, the buffers whose values or sizes it takes, and those that it sends
+-- whether a use of an expression passes the test: it gets its variables and the buffers whose values or sizes it takes,
+-- calls functions, and sends buffers
 abbrev mutual
-  pub expr_reads : Expression → Resource → Bool
-  expr_reads (Shared v) r = is_same_resource (resource.Shared v) r
-  expr_reads (Item p e) r = is_this_buffer p r || expr_reads e r
-  expr_reads (Size p) r = is_this_buffer p r
-  expr_reads (MsgItem e) r = expr_reads e r
-  expr_reads (Call f args) r = args_read args r
-  expr_reads (SendBuf f p) r = is_this_buffer p r
-  expr_reads (Neg e) r = expr_reads e r
-  expr_reads (Not e) r = expr_reads e r
-  expr_reads (Two op l e) r = expr_reads l r || expr_reads e r
-  expr_reads _ r = false
+  pub expr_has : (Use → Bool) → Expression → Bool
+  expr_has test (Shared v) = test (Gets (resource.Shared v))
+  expr_has test (Item p e) = test (Gets (resource.Buffer p)) || expr_has test e
+  expr_has test (Size p) = test (Gets (resource.Buffer p))
+  expr_has test (MsgItem e) = expr_has test e
+  expr_has test (Call f args) = test (Calls f) || args_have test args
+  expr_has test (SendBuf f p) = test (Sends f p)
+  expr_has test (Neg e) = expr_has test e
+  expr_has test (Not e) = expr_has test e
+  expr_has test (Two op l r) = expr_has test l || expr_has test r
+  expr_has test _ = false
 
-  pub args_read : Arguments → Resource → Bool
-  args_read no_arguments r = false
-  args_read (argument e es) r = expr_reads e r || args_read es r
+  pub args_have : (Use → Bool) → Arguments → Bool
+  args_have test no_arguments = false
+  args_have test (argument e es) = expr_has test e || args_have test es
 
--- an expression writes r: the devices of the functions that it calls
+-- whether a use of a statement passes the test: it changes the variable before `=` and the buffer that it sets or
+-- empties; the variable of a `for` is changed and read
 abbrev mutual
-  pub expr_writes : Shape → Expression → Resource → Bool
-  expr_writes shape (Item p e) r = expr_writes shape e r
-  expr_writes shape (MsgItem e) r = expr_writes shape e r
-  expr_writes shape (Call f args) r = calls_device shape f r || args_write shape args r
-  expr_writes shape (SendBuf f p) r = calls_device shape f r
-  expr_writes shape (Neg e) r = expr_writes shape e r
-  expr_writes shape (Not e) r = expr_writes shape e r
-  expr_writes shape (Two op l e) r = expr_writes shape l r || expr_writes shape e r
-  expr_writes shape _ r = false
+  pub stmt_has : (Use → Bool) → Statement → Bool
+  stmt_has test (Set x e) = variable_has test Changes x || expr_has test e
+  stmt_has test (SetItem p i e) = test (Changes (resource.Buffer p)) || expr_has test i || expr_has test e
+  stmt_has test (Append p e) = test (Changes (resource.Buffer p)) || expr_has test e
+  stmt_has test (Take x p) = variable_has test Changes x || test (Changes (resource.Buffer p))
+  stmt_has test (Clear p) = test (Changes (resource.Buffer p))
+  stmt_has test (Do f args) = test (Calls f) || args_have test args
+  stmt_has test (DoSend f p) = test (Sends f p)
+  stmt_has test (If e a) = expr_has test e || block_has test a
+  stmt_has test (IfElse e a b) = expr_has test e || block_has test a || block_has test b
+  stmt_has test (For x from to step a) =
+      variable_has test Changes x || variable_has test Gets x || expr_has test from || expr_has test to || block_has test a
+  stmt_has test (While e a) = expr_has test e || block_has test a
 
-  pub args_write : Shape → Arguments → Resource → Bool
-  args_write shape no_arguments r = false
-  args_write shape (argument e es) r = expr_writes shape e r || args_write shape es r
-
--- a statement reads r: what its expressions read, and the variable of a `for`
-abbrev mutual
-  pub stmt_reads : Statement → Resource → Bool
-  stmt_reads (Set x e) r = expr_reads e r
-  stmt_reads (SetItem p i e) r = expr_reads i r || expr_reads e r
-  stmt_reads (Append p e) r = expr_reads e r
-  stmt_reads (Do f args) r = args_read args r
-  stmt_reads (DoSend f p) r = is_this_buffer p r
-  stmt_reads (If e a) r = expr_reads e r || block_reads a r
-  stmt_reads (IfElse e a b) r = expr_reads e r || block_reads a r || block_reads b r
-  stmt_reads (For x from to step a) r = is_this_variable x r || expr_reads from r || expr_reads to r || block_reads a r
-  stmt_reads (While e a) r = expr_reads e r || block_reads a r
-  stmt_reads _ r = false
-
-  pub block_reads : Block → Resource → Bool
-  block_reads no_statements r = false
-  block_reads (statement x b) r = stmt_reads x r || block_reads b r
-
--- a statement writes r: the variable before `=` or of a `for`, the buffer that it changes, and the devices of the
--- functions that it calls
-abbrev mutual
-  pub stmt_writes : Shape → Statement → Resource → Bool
-  stmt_writes shape (Set x e) r = is_this_variable x r || expr_writes shape e r
-  stmt_writes shape (SetItem p i e) r = is_this_buffer p r || expr_writes shape i r || expr_writes shape e r
-  stmt_writes shape (Append p e) r = is_this_buffer p r || expr_writes shape e r
-  stmt_writes shape (Take x p) r = is_this_variable x r || is_this_buffer p r
-  stmt_writes shape (Clear p) r = is_this_buffer p r
-  stmt_writes shape (Do f args) r = calls_device shape f r || args_write shape args r
-  stmt_writes shape (DoSend f p) r = calls_device shape f r
-  stmt_writes shape (If e a) r = expr_writes shape e r || block_writes shape a r
-  stmt_writes shape (IfElse e a b) r = expr_writes shape e r || block_writes shape a r || block_writes shape b r
-  stmt_writes shape (For x from to step a) r =
-      is_this_variable x r || expr_writes shape from r || expr_writes shape to r || block_writes shape a r
-  stmt_writes shape (While e a) r = expr_writes shape e r || block_writes shape a r
-
-  pub block_writes : Shape → Block → Resource → Bool
-  block_writes shape no_statements r = false
-  block_writes shape (statement x b) r = stmt_writes shape x r || block_writes shape b r
+  pub block_has : (Use → Bool) → Block → Bool
+  block_has test no_statements = false
+  block_has test (statement x b) = stmt_has test x || block_has test b
 
 -- what a script reads and writes on a machine of this shape
 abbrev pub script_uses : Shape → Block → Uses
-script_uses shape b = record { reads = block_reads b; writes = block_writes shape b }
+script_uses shape b = record { reads = λ r. block_has (λ u. reads_in u r) b; writes = λ r. block_has (λ u. writes_in shape u r) b }
 
 -- every shared variable and every buffer outside w is the same in both stores
 pub record IsSameOutside (w : Resource → Bool) (old new : Store) : Type 0 where

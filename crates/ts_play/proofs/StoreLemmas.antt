@@ -12,6 +12,7 @@ use Rattle.mate_num.specs.declared.call.FaultKind.TheVariants.{Overrun}
 use Rattle.mate_num.specs.declared.id.BufId.{BufId}
 use Rattle.mate_num.specs.declared.id.FunId.{FunId}
 use Rattle.mate_num.specs.declared.resource.Resource.{Resource}
+use Rattle.mate_num.specs.declared.resource.Resource.TheVariants as resource
 use Rattle.mate_num.specs.declared.shape.Shape.{Shape}
 use Rattle.mate_num.specs.declared.store.Store.{Store}
 use Rattle.ts_checked.specs.Expression.{Expression, Arguments, no_arguments, argument, Num, Shared, Private, Item, Size, MsgItem, MsgSize, Call, SendBuf, Neg, Not, Two}
@@ -20,7 +21,10 @@ use Rattle.ts_checked.specs.declared.checked_stmt.CVar.{CVar}
 use Rattle.ts_checked.specs.declared.checked_stmt.CVar.TheVariants as variable
 use Rattle.ts_meaning.specs.State.{ScriptState, Evaluation, Done, Over, then_do, value_or_fault, variable_at, with_variable, with_buffer, buffer_changed, moved, first_ten, next_answer, call_answered, dropped, with_turns, after_round, rounds, loop_does, choose, round_if, begun_state}
 use Rattle.ts_meaning.specs.Meaning.{value_of, values_of, applied, while_round, for_round, stepped, body_and_step, is_within, run_stmt, run_block, run_of, played}
-use Rattle.ts_meaning.specs.Uses.{IsSameOutside, is_this_buffer, is_this_variable, expr_writes, stmt_writes, block_writes}
+use Rattle.mate_code.specs.CodeUses.{writes_in}
+use Rattle.mate_code.specs.declared.uses.Use.{Use}
+use Rattle.mate_code.specs.declared.uses.Use.TheVariants.{Changes, Gets}
+use Rattle.ts_meaning.specs.Uses.{IsSameOutside, variable_has, expr_has, stmt_has, block_has, script_uses}
 use Rattle.mate_num.specs.declared.outcome.Outcome.{Outcome}
 
 -- the store that a part of a run leaves
@@ -46,13 +50,33 @@ unchanged w a = record { shared = λ v h. refl; buffers = λ p h. refl }
 in_turn : (w : Resource → Bool) (a b c : Store) → IsSameOutside w a b → IsSameOutside w b c → IsSameOutside w a c
 in_turn w a b c x y = record { shared = λ v h. y.shared v h ∙ x.shared v h; buffers = λ p h. y.buffers p h ∙ x.buffers p h }
 
-module _ (w : Resource → Bool) where
+-- what is written, part by part
+module _ (shape : Shape) where
+  abbrev writes_to : Resource → Use → Bool
+  writes_to r u = writes_in shape u r
+
+  abbrev variable_writes : CVar → Resource → Bool
+  variable_writes x r = variable_has (writes_to r) Changes x
+
+  abbrev buffer_writes : BufId → Resource → Bool
+  buffer_writes p r = writes_to r (Changes (resource.Buffer p))
+
+  abbrev expr_writes : Expression → Resource → Bool
+  expr_writes e r = expr_has (writes_to r) e
+
+  abbrev stmt_writes : Statement → Resource → Bool
+  stmt_writes x r = stmt_has (writes_to r) x
+
+  abbrev block_writes : Block → Resource → Bool
+  block_writes b r = block_has (writes_to r) b
+
+module _ (shape : Shape) (w : Resource → Bool) where
   then_do-keeps : {A B : Type 0} (o : Evaluation A) (next : A → ScriptState → Evaluation B) (st : Store) → IsSameOutside w st (store_after o)
       → ((a : A) (s : ScriptState) → IsSameOutside w s.store (store_after (next a s))) → IsSameOutside w st (store_after (then_do o next))
   then_do-keeps (Done a s) next st first keeps = in_turn w st s.store (store_after (next a s)) first (keeps a s)
   then_do-keeps (Over end s) next st first keeps = first
 
-  with_variable-keeps : (x : CVar) (v : ℤ) (s : ScriptState) → Covers w (is_this_variable x) → IsSameOutside w s.store (with_variable x v s).store
+  with_variable-keeps : (x : CVar) (v : ℤ) (s : ScriptState) → Covers w (variable_writes shape x) → IsSameOutside w s.store (with_variable x v s).store
   with_variable-keeps (variable.Shared x) v s c =
       record {
         shared = λ u h. get_or-set_other s.store.shared.items x.0 u.0 v (pos 0) (λ e. eqb-false x.0 u.0 (c.outside _ h) (sym e));
@@ -60,7 +84,7 @@ module _ (w : Resource → Bool) where
       }
   with_variable-keeps (variable.Private i) v s c = unchanged w s.store
 
-  with_buffer-keeps : (p : BufId) (values : List ℤ) (s : ScriptState) → Covers w (is_this_buffer p) → IsSameOutside w s.store (with_buffer p values s).store
+  with_buffer-keeps : (p : BufId) (values : List ℤ) (s : ScriptState) → Covers w (buffer_writes shape p) → IsSameOutside w s.store (with_buffer p values s).store
   with_buffer-keeps p values s c =
       record {
         shared = λ u h. refl;
@@ -72,11 +96,11 @@ module _ (w : Resource → Bool) where
   given-keeps (Ok a) s = unchanged w s.store
   given-keeps (Err kind) s = unchanged w s.store
 
-  changed-keeps : (p : BufId) (r : Result (List ℤ) FaultKind) (s : ScriptState) → Covers w (is_this_buffer p) → IsSameOutside w s.store (store_after (buffer_changed p r s))
+  changed-keeps : (p : BufId) (r : Result (List ℤ) FaultKind) (s : ScriptState) → Covers w (buffer_writes shape p) → IsSameOutside w s.store (store_after (buffer_changed p r s))
   changed-keeps p (Ok values) s c = with_buffer-keeps p values s c
   changed-keeps p (Err kind) s c = unchanged w s.store
 
-  moved-keeps : (x : CVar) (p : BufId) (r : Result ℤ FaultKind) (s : ScriptState) → Covers w (is_this_variable x) → Covers w (is_this_buffer p)
+  moved-keeps : (x : CVar) (p : BufId) (r : Result ℤ FaultKind) (s : ScriptState) → Covers w (variable_writes shape x) → Covers w (buffer_writes shape p)
       → IsSameOutside w s.store (store_after (moved x p r s))
   moved-keeps x p (Ok a) s cx cp =
       let t : ScriptState = with_buffer p (without_last (buffer_at s.store p.0)) s in
@@ -144,71 +168,74 @@ module _ (w : Resource → Bool) where
   while_round-keeps e body keeps s =
       then_do-keeps (value_of e s) (λ a s. round_if (is_truth a) body s) s.store (value_of-keeps e s) (λ a t. round_if-keeps (is_truth a) body keeps t)
 
-  body_and_step-keeps : (x : CVar) (step : ℤ) (body : ScriptState → Evaluation ⊤) → Covers w (is_this_variable x)
+  body_and_step-keeps : (x : CVar) (step : ℤ) (body : ScriptState → Evaluation ⊤) → Covers w (variable_writes shape x)
       → ((t : ScriptState) → IsSameOutside w t.store (store_after (body t))) → (s : ScriptState) → IsSameOutside w s.store (store_after (body_and_step x step body s))
   body_and_step-keeps x step body c keeps s =
       then_do-keeps (body s) (λ _ s. Done (tt {0}) (stepped x step s)) s.store (keeps s) (λ _ t. with_variable-keeps x _ t c)
 
-  for_round-keeps : (x : CVar) (to : Expression) (step : ℤ) (body : ScriptState → Evaluation ⊤) → Covers w (is_this_variable x)
+  for_round-keeps : (x : CVar) (to : Expression) (step : ℤ) (body : ScriptState → Evaluation ⊤) → Covers w (variable_writes shape x)
       → ((t : ScriptState) → IsSameOutside w t.store (store_after (body t))) → (s : ScriptState) → IsSameOutside w s.store (store_after (for_round x (value_of to) step body s))
   for_round-keeps x to step body c keeps s =
       then_do-keeps (value_of to s) (λ bound t. round_if (is_within step (variable_at x s) bound) (body_and_step x step body) t) s.store (value_of-keeps to s)
       (λ bound t. round_if-keeps (is_within step (variable_at x s) bound) (body_and_step x step body) (body_and_step-keeps x step body c keeps) t)
 
-  module _ (shape : Shape) where
-    mutual
-      run_stmt-keeps : (x : Statement) → Covers w (stmt_writes shape x) → (s : ScriptState) → IsSameOutside w s.store (store_after (run_stmt x s))
-      run_stmt-keeps (Set x e) c s =
-          then_do-keeps (value_of e s) (λ a s. Done tt (with_variable x a s)) s.store (value_of-keeps e s)
-          (λ a t. with_variable-keeps x a t (record { outside = λ r h. or_left (is_this_variable x r) (expr_writes shape e r) (c.outside r h) }))
-      run_stmt-keeps (SetItem p index e) c s =
-          then_do-keeps (value_of index s) (λ i s. then_do (value_of e s) (λ a s. buffer_changed p (item_set (buffer_at s.store p.0) i a) s)) s.store (value_of-keeps index s)
-          (λ i t. then_do-keeps (value_of e t) (λ a s. buffer_changed p (item_set (buffer_at s.store p.0) i a) s) t.store (value_of-keeps e t)
-          (λ a u. changed-keeps p (item_set (buffer_at u.store p.0) i a) u (record { outside = λ r h. or_left (is_this_buffer p r) (expr_writes shape index r) (or_left (is_this_buffer p r || expr_writes shape index r) (expr_writes shape e r) (c.outside r h)) })))
-      run_stmt-keeps (Append p e) c s =
-          then_do-keeps (value_of e s) (λ a s. buffer_changed p (appended (buffer_at s.store p.0) a) s) s.store (value_of-keeps e s)
-          (λ a t. changed-keeps p (appended (buffer_at t.store p.0) a) t (record { outside = λ r h. or_left (is_this_buffer p r) (expr_writes shape e r) (c.outside r h) }))
-      run_stmt-keeps (Take x p) c s =
-          moved-keeps x p (last_of (buffer_at s.store p.0)) s (record { outside = λ r h. or_left (is_this_variable x r) (is_this_buffer p r) (c.outside r h) })
-          (record { outside = λ r h. or_right (is_this_variable x r) (is_this_buffer p r) (c.outside r h) })
-      run_stmt-keeps (Clear p) c s = with_buffer-keeps p [] s (record { outside = λ r h. c.outside r h })
-      run_stmt-keeps (Do f args) c s =
-          then_do-keeps (value_of (Call f args) s) dropped s.store (value_of-keeps (Call f args) s) (λ a t. unchanged w t.store)
-      run_stmt-keeps (DoSend f p) c s =
-          then_do-keeps (value_of (SendBuf f p) s) dropped s.store (value_of-keeps (SendBuf f p) s) (λ a t. unchanged w t.store)
-      run_stmt-keeps (If e a) c s =
-          then_do-keeps (value_of e s) (λ v s. choose (is_truth v) (run_block a) (Done tt) s) s.store (value_of-keeps e s)
-          (λ v t. choose-keeps (is_truth v) (run_block a) (Done tt)
-          (run_block-keeps a (record { outside = λ r h. or_right (expr_writes shape e r) (block_writes shape a r) (c.outside r h) })) (λ u. unchanged w u.store) t)
-      run_stmt-keeps (IfElse e a b) c s =
-          then_do-keeps (value_of e s) (λ v s. choose (is_truth v) (run_block a) (run_block b) s) s.store (value_of-keeps e s)
-          (λ v t. choose-keeps (is_truth v) (run_block a) (run_block b)
-          (run_block-keeps a (record {
-            outside = λ r h. or_right (expr_writes shape e r) (block_writes shape a r)
-                (or_left (expr_writes shape e r || block_writes shape a r) (block_writes shape b r) (c.outside r h));
-          }))
-          (run_block-keeps b (record { outside = λ r h. or_right (expr_writes shape e r || block_writes shape a r) (block_writes shape b r) (c.outside r h) })) t)
-      run_stmt-keeps (For x from to step a) c s =
-          let of_head : (r : Resource) → w r ≡ false → (is_this_variable x r || expr_writes shape from r || expr_writes shape to r) ≡ false =
-          λ r h. or_left (is_this_variable x r || expr_writes shape from r || expr_writes shape to r) (block_writes shape a r) (c.outside r h) in
-          let of_variable : Covers w (is_this_variable x) =
-          record { outside = λ r h. or_left (is_this_variable x r) (expr_writes shape from r) (or_left (is_this_variable x r || expr_writes shape from r) (expr_writes shape to r) (of_head r h)) } in
-          let of_body : Covers w (block_writes shape a) =
-          record { outside = λ r h. or_right (is_this_variable x r || expr_writes shape from r || expr_writes shape to r) (block_writes shape a r) (c.outside r h) } in
-          then_do-keeps (value_of from s) (λ v s. loop_does (for_round x (value_of to) step (run_block a)) (with_variable x v s)) s.store (value_of-keeps from s)
-          (λ v t. in_turn w t.store (with_variable x v t).store _ (with_variable-keeps x v t of_variable)
-          (rounds-keeps (with_variable x v t).turns (for_round x (value_of to) step (run_block a))
-          (for_round-keeps x to step (run_block a) of_variable (run_block-keeps a of_body)) (with_variable x v t)))
-      run_stmt-keeps (While e a) c s =
-          rounds-keeps s.turns (while_round (value_of e) (run_block a))
-          (while_round-keeps e (run_block a) (run_block-keeps a (record { outside = λ r h. or_right (expr_writes shape e r) (block_writes shape a r) (c.outside r h) }))) s
+  mutual
+    run_stmt-keeps : (x : Statement) → Covers w (stmt_writes shape x) → (s : ScriptState) → IsSameOutside w s.store (store_after (run_stmt x s))
+    run_stmt-keeps (Set x e) c s =
+        then_do-keeps (value_of e s) (λ a s. Done tt (with_variable x a s)) s.store (value_of-keeps e s)
+        (λ a t. with_variable-keeps x a t (record { outside = λ r h. or_left (variable_writes shape x r) (expr_writes shape e r) (c.outside r h) }))
+    run_stmt-keeps (SetItem p index e) c s =
+        then_do-keeps (value_of index s) (λ i s. then_do (value_of e s) (λ a s. buffer_changed p (item_set (buffer_at s.store p.0) i a) s)) s.store (value_of-keeps index s)
+        (λ i t. then_do-keeps (value_of e t) (λ a s. buffer_changed p (item_set (buffer_at s.store p.0) i a) s) t.store (value_of-keeps e t)
+        (λ a u. changed-keeps p (item_set (buffer_at u.store p.0) i a) u (record { outside = λ r h. or_left (buffer_writes shape p r) (expr_writes shape index r) (or_left (buffer_writes shape p r || expr_writes shape index r) (expr_writes shape e r) (c.outside r h)) })))
+    run_stmt-keeps (Append p e) c s =
+        then_do-keeps (value_of e s) (λ a s. buffer_changed p (appended (buffer_at s.store p.0) a) s) s.store (value_of-keeps e s)
+        (λ a t. changed-keeps p (appended (buffer_at t.store p.0) a) t (record { outside = λ r h. or_left (buffer_writes shape p r) (expr_writes shape e r) (c.outside r h) }))
+    run_stmt-keeps (Take x p) c s =
+        moved-keeps x p (last_of (buffer_at s.store p.0)) s (record { outside = λ r h. or_left (variable_writes shape x r) (buffer_writes shape p r) (c.outside r h) })
+        (record { outside = λ r h. or_right (variable_writes shape x r) (buffer_writes shape p r) (c.outside r h) })
+    run_stmt-keeps (Clear p) c s = with_buffer-keeps p [] s (record { outside = λ r h. c.outside r h })
+    run_stmt-keeps (Do f args) c s =
+        then_do-keeps (value_of (Call f args) s) dropped s.store (value_of-keeps (Call f args) s) (λ a t. unchanged w t.store)
+    run_stmt-keeps (DoSend f p) c s =
+        then_do-keeps (value_of (SendBuf f p) s) dropped s.store (value_of-keeps (SendBuf f p) s) (λ a t. unchanged w t.store)
+    run_stmt-keeps (If e a) c s =
+        then_do-keeps (value_of e s) (λ v s. choose (is_truth v) (run_block a) (Done tt) s) s.store (value_of-keeps e s)
+        (λ v t. choose-keeps (is_truth v) (run_block a) (Done tt)
+        (run_block-keeps a (record { outside = λ r h. or_right (expr_writes shape e r) (block_writes shape a r) (c.outside r h) })) (λ u. unchanged w u.store) t)
+    run_stmt-keeps (IfElse e a b) c s =
+        then_do-keeps (value_of e s) (λ v s. choose (is_truth v) (run_block a) (run_block b) s) s.store (value_of-keeps e s)
+        (λ v t. choose-keeps (is_truth v) (run_block a) (run_block b)
+        (run_block-keeps a (record {
+          outside = λ r h. or_right (expr_writes shape e r) (block_writes shape a r)
+              (or_left (expr_writes shape e r || block_writes shape a r) (block_writes shape b r) (c.outside r h));
+        }))
+        (run_block-keeps b (record { outside = λ r h. or_right (expr_writes shape e r || block_writes shape a r) (block_writes shape b r) (c.outside r h) })) t)
+    run_stmt-keeps (For x from to step a) c s =
+        let of_head : (r : Resource) → w r ≡ false → (variable_writes shape x r || variable_has (writes_to shape r) Gets x || expr_writes shape from r || expr_writes shape to r) ≡ false =
+        λ r h. or_left (variable_writes shape x r || variable_has (writes_to shape r) Gets x || expr_writes shape from r || expr_writes shape to r) (block_writes shape a r) (c.outside r h) in
+        let of_variable : Covers w (variable_writes shape x) =
+        record {
+          outside = λ r h. or_left (variable_writes shape x r) (variable_has (writes_to shape r) Gets x)
+              (or_left (variable_writes shape x r || variable_has (writes_to shape r) Gets x) (expr_writes shape from r)
+              (or_left (variable_writes shape x r || variable_has (writes_to shape r) Gets x || expr_writes shape from r) (expr_writes shape to r) (of_head r h)));
+        } in
+        let of_body : Covers w (block_writes shape a) =
+        record { outside = λ r h. or_right (variable_writes shape x r || variable_has (writes_to shape r) Gets x || expr_writes shape from r || expr_writes shape to r) (block_writes shape a r) (c.outside r h) } in
+        then_do-keeps (value_of from s) (λ v s. loop_does (for_round x (value_of to) step (run_block a)) (with_variable x v s)) s.store (value_of-keeps from s)
+        (λ v t. in_turn w t.store (with_variable x v t).store _ (with_variable-keeps x v t of_variable)
+        (rounds-keeps (with_variable x v t).turns (for_round x (value_of to) step (run_block a))
+        (for_round-keeps x to step (run_block a) of_variable (run_block-keeps a of_body)) (with_variable x v t)))
+    run_stmt-keeps (While e a) c s =
+        rounds-keeps s.turns (while_round (value_of e) (run_block a))
+        (while_round-keeps e (run_block a) (run_block-keeps a (record { outside = λ r h. or_right (expr_writes shape e r) (block_writes shape a r) (c.outside r h) }))) s
 
-      run_block-keeps : (b : Block) → Covers w (block_writes shape b) → (s : ScriptState) → IsSameOutside w s.store (store_after (run_block b s))
-      run_block-keeps no_statements c s = unchanged w s.store
-      run_block-keeps (statement x b) c s =
-          then_do-keeps (run_stmt x s) (λ _ s. run_block b s) s.store
-          (run_stmt-keeps x (record { outside = λ r h. or_left (stmt_writes shape x r) (block_writes shape b r) (c.outside r h) }) s)
-          (λ _ t. run_block-keeps b (record { outside = λ r h. or_right (stmt_writes shape x r) (block_writes shape b r) (c.outside r h) }) t)
+    run_block-keeps : (b : Block) → Covers w (block_writes shape b) → (s : ScriptState) → IsSameOutside w s.store (store_after (run_block b s))
+    run_block-keeps no_statements c s = unchanged w s.store
+    run_block-keeps (statement x b) c s =
+        then_do-keeps (run_stmt x s) (λ _ s. run_block b s) s.store
+        (run_stmt-keeps x (record { outside = λ r h. or_left (stmt_writes shape x r) (block_writes shape b r) (c.outside r h) }) s)
+        (λ _ t. run_block-keeps b (record { outside = λ r h. or_right (stmt_writes shape x r) (block_writes shape b r) (c.outside r h) }) t)
 
 played-store : (o : Evaluation ⊤) → (played o).store ≡ store_after o
 played-store (Done a s) = refl
@@ -216,9 +243,9 @@ played-store (Over end s) = refl
 
 -- what a run leaves is the same outside what its script writes
 pub outside_writes : (shape : Shape) (tree : Block) (store : Store) (msg : ArrayVec ℤ) (answers : List ℤ) (turns : ℕ) (p : Outcome) → p ≡ run_of tree store msg answers turns
-    → IsSameOutside (block_writes shape tree) store p.store
+    → IsSameOutside (script_uses shape tree).writes store p.store
 outside_writes shape tree store msg answers turns p e =
     let o : Evaluation ⊤ = run_block tree (begun_state store msg answers turns) in
     let f : store_after o ≡ p.store = sym (played-store o) ∙ sym (ap (λ (q : Outcome). q.store) e) in
-    let P : Store → Type 0 = λ st. IsSameOutside (block_writes shape tree) store st in
-    subst P f (run_block-keeps (block_writes shape tree) shape tree (record { outside = λ r h. h }) (begun_state store msg answers turns))
+    let P : Store → Type 0 = λ st. IsSameOutside (script_uses shape tree).writes store st in
+    subst P f (run_block-keeps shape (block_writes shape tree) tree (record { outside = λ r h. h }) (begun_state store msg answers turns))

@@ -3,7 +3,7 @@
 ghost use Rattle.std.specs.Prelude.{◌≡◌, IfOk};
 ghost use Rattle.ts_checked.specs.Checked.{checked_shape, checked_tree};
 ghost use Rattle.ts_meaning.specs.Meaning.{run_of};
-ghost use Rattle.ts_meaning.specs.Uses.{IsSameOutside, block_writes};
+ghost use Rattle.ts_meaning.specs.Uses.{IsSameOutside, script_uses};
 
 use crate::evaluator::{Evaluator, Stop};
 use mate_num::{End, NoMemory, Outcome, Payload, Store};
@@ -27,8 +27,8 @@ pub fn play(
         IfOk result (λ outcome. outcome ≡ run) }
 
     // What the script doesn't write stays as it was.
-    ensures outside { let written = block_writes (checked_shape script.now) (checked_tree script.now) in
-        IfOk result (λ outcome. IsSameOutside written store.now outcome.store) }
+    ensures outside { let uses = script_uses (checked_shape script.now) (checked_tree script.now) in
+        IfOk result (λ outcome. IsSameOutside uses.writes store.now outcome.store) }
 {
     let mut evaluator = Evaluator::new(alloc, store.copy(), msg, answers, turns);
     match evaluator.block(script.body()) {

@@ -101,14 +101,6 @@ turn i (less from) b =
 turn i (greater from) b =
     if b == 61 then go (token kind.Ge from (i + 1) ∷ []) between else behind (token kind.Gt from i) (fresh i b)
 
--- the end of the text, at place i
-abbrev pub at_end : ℕ → Mode → Result (List Token) CutFault
-at_end i (word from w) = Ok (token (word_kind w) from i ∷ [])
-at_end i (literal from n) = if nat_lt 65535 n then Err (big_literal from) else Ok (token (kind.Num n) from i ∷ [])
-at_end i (less from) = Ok (token kind.Lt from i ∷ [])
-at_end i (greater from) = Ok (token kind.Gt from i ∷ [])
-at_end i _ = Ok []
-
 -- tokens before others
 abbrev pub with_front : List Token → Result (List Token) CutFault → Result (List Token) CutFault
 with_front ts rest = result_map (λ us. ts ++ us) rest
@@ -118,9 +110,9 @@ abbrev pub turned : (Mode → Result (List Token) CutFault) → CutStep → Resu
 turned rest (stop f) = Err f
 turned rest (go ts m) = with_front ts (rest m)
 
--- the tokens of the bytes from place i on, or the first fault
+-- the tokens of the bytes from place i on, or the first fault; the end of the text ends a token as an LF does
 unfoldable pub cut_from : ℕ → Mode → List ℕ → Result (List Token) CutFault
-cut_from i m [] = at_end i m
+cut_from i m [] = turned (λ _. Ok []) (turn i m 10)
 cut_from i m (b ∷ bs) = turned (λ n. cut_from (i + 1) n bs) (turn i m b)
 
 -- the tokens of a text, or its first fault

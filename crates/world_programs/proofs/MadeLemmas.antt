@@ -18,7 +18,8 @@ use Rattle.mate_refusals.specs.SourceCauses.{IsBadSource}
 use Rattle.mate_refusals.proofs.CauseLemmas.{refusal_told, refused-by}
 use Rattle.mate_refusals.specs.declared.refusal.Refusal.{Refusal}
 use Rattle.mate_refusals.specs.declared.refusal.Refusal.TheVariants.{NoMemory}
-use Rattle.mate_steps.specs.SourceCode.{compiled_tree, IsCompiledOf, HasNoCode}
+use Rattle.ts_compiler.specs.Compiled.{IsUncompiled}
+use Rattle.mate_steps.specs.SourceCode.{compiled_tree, IsCompiledOf}
 use Rattle.mate_steps.specs.Sources.{compiled, compiled_bytes}
 use Rattle.mate_steps.specs.Steps.{Then, goes_on, stops, obtained}
 use Rattle.mate_steps.specs.declared.code.CompiledScript.{CompiledScript}
@@ -27,7 +28,6 @@ use Rattle.node_programs.specs.Right.{IsRightProgram, AreRightPrograms}
 use Rattle.script_programs.specs.Programs.{IsInstalled}
 use Rattle.world_maker.specs.Sound.{IsSoundSource}
 use Rattle.ts_checker.specs.Accepted.{IsAccepted}
-use Rattle.ts_compiler.specs.Compiled.{NeedsDeeperStack, HasLongCode}
 use Rattle.ts_compiler.specs.declared.fault.CompileFault.{CompileFault}
 use Rattle.ts_compiler.specs.declared.fault.CompileFault.TheVariants.{StackDepth, TooLong}
 use Rattle.ts_fold.specs.Folded.{folded}
@@ -61,9 +61,9 @@ room-folded true tree room =
     record { need = let a = less.need in let b = room.need in omega (arith, a, b); size = let a = less.size in let b = room.size in omega (arith, a, b) }
 room-folded false tree room = room
 
-has-code : (d : Description) (fold : Bool) (tree : Block) (fault : CompileFault) → HasRoom (compiled_tree fold tree) → HasNoCode fold tree fault → ⊥
-has-code d fold tree (StackDepth need) room over = let a : 16 < script_need (compiled_tree fold tree) = over.over in let b = room.need in omega (arith, a, b)
-has-code d fold tree (TooLong size) room over = let a = over.over in let b = room.size in omega (arith, a, b)
+has-code : (d : Description) (fold : Bool) (tree : Block) (fault : CompileFault) → HasRoom (compiled_tree fold tree) → IsUncompiled (compiled_tree fold tree) fault → ⊥
+has-code d fold tree (StackDepth need) room over = let a : 16 < script_need (compiled_tree fold tree) = over.0 in let b = room.need in omega (arith, a, b)
+has-code d fold tree (TooLong size) room over = let a = over.1 in let b = room.size in omega (arith, a, b)
 
 -- what the compiler gives of a source
 pub record HasCode (d : Description) (fold : Bool) (bytes : List ℕ) (c : CompiledScript) : Type 0 where

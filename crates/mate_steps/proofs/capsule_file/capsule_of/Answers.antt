@@ -4,9 +4,8 @@ use Rattle.std.specs.declared.alloc.Global.{Global}
 use Rattle.std.specs.declared.boxed.Box.{Box}
 use Rattle.mate_refusals.specs.declared.refusal.Refusal.{Refusal}
 use Rattle.mate_steps.specs.declared.capsule_file.VerifiedCapsule.{VerifiedCapsule}
-use Rattle.capsule_codec.specs.Image.{capsule_parts}
-use Rattle.mate_steps.specs.CapsuleFiles.{SpellsVerified, RefusesText}
-use Rattle.mate_steps.specs.HeldCapsules.{IsHeldOf, parts_in}
+use Rattle.mate_steps.specs.CapsuleFiles.{spelled_code}
+use Rattle.mate_steps.specs.HeldCapsules.{IsHeldOf, parts_held, parts_in}
 use Rattle.mate_steps.specs.Steps.{goes_on}
 use Rattle.mate_refusals.specs.declared.cause.Cause.TheVariants as cause
 use Rattle.mate_steps.proofs.Laws.{stops_by, fails_as, told-read, reads-as, reads-err}
@@ -24,13 +23,13 @@ pub returns-in-Err-clause-does : goal.returns-in-Err-clause-does
 returns-in-Err-clause-does g c =
     goes_on c.in_ok-text.text c.in_ok-text.ensures.does
     (fails_as c.in-Err.refusal c.in_file.result
-    (subst (λ (bs : List ℕ). RefusesText c.args.desc.now bs c.in-Err.refusal) c.as_slice.ensures.value c.in-Err.ensures) c.in_file.ensures)
+    (subst (λ (bs : List ℕ). spelled_code c.args.desc.now bs ≡ Err c.in-Err.refusal) c.as_slice.ensures.value c.in-Err.ensures) c.in_file.ensures)
 
 pub returns-in-Some-clause-does : goal.returns-in-Some-clause-does
 returns-in-Some-clause-does g c =
     let read : IsHeldOf c.args.desc.now c.as_slice.result.now c.in-Some.capsule.value = rw c.in-Some.is at c.in-Ok.ensures in
     goes_on c.in_ok-text.text c.in_ok-text.ensures.does
-    (subst (λ (bs : List ℕ). SpellsVerified c.args.desc.now bs (capsule_parts c.in-Some.capsule.value.capsule) c.in-Some.capsule.value.code.code) c.as_slice.ensures.value read.spells)
+    (subst (λ (bs : List ℕ). spelled_code c.args.desc.now bs ≡ Ok (parts_held c.in-Some.capsule.value)) c.as_slice.ensures.value read.spells)
 
 pub returns-in-Some-clause-verified : goal.returns-in-Some-clause-verified
 returns-in-Some-clause-verified g c =

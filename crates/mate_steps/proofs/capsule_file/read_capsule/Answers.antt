@@ -1,4 +1,4 @@
-use Rattle.std.proofs.Common.{◌≡◌, ℕ, List, Option, Some, None, Ok, sym, ◌∙◌, ap, subst}
+use Rattle.std.proofs.Common.{◌≡◌, ℕ, List, Option, Some, None, Ok, Err, sym, ◌∙◌, ap, subst}
 use Rattle.std.specs.Prelude.{IfSome}
 use Rattle.std.specs.declared.alloc.Global.{Global}
 use Rattle.std.specs.declared.boxed.Box.{Box}
@@ -11,6 +11,7 @@ use Rattle.vm_desc.specs.Shapes.{shape_of}
 use Rattle.vm_desc.specs.declared.description.Description.{Description}
 use Rattle.mate_steps.specs.HeldCapsules.{IsHeldOf, ReadsText}
 use Rattle.mate_steps.specs.declared.capsule_file.VerifiedCapsule.{VerifiedCapsule}
+use Rattle.mate_steps.proofs.CapsuleLemmas.{code-read}
 use Rattle.mate_steps.proofs.capsule_file.read_capsule.Goals as goal
 
 -- a capsule that was boxed is the one that the text spells
@@ -30,17 +31,12 @@ returns-in-Ok-verify c =
     let is = c.in-Ok-verify.ensures in
     boxed c.args.desc.now c.args.text.now c.in-Ok.capsule c.in-Ok-verify.code c.boxed.result c.boxed.ensures
     record {
-      spells = record {
-        spells = c.in-Ok.ensures.0;
-        marks = marks_of c.in-Ok-verify.code;
-        accepted = accepted (shape_of c.args.desc.now) c.as_slice.result.now c.in-Ok.capsule.code.items c.in-Ok-verify.code is c.as_slice.ensures.value;
-      };
+      spells = code-read c.args.desc.now c.args.text.now (capsule_parts c.in-Ok.capsule) (Ok (c.in-Ok-verify.code.code, marks_of c.in-Ok-verify.code)) c.in-Ok.ensures.0
+          (accepted (shape_of c.args.desc.now) c.as_slice.result.now c.in-Ok.capsule.code.items c.in-Ok-verify.code is c.as_slice.ensures.value);
       is_for = record { of_machine = c.in-Ok.ensures.1; shape_is = is.shape_is; bytes_are = is.bytes_are ∙ c.as_slice.ensures.value };
     }
 
 pub returns-in-Err-verify : goal.returns-in-Err-verify
-returns-in-Err-verify c = record {
-  capsule = capsule_parts c.in-Ok.capsule;
-  spells = c.in-Ok.ensures.0;
-  refused = ap (bytes_verification (shape_of c.args.desc.now)) (sym c.as_slice.ensures.value) ∙ c.in-Err-verify.ensures;
-}
+returns-in-Err-verify c =
+    code-read c.args.desc.now c.args.text.now (capsule_parts c.in-Ok.capsule) (Err c.in-Err-verify.fault) c.in-Ok.ensures.0
+    (ap (bytes_verification (shape_of c.args.desc.now)) (sym c.as_slice.ensures.value) ∙ c.in-Err-verify.ensures)

@@ -1,9 +1,10 @@
-use Rattle.std.proofs.Common.{ℕ, List, [], length, Option, Some, Ok, Err, sym, ◌∙◌, subst}
+use Rattle.std.proofs.Common.{ℕ, List, [], length, Option, Some, Ok, Err, refl, sym, ◌∙◌, subst}
 use Rattle.std.proofs.lemmas.List.{get_or_default}
 use Rattle.mate_journal.specs.declared.program.Program.{Program}
 use Rattle.mate_steps.specs.Parts.{Folder}
 use Rattle.script_reader.specs.Steps.{IsRightStep}
 use Rattle.script_reader.specs.declared.steps.Step.{Step}
+use Rattle.mate_steps.specs.Steps.{goes_on}
 use Rattle.mate_steps.proofs.Laws.{reads-as, reads-err}
 use Rattle.script_programs.specs.Programs.{installed, loaded, name_at, step_program}
 use Rattle.std.specs.Prelude.{IfSome}
@@ -46,7 +47,7 @@ returns-in_ok-program-in-Install-clause-does g c =
     let right = subst (λ (s : Step). IsRightStep c.args.desc.now (length names) s) i.is c.requires.right in
     let name = c.as_str-name.ensures ∙ c.index-names-program.is ∙ get_or_default names i.program c.index-names-program.result [] right.program_high in
     subst (λ (s : Step). step_program f c.args.desc.now c.args.fold names s (Ok (Some p))) (sym i.is)
-    (subst (λ (n : List ℕ). installed f c.args.desc.now c.args.fold i.handler i.version n (Ok p)) name c.in_ok-program-in-Install.ensures.does)
+    (goes_on p (subst (λ (n : List ℕ). installed f c.args.desc.now c.args.fold i.handler i.version n (Ok p)) name c.in_ok-program-in-Install.ensures.does) refl)
 
 pub returns-in_ok-program-in-Load-clause-does : goal.returns-in_ok-program-in-Load-clause-does
 returns-in_ok-program-in-Load-clause-does g c =
@@ -57,7 +58,7 @@ returns-in_ok-program-in-Load-clause-does g c =
     let right = subst (λ (s : Step). IsRightStep c.args.desc.now (length names) s) i.is c.requires.right in
     let name = c.as_str-name-in-Load.ensures ∙ c.index-names-program-in-Load.is ∙ get_or_default names i.program c.index-names-program-in-Load.result [] right in
     subst (λ (s : Step). step_program f c.args.desc.now c.args.fold names s (Ok (Some p))) (sym i.is)
-    (subst (λ (n : List ℕ). loaded f c.args.desc.now n (Ok p)) name c.in_ok-program-in-Load.ensures.does)
+    (goes_on p (subst (λ (n : List ℕ). loaded f c.args.desc.now n (Ok p)) name c.in_ok-program-in-Load.ensures.does) refl)
 
 pub returns-in_err-program-in-Install-clause-reads : goal.returns-in_err-program-in-Install-clause-reads
 returns-in_err-program-in-Install-clause-reads g c = reads-err c.in_err-program-in-Install.field-0.0 c.from_residual.result c.in_err-program-in-Install.ensures.reads c.from_residual.ensures.1
