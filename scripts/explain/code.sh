@@ -84,7 +84,7 @@ show_listing() {
             case $op in
             3 | 4) note=${shared[BASH_REMATCH[1]]-} ;;
             5 | 6) note=${privates[BASH_REMATCH[1]]-} ;;
-            *) [ $op -lt 28 ] || note=${buffers[BASH_REMATCH[1]]-} ;;
+            *) [ $op -lt $base_rows ] || note=${buffers[BASH_REMATCH[1]]-} ;;
             esac
         fi
         if [ -n "$note" ]; then printf '  %-24s%s\n' "$place $rest" "$note"; else echo "  $place${rest:+ $rest}"; fi

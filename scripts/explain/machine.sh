@@ -1,16 +1,18 @@
 # Read by ./explain: what a machine has, by the words of the program.
 
-# VM: puts its handlers, functions (those that send, too), shared variables and buffers into lists.
+# VM: puts its handlers, functions (those that send, too), shared variables and buffers into lists, and into $base_rows how many rows the
+# opcode table of every machine begins with.
 know_machine() {
     local word rows
+    base_rows=28
     handlers=() functions=() senders=() shared=() buffers=()
     mapfile -t handlers < <("$program" node --brief -- "$1" /dev/null 2>/dev/null | sed -n 's/^newest \([^ ]*\) .*/\1/p')
     for word in $("$program" node -- "$1" /dev/null 2>/dev/null | sed -n 's/^.* seen//p'); do
         case $word in *=[[]*) buffers+=("${word%%=*}") ;; *) shared+=("${word%%=*}") ;; esac
     done
     # behind the machine's own instructions stand its functions; those that send take a buffer
-    rows=28
-    [ ${#buffers[@]} -eq 0 ] || rows=34
+    rows=$base_rows
+    [ ${#buffers[@]} -eq 0 ] || rows=$((base_rows + 6))
     while read -r _ word bytes; do
         functions+=("$word")
         [ "$bytes" = 0 ] || senders+=("$word")
