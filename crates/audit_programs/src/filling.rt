@@ -1,6 +1,7 @@
 //! A heap that holds a store.
 
 ghost use Rattle.std.specs.Prelude.{◌≡◌, ◌<◌, ◌≤◌, length};
+ghost use Rattle.mate_num.specs.declared.bounds.TheConstants.{BUFFERS_MAX, PAYLOAD_MAX, SHARED_MAX};
 ghost use Rattle.mate_num.specs.Store.{appended, buffer_at, set_buffer, set_value};
 ghost use Rattle.node_heap.specs.Changes.{ChangesBuffer};
 
@@ -22,7 +23,7 @@ pub fn heap_of(store: &Store) -> Heap
 /// The shared variables get these values.
 fn put_shared(heap: &mut Heap, values: &[i16])
     requires count { length values.now ≡ length heap.old.shared.items }
-    requires few { length values.now ≤ 16 }
+    requires few { length values.now ≤ SHARED_MAX }
     ensures { heap.new ≡ record { shared = record { items = values.now }; buffers = heap.old.buffers } }
 {
     for i in 0..values.len() {
@@ -33,7 +34,7 @@ fn put_shared(heap: &mut Heap, values: &[i16])
 /// The buffers get these values.
 fn put_buffers(heap: &mut Heap, buffers: &[Payload])
     requires count { length buffers.now ≡ length heap.old.buffers.items }
-    requires few { length buffers.now ≤ 8 }
+    requires few { length buffers.now ≤ BUFFERS_MAX }
     ensures { heap.new ≡ record { shared = heap.old.shared; buffers = record { items = buffers.now } } }
 {
     for i in 0..buffers.len() {
@@ -44,7 +45,7 @@ fn put_buffers(heap: &mut Heap, buffers: &[Payload])
 /// A buffer gets these values.
 fn put_buffer(heap: &mut Heap, buffer: BufId, values: &[i16])
     requires known { buffer.0 < length heap.old.buffers.items }
-    requires few { length values.now ≤ 10 }
+    requires few { length values.now ≤ PAYLOAD_MAX }
     ensures { heap.new ≡ set_buffer heap.old buffer.0 values.now }
 {
     heap.clear(buffer);

@@ -2,6 +2,7 @@
 
 ghost use Rattle.std.specs.Prelude.{◌≡◌, ◌≤◌, ◌||◌, ℕ, map, IfOk, IsTrue};
 ghost use Rattle.std.specs.List.{All, list_any, list_all};
+ghost use Rattle.mate_num.specs.declared.bounds.TheConstants.{BUFFERS_MAX, SHARED_MAX};
 ghost use Rattle.mate_num.specs.Locks.{is_resource};
 ghost use Rattle.mate_num.specs.declared.resource.Resource.TheVariants as cell;
 ghost use Rattle.mate_journal.specs.Stores as journal;
@@ -233,7 +234,7 @@ fn all_variables_shown(
     requires ready { All (IsSeatReady trial.now roll.now) roll.now.roll.seats.items }
     requires stores { stores.now ≡ map (waiting_store (machine_for trial.now) store.now)
         (roll_in trial.now.log.now.images roll.now.roll).seats }
-    requires few { count ≤ 16 }
+    requires few { count ≤ SHARED_MAX }
     ensures { let x = roll_in trial.now.log.now.images roll.now.roll in
         result ≡ all_below (λ (v : ℕ). told.is_shown_at (machine_for trial.now) x store.now seen.now (cell.Shared record { 0 = v })) count }
 {
@@ -265,7 +266,7 @@ fn all_buffers_shown(
     requires ready { All (IsSeatReady trial.now roll.now) roll.now.roll.seats.items }
     requires stores { stores.now ≡ map (waiting_store (machine_for trial.now) store.now)
         (roll_in trial.now.log.now.images roll.now.roll).seats }
-    requires few { count ≤ 8 }
+    requires few { count ≤ BUFFERS_MAX }
     ensures { let x = roll_in trial.now.log.now.images roll.now.roll in
         result ≡ all_below (λ (b : ℕ). told.is_shown_at (machine_for trial.now) x store.now seen.now (cell.Buffer record { 0 = b })) count }
 {

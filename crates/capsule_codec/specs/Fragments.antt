@@ -4,10 +4,11 @@ use Rattle.std.specs.Fork.{slice_chunk}
 use Rattle.std.specs.Int.{div_ceil}
 use Rattle.std.specs.List.{range_with_len}
 use Rattle.mate_num.specs.declared.bounds.TheConstants.{SHORT_IMAGE}
+use Rattle.capsule_codec.specs.declared.fragments.TheConstants.{PIECE_MAX, SHORT_PIECE}
 
--- a piece of an image of `len` bytes has 24 bytes, or 48 if the image isn't short
+-- the length of a piece of an image of `len` bytes
 abbrev pub piece_len : ℕ → ℕ
-piece_len len = if nat_le len SHORT_IMAGE then 24 else 48
+piece_len len = if nat_le len SHORT_IMAGE then SHORT_PIECE else PIECE_MAX
 
 -- how many pieces an image has
 abbrev pub count_of : List ℕ → ℕ

@@ -5,6 +5,7 @@ use Rattle.std.specs.List.{list_all, suffix_len}
 use Rattle.std.specs.Result.{result_unwrap_or}
 use Rattle.arrayvec.specs.ArrayVec.{ArrayVec}
 use Rattle.hex.specs.Hex.{decode_of}
+use Rattle.mate_num.specs.declared.bounds.TheConstants.{IMAGE_MAX}
 use Rattle.capsule_codec.specs.declared.hex_text.HexFault.{HexFault}
 use Rattle.capsule_codec.specs.declared.hex_text.HexFault.TheVariants.{BadHex, TooLong}
 
@@ -24,11 +25,11 @@ is_hex digits = (length digits % 2 == 0) && list_all is_ascii_hexdigit digits
 abbrev pub bytes_of_digits : List ℕ → List ℕ
 bytes_of_digits digits = result_unwrap_or (decode_of digits) []
 
--- the image that the digits spell, or the first fault: 2,112 digits are the longest image's
+-- the image that the digits spell, or the first fault: the longest image has two digits for each byte
 abbrev pub image_of_digits : List ℕ → Result (ArrayVec ℕ) HexFault
 image_of_digits digits =
     if not (is_hex digits) then Err BadHex
-    else if nat_lt 2112 (length digits) then Err TooLong
+    else if nat_lt (2 * IMAGE_MAX) (length digits) then Err TooLong
     else Ok (record { items = bytes_of_digits digits })
 
 -- the image that the text spells, trailing blanks left out

@@ -2,7 +2,7 @@
 use Rattle.std.specs.Prelude.{◌≡◌, ℕ, ◌+◌, nat_lt, nat_le, nat_eq, ◌==◌, Bool, not, ◌&&◌, ◌||◌, if◌then◌else◌, List, [], ◌∷◌, length, drop, slice_index, Result, Ok, Err}
 use Rattle.std.specs.Int.{w16, w32, from_be_bytes, is_in_range}
 use Rattle.std.specs.List.{starts_with}
-use Rattle.mate_num.specs.declared.bounds.TheConstants.{CODE_MAX, SHORT_CODE}
+use Rattle.mate_num.specs.declared.bounds.TheConstants.{CODE_MAX, IMAGE_HEAD, SHORT_CODE}
 use Rattle.vm_desc.specs.declared.description.Description.{Description}
 use Rattle.capsule_codec.specs.declared.decoding.CapsuleFault.{CapsuleFault}
 use Rattle.capsule_codec.specs.declared.decoding.CapsuleFault.TheVariants.{BadMagic, BadFormat, OtherVm, BadHandler, BadLength, BadVersion}
@@ -20,7 +20,7 @@ u32_at bytes place =
     from_be_bytes w32 (slice_index bytes place ∷ slice_index bytes (place + 1)
     ∷ slice_index bytes (place + 2) ∷ slice_index bytes (place + 3) ∷ [])
 
--- the fields of an image's first 16 bytes
+-- the fields of an image's head
 abbrev pub format_in : List ℕ → ℕ
 format_in bytes = slice_index bytes 4
 
@@ -48,13 +48,13 @@ is_size format size = if format == 1 then is_in_range 1 SHORT_CODE size else is_
 abbrev pub capsule_in : Description → List ℕ → Result CapsuleParts CapsuleFault
 capsule_in d bytes =
     if not (starts_with nat_eq bytes magic) then Err BadMagic
-    else if nat_lt (length bytes) 16 then Err BadLength
+    else if nat_lt (length bytes) IMAGE_HEAD then Err BadLength
     else if not (is_format (format_in bytes)) then Err BadFormat
     else if not (vm_id_in bytes == d.vm_id) then Err (OtherVm (vm_id_in bytes))
     else if not (nat_lt (handler_in bytes) (length d.handlers.items)) then Err BadHandler
     else if version_field bytes == 0 then Err BadVersion
-    else if not (is_size (format_in bytes) (size_in bytes) && (size_in bytes + 16 == length bytes)) then Err BadLength
-    else Ok (record { vm_id = vm_id_in bytes; handler = handler_in bytes; version = version_field bytes; code = drop 16 bytes })
+    else if not (is_size (format_in bytes) (size_in bytes) && (size_in bytes + IMAGE_HEAD == length bytes)) then Err BadLength
+    else Ok (record { vm_id = vm_id_in bytes; handler = handler_in bytes; version = version_field bytes; code = drop IMAGE_HEAD bytes })
 
 -- what was answered is what was read
 abbrev pub GivesCapsule : Result Capsule CapsuleFault → Result CapsuleParts CapsuleFault → Type 0

@@ -6,8 +6,8 @@ ghost use Rattle.capsule_codec.specs.Image.{capsule_parts, parts_in_place, capsu
 ghost use Rattle.capsule_codec.specs.Reading.{capsule_in, GivesCapsule, GivesInPlace, u16_at, u32_at, is_size};
 
 use crate::capsule::{Capsule, CapsuleRef};
-use crate::encoding::{HEAD, MAGIC};
-use mate_num::{CODE_MAX, HandlerId, SHORT_CODE};
+use crate::encoding::MAGIC;
+use mate_num::{CODE_MAX, HandlerId, IMAGE_HEAD, SHORT_CODE};
 use vm_desc::Description;
 
 /// Why bytes are no capsule of the machine.
@@ -21,15 +21,15 @@ pub enum CapsuleFault {
     OtherVm { id: u32 },
     /// The machine has no such handler.
     BadHandler,
-    /// There are fewer than 16 bytes, or the code's length isn't one of the format, or isn't the number of bytes
-    /// after the first 16.
+    /// There are fewer bytes than a head has, or the code's length isn't one of the format, or isn't the number of
+    /// bytes after the head.
     BadLength,
     /// The version is 0.
     BadVersion,
 }
 
 /// The capsule of the machine whose image the bytes are, or the first fault, in this order: `BadMagic`,
-/// `BadLength` for fewer than 16 bytes, `BadFormat`, `OtherVm`, `BadHandler`, `BadVersion`, `BadLength`.
+/// `BadLength` for fewer than `IMAGE_HEAD` bytes, `BadFormat`, `OtherVm`, `BadHandler`, `BadVersion`, `BadLength`.
 pub fn decode(desc: &Description, bytes: &[u8]) -> Result<Capsule, CapsuleFault>
     ensures value { GivesCapsule result (capsule_in desc.now bytes.now) }
 
@@ -64,7 +64,7 @@ fn read<'a>(desc: &Description, bytes: &'a [u8]) -> Result<CapsuleRef<'a>, Capsu
     if !bytes.starts_with(&MAGIC) {
         return Err(CapsuleFault::BadMagic);
     }
-    if bytes.len() < HEAD {
+    if bytes.len() < IMAGE_HEAD {
         return Err(CapsuleFault::BadLength);
     }
     let format = bytes[4];
@@ -84,14 +84,14 @@ fn read<'a>(desc: &Description, bytes: &'a [u8]) -> Result<CapsuleRef<'a>, Capsu
         return Err(CapsuleFault::BadVersion);
     }
     let size = u16_at(bytes, 14);
-    if !is_size(format, size) || usize::from(size) + HEAD != bytes.len() {
+    if !is_size(format, size) || usize::from(size) + IMAGE_HEAD != bytes.len() {
         return Err(CapsuleFault::BadLength);
     }
     Ok(CapsuleRef {
         vm_id: id,
         handler,
         version,
-        code: &bytes[HEAD..],
+        code: &bytes[IMAGE_HEAD..],
     })
 }
 

@@ -12,9 +12,6 @@ use mate_num::{IMAGE_MAX, Image, SHORT_CODE};
 /// The bytes with which every image begins.
 pub(crate) const MAGIC: [u8; 4] = *b"MATE";
 
-/// The length of what comes before the code, in bytes.
-pub(crate) const HEAD: usize = 16;
-
 /// The capsule's one image: the bytes in which it is stored and sent.
 pub fn encode(capsule: &Capsule) -> Image
     ensures bytes { result.items ≡ capsule_image (capsule_parts capsule.now) }

@@ -8,10 +8,16 @@ ghost use Rattle.capsule_codec.specs.Fragments.{piece_len, count_of, piece_at};
 use arrayvec::ArrayVec;
 use mate_num::{Image, SHORT_IMAGE};
 
-/// A piece of an image: at most 48 bytes.
-pub type Piece = ArrayVec<u8, 48>;
+/// The length of a piece of a short image, in bytes.
+pub const SHORT_PIECE: usize = 24;
 
-/// How many pieces the image has: 22 at most.
+/// The length of a piece of any other image, in bytes.
+pub const PIECE_MAX: usize = 48;
+
+/// A piece of an image.
+pub type Piece = ArrayVec<u8, PIECE_MAX>;
+
+/// How many pieces the image has: `FRAGMENTS_MAX` at most.
 pub fn count(image: &Image) -> u8
     ensures value { result ≡ count_of image.now.items }
     ensures high { result ≤ FRAGMENTS_MAX }
@@ -21,7 +27,7 @@ pub fn count(image: &Image) -> u8
 
 /// The piece of the image at `index`, from 0; None exactly if `index` is `count` or more.
 ///
-/// A piece has 24 bytes if the image has at most `SHORT_IMAGE` bytes, else 48. The last one is the rest.
+/// A piece has `SHORT_PIECE` bytes if the image has at most `SHORT_IMAGE` bytes, else `PIECE_MAX`. The last one is the rest.
 pub fn fragment(image: &Image, index: u8) -> Option<Piece>
     ensures { SomeIff result (index < count_of image.now.items) (record { items = piece_at image.now.items index }) }
 {
@@ -41,5 +47,9 @@ pub fn fragment(image: &Image, index: u8) -> Option<Piece>
 fn piece_len(image: &Image) -> usize
     ensures { result ≡ piece_len (length image.now.items) }
 {
-    if image.len() <= SHORT_IMAGE { 24 } else { 48 }
+    if image.len() <= SHORT_IMAGE {
+        SHORT_PIECE
+    } else {
+        PIECE_MAX
+    }
 }

@@ -7,6 +7,7 @@ ghost use Rattle.hex.specs.Hex.{IsBytes};
 ghost use Rattle.vm_desc.specs.declared.description.Description.{Description};
 ghost use Rattle.capsule_codec.specs.Image.{CapsuleParts, capsule_image, IsCapsule, IsOfMachine};
 ghost use Rattle.capsule_codec.specs.Reading.{capsule_in};
+ghost use Rattle.capsule_codec.specs.declared.fragments.TheConstants.{PIECE_MAX, SHORT_PIECE};
 ghost use Rattle.capsule_codec.specs.Fragments.{piece_len, pieces_of, AreCut};
 
 /// A machine reads the image of one of its capsules as that capsule; and bytes that it reads as a capsule are this
@@ -23,6 +24,8 @@ pub fn pieces_make_the_image()
     ensures whole { (image : List ℕ) → concat (pieces_of image) ≡ image }
     ensures cut { (image : List ℕ) → AreCut (piece_len (length image)) (pieces_of image) }
     ensures one { (a b : List ℕ) → pieces_of a ≡ pieces_of b → a ≡ b }
-    ensures short { (pieces : List (List ℕ)) → AreCut 24 pieces → length pieces ≤ FRAGMENTS_MAX → pieces_of (concat pieces) ≡ pieces }
-    ensures long { (pieces : List (List ℕ)) → AreCut 48 pieces → SHORT_IMAGE < length (concat pieces) → pieces_of (concat pieces) ≡ pieces }
+    ensures short { (pieces : List (List ℕ)) → AreCut SHORT_PIECE pieces → length pieces ≤ FRAGMENTS_MAX
+        → pieces_of (concat pieces) ≡ pieces }
+    ensures long { (pieces : List (List ℕ)) → AreCut PIECE_MAX pieces → SHORT_IMAGE < length (concat pieces)
+        → pieces_of (concat pieces) ≡ pieces }
 {}

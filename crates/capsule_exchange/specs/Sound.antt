@@ -5,7 +5,7 @@ use Rattle.capsule_codec.specs.Fragments.{count_of}
 use Rattle.capsule_exchange.specs.declared.handler_state.HandlerState.{HandlerState}
 
 pub record IsSoundState (s : HandlerState) : Type 0 where
-  -- an image has 22 fragments at most
+  -- an image has `FRAGMENTS_MAX` fragments at most
   pub few : IfSome s.form (λ form. form.count ≤ FRAGMENTS_MAX)
   -- only fragments that the held image has are owed
   pub owed : (i : ℕ) → IsTrue (slice_index_or s.marks i false) → i < count_of s.image.items

@@ -15,9 +15,9 @@ use packet_codec::Packet;
 /// The count and the kind of an image's fragments.
 #[derive(Clone, Copy)]
 pub struct Form {
-    /// From 1 to 22.
+    /// From 1 to `FRAGMENTS_MAX`.
     pub count: u8,
-    /// Whether the pieces have up to 48 bytes, and not 24.
+    /// Whether the pieces have up to `PIECE_MAX` bytes, and not `SHORT_PIECE`.
     pub large: bool,
 }
 
@@ -138,7 +138,7 @@ impl HandlerState {
         self.marks = no_marks();
     }
 
-    // The places of the target's pieces, by index: as many as it has fragments, or all 22 if no fragment was received.
+    // The places of the target's pieces, by index: as many as it has fragments, or all `FRAGMENTS_MAX` if no fragment was received.
     fn places(&self) -> &[Option<Piece>]
         requires { IfSome self.now.form (λ form. form.count ≤ FRAGMENTS_MAX) }
         ensures value { result.now ≡ places_in self.now }

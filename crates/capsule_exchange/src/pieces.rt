@@ -3,6 +3,7 @@
 ghost use Rattle.std.specs.Prelude.{◌≡◌, ◌+◌, ◌≤◌, ◌++◌, length, false, is_some};
 ghost use Rattle.std.specs.List.{flat_map, list_all};
 ghost use Rattle.mate_num.specs.declared.bounds.TheConstants.{FRAGMENTS_MAX, IMAGE_MAX};
+ghost use Rattle.capsule_codec.specs.declared.fragments.TheConstants.{PIECE_MAX};
 ghost use Rattle.capsule_exchange.specs.Table.{table};
 ghost use Rattle.capsule_exchange.specs.Happenings.{gaps, mask_of, whole, piece_bytes};
 
@@ -80,9 +81,9 @@ fn bytes_in(places: &[Option<Piece>]) -> Image
 
 // Appends the bytes of the piece, if there is one; there must be room for them.
 fn append(image: &mut Image, place: &Option<Piece>)
-    requires { length image.old.items + 48 ≤ IMAGE_MAX }
+    requires { length image.old.items + PIECE_MAX ≤ IMAGE_MAX }
     ensures bytes { image.new.items ≡ image.old.items ++ piece_bytes place.now }
-    ensures high { length image.new.items ≤ length image.old.items + 48 }
+    ensures high { length image.new.items ≤ length image.old.items + PIECE_MAX }
 {
     let Some(piece) = place else {
         return;

@@ -2,6 +2,7 @@
 use Rattle.std.specs.Prelude.{ℕ, List, [], ◌++◌, codes, if◌then◌else◌}
 use Rattle.std.specs.List.{flat_map, enumerate_from}
 use Rattle.mate_num.specs.Uses.{Uses}
+use Rattle.mate_num.specs.declared.bounds.TheConstants.{BUFFERS_MAX, DEVICES_MAX, SHARED_MAX}
 use Rattle.mate_num.specs.declared.resource.Resource.{Resource}
 use Rattle.mate_num.specs.declared.resource.Resource.TheVariants.{Shared, Buffer, Device}
 use Rattle.vm_desc.specs.declared.description.Description.{Description}
@@ -16,9 +17,9 @@ resource_at group.Devices place = Device record { 0 = place }
 
 -- how many resources of a group a machine can have
 abbrev pub room_of : Group → ℕ
-room_of group.Shared = 16
-room_of group.Buffers = 8
-room_of group.Devices = 8
+room_of group.Shared = SHARED_MAX
+room_of group.Buffers = BUFFERS_MAX
+room_of group.Devices = DEVICES_MAX
 
 -- a space and the name if the resource is written, with `:r` after it if it is only read; else nothing
 abbrev pub mention : Uses → Resource → List ℕ → List ℕ

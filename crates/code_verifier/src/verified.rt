@@ -16,7 +16,7 @@ use std::marker::Model;
 
 /// Code that was verified for machines of a shape. Only verification makes one.
 ///
-/// What runs it never misses an operand or a place, and never overruns its stack of 16 values.
+/// What runs it never misses an operand or a place, and never overruns its stack of `STACK_MAX` values.
 #[derive(Drop)]
 pub struct Verified {
     shape: Shape,

@@ -16,7 +16,7 @@ holds ready ctx = list_any (is_same ctx) ready
 abbrev pub without : List ContextId → ContextId → List ContextId
 without ready ctx = filter (λ c. not (is_same ctx c)) ready
 
--- contexts of a node, which has at most 16, and none of them twice
+-- contexts of a node, which has at most `CONTEXTS_MAX`, and none of them twice
 abbrev pub AreContexts : List ContextId → Type 0
 AreContexts [] = Unit {0}
 AreContexts (ctx ∷ rest) = (ctx.0 < CONTEXTS_MAX) × (holds rest ctx ≡ false) × AreContexts rest

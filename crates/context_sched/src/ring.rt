@@ -41,7 +41,7 @@ impl Ring {
         Ok(Ring { ready })
     }
 
-    /// How many contexts are ready: at most 16.
+    /// How many contexts are ready: at most `CONTEXTS_MAX`.
     pub fn len(&self) -> usize
         ensures count { result ≡ length self.now }
         ensures room { result ≤ CONTEXTS_MAX }

@@ -4,6 +4,7 @@
 ghost use Rattle.std.specs.Prelude.{◌≡◌, ◌≢◌, ◌-◌, ◌<◌, ◌≤◌, ℕ};
 ghost use Rattle.std.specs.Int.{bit_at};
 ghost use Rattle.event_queue.specs.Marks.{mark_at};
+ghost use Rattle.event_queue.specs.declared.marks.TheConstants.{BITS};
 
 /// How many slots a word has marks for.
 const BITS: u32 = 64;
@@ -20,7 +21,7 @@ pub struct Marks {
 /// The place of the lowest bit that is set.
 fn lowest(bits: u64) -> u32
     requires { 0 < bits }
-    ensures within { result < 64 }
+    ensures within { result < BITS }
     ensures set { bit_at bits result ≡ 1 }
     ensures first { (i : ℕ) → i < result → bit_at bits i ≡ 0 }
 {

@@ -1,6 +1,7 @@
 //! The queue: items and their times, in order.
 
 ghost use Rattle.std.specs.Prelude.{◌≡◌, ◌<◌, ◌≤◌, [], filter, MatchOption, MatchResult, OnOk, IfNone, IfOk};
+ghost use Rattle.event_queue.specs.declared.group.TheConstants.{GROUPS};
 ghost use Rattle.event_queue.specs.Agenda.{scheduled, scheduled_all, is_other, Adds, AddsAll, Comes};
 ghost use Rattle.event_queue.specs.Wheel.{IsWheel, Seeks};
 
@@ -102,7 +103,7 @@ impl<T: Grouped> Queue<T> {
 
     /// Cancels the items of a group: the others stay, in their order.
     pub fn cancel(&mut self, group: u16)
-        requires { group < 1024 }
+        requires { group < GROUPS }
         ensures { self.new ≡ record self.old { items = filter (is_other T.group_of group) self.old.items } }
     {
         self.wheel.cancel(group);

@@ -3,6 +3,7 @@
 //! comes. Slots are lists of places, so that memory is taken only where more items wait than ever before.
 
 ghost use Rattle.std.specs.Prelude.{◌≡◌, ◌≢◌, ◌+◌, ◌/◌, ◌%◌, ◌<◌, ◌≤◌, ℕ, [], true, length, map, IfSome, IfNone, IsTrue, MatchResult, OnOk, IfOk};
+ghost use Rattle.event_queue.specs.declared.group.TheConstants.{GROUPS};
 ghost use Rattle.event_queue.specs.Links.{list_at};
 ghost use Rattle.event_queue.specs.Wheel.{is_current, live_item, list_for, IsPast, wheel_due, near, far, IsWheel, IsTurning, PutsLast, PutsAll, KeepsView, TakesFirst, Turns, Cancels, cleared, cleared_item};
 
@@ -75,7 +76,7 @@ fn list_for(at: u32, time: u32) -> usize
 
 /// The generation of an item of a group that comes now.
 fn generation_of(generations: &[u32; GROUPS], group: Option<u16>) -> u32
-    requires { IfSome group (λ g. g < 1024) }
+    requires { IfSome group (λ g. g < GROUPS) }
     ensures current { is_current generations.now group result ≡ true }
     ensures past { IsPast generations.now result group }
 {
@@ -87,7 +88,7 @@ fn generation_of(generations: &[u32; GROUPS], group: Option<u16>) -> u32
 
 /// Whether an item of this group and generation was not cancelled.
 fn is_current(generations: &[u32; GROUPS], group: Option<u16>, generation: u32) -> bool
-    requires { IfSome group (λ g. g < 1024) }
+    requires { IfSome group (λ g. g < GROUPS) }
     ensures { result ≡ is_current generations.now group generation }
 {
     match group {
@@ -305,7 +306,7 @@ impl<T: Grouped> Wheel<T> {
     /// Cancels the items of a group: those that come later are of the next generation.
     pub fn cancel(&mut self, group: u16)
         requires right { IsWheel T.group_of self.old }
-        requires below { group < 1024 }
+        requires below { group < GROUPS }
         ensures { Cancels T.group_of self.old group self.new }
     {
         let generation = self.generations[group as usize];

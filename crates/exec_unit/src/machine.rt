@@ -1,15 +1,15 @@
 //! The machine: what an invocation of a handler has of its own.
 
 ghost use Rattle.std.specs.Prelude.{◌≡◌, ◌≤◌, length, reverse};
-ghost use Rattle.mate_num.specs.declared.bounds.TheConstants.{STACK_MAX};
+ghost use Rattle.mate_num.specs.declared.bounds.TheConstants.{PRIVATES, STACK_MAX};
 ghost use Rattle.code_verifier.specs.Verified.{VerifiedCode, IsVerifiedCode, IsAtVerified};
 
 use crate::registers::{Memory, Registers};
-use mate_num::Payload;
+use mate_num::{PRIVATES, Payload, STACK_MAX};
 use std::marker::Model;
 
 /// What an invocation of a handler has of its own: the place of its next instruction, in bytes, its stack of at most
-/// 16 values, its private variables, the turns that it has left, and its message.
+/// `STACK_MAX` values, its private variables, the turns that it has left, and its message.
 ///
 /// Contracts see it as mate_code's `Private`, whose stack has the top first.
 #[derive(Drop)]
@@ -44,8 +44,8 @@ impl Machine {
                 turns,
             },
             memory: Memory {
-                stack: [0; 16],
-                privates: [0; 8],
+                stack: [0; STACK_MAX],
+                privates: [0; PRIVATES],
                 msg,
             },
         }
@@ -80,7 +80,7 @@ impl Machine {
     #[tactic(auto, unfolding(crate::specs::Machine::private_in))]
     pub fn privates(&self) -> &[i16]
         ensures value { result.now ≡ self.now.privates }
-        ensures eight { length result.now ≡ 8 }
+        ensures eight { length result.now ≡ PRIVATES }
     {
         &self.memory.privates
     }
@@ -90,7 +90,7 @@ impl Machine {
     #[tactic(auto, unfolding(crate::specs::Machine::private_in))]
     pub fn move_to(&mut self, place: u32, turns: u32, stack: &[i16], privates: &[i16])
         requires few { length stack.now ≤ STACK_MAX }
-        requires eight { length privates.now ≡ 8 }
+        requires eight { length privates.now ≡ PRIVATES }
         ensures { self.new ≡ record { pc = place; stack = reverse stack.now; privates = privates.now; msg = self.old.msg; turns = turns } }
     {
         self.memory.stack[..stack.len()].copy_from_slice(stack);

@@ -2,7 +2,7 @@
 //! the place after it.
 
 ghost use Rattle.std.specs.Prelude.{◌≡◌, ◌<◌, ◌≤◌, length};
-ghost use Rattle.mate_num.specs.declared.bounds.TheConstants.{STACK_MAX};
+ghost use Rattle.mate_num.specs.declared.bounds.TheConstants.{PRIVATES, STACK_MAX};
 ghost use Rattle.mate_code.specs.Effect.{push, gives, or_div_zero};
 ghost use Rattle.mate_code.specs.declared.instr.Instr.TheVariants as instrs;
 ghost use Rattle.exec_unit.specs.Follows.{FollowsAlone, DoesAlone, step_end};
@@ -104,7 +104,7 @@ fn give_quotient(registers: &mut Registers, memory: &mut Memory, value: Option<N
 
 /// Pushes a private variable, from 0 to 7.
 pub fn get_private(registers: &mut Registers, memory: &mut Memory, private: u8) -> PlainEnd
-    requires known { private < 8 }
+    requires known { private < PRIVATES }
     requires room { registers.old.depth < STACK_MAX }
     ensures { DoesAlone (instrs.GetP private) (private_in registers.old memory.old) (step_end result)
         (private_in registers.new memory.new) }
@@ -115,7 +115,7 @@ pub fn get_private(registers: &mut Registers, memory: &mut Memory, private: u8) 
 
 /// Pops into a private variable, from 0 to 7.
 pub fn set_private(registers: &mut Registers, memory: &mut Memory, private: u8) -> PlainEnd
-    requires known { private < 8 }
+    requires known { private < PRIVATES }
     requires operand { 1 ≤ registers.old.depth }
     ensures { DoesAlone (instrs.SetP private) (private_in registers.old memory.old) (step_end result)
         (private_in registers.new memory.new) }

@@ -3,7 +3,7 @@
 ghost use Rattle.std.specs.Prelude.{◌≤◌};
 ghost use Rattle.mate_num.specs.declared.bounds.TheConstants.{STACK_MAX};
 
-use mate_num::Payload;
+use mate_num::{PRIVATES, Payload, STACK_MAX};
 
 /// The place of the next instruction, how many values are on the stack, and the turns that are left.
 ///
@@ -20,7 +20,7 @@ pub struct Registers {
 /// The stack, whose values are its first `depth` ones, the top last, the private variables, and the message.
 #[derive(Drop)]
 pub struct Memory {
-    pub stack: [i16; 16],
-    pub privates: [i16; 8],
+    pub stack: [i16; STACK_MAX],
+    pub privates: [i16; PRIVATES],
     pub msg: Payload,
 }

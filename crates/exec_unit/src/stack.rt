@@ -3,7 +3,7 @@
 
 ghost use Rattle.std.specs.Prelude.{◌≡◌, ◌+◌, ◌-◌, ◌<◌, ◌≤◌, ◌∷◌, pos, length, drop, take, reverse, slice_index_or, slice_set};
 ghost use Rattle.mate_num.specs.Store.{item_of};
-ghost use Rattle.mate_num.specs.declared.bounds.TheConstants.{CODE_MAX, STACK_MAX};
+ghost use Rattle.mate_num.specs.declared.bounds.TheConstants.{CODE_MAX, PRIVATES, STACK_MAX};
 ghost use Rattle.mate_code.specs.Effect.{push, with_stack, at_place, arguments};
 ghost use Rattle.exec_unit.specs.declared.registers.Memory.{Memory as AnyMemory};
 ghost use Rattle.exec_unit.specs.declared.registers.Registers.{Registers as AnyRegisters};
@@ -11,10 +11,7 @@ ghost use Rattle.exec_unit.specs.Machine.{private_in};
 ghost use Rattle.exec_unit.specs.Operands.{Pays};
 
 use crate::registers::{Memory, Registers};
-use mate_num::{FaultKind, Payload};
-
-/// How many values the arguments of a call have room for.
-const ROOM: usize = 10;
+use mate_num::{FaultKind, PAYLOAD_MAX, Payload, STACK_MAX};
 
 impl Registers {
     // Goes past an instruction of `size` bytes.
@@ -73,7 +70,7 @@ impl Registers {
     {
         let first = self.depth - usize::from(count);
         let values = between(&memory.stack, first, self.depth);
-        let room = values.len().min(ROOM);
+        let room = values.len().min(PAYLOAD_MAX);
         let Ok(args) = Payload::try_from(&values[..room]) else {
             unreachable!()
         };
@@ -92,14 +89,14 @@ impl Registers {
 impl Memory {
     // The value of a private variable.
     pub(crate) fn private(&self, private: u8) -> i16
-        requires { private < 8 }
+        requires { private < PRIVATES }
         ensures { (r : AnyRegisters) → result ≡ slice_index_or (private_in r self.now).privates private (pos 0) }
     {
         self.privates[usize::from(private)]
     }
 
     pub(crate) fn set_private(&mut self, private: u8, value: i16)
-        requires { private < 8 }
+        requires { private < PRIVATES }
         ensures { (r : AnyRegisters)
             → private_in r self.new ≡ record (private_in r self.old) {
               privates = slice_set (private_in r self.old).privates private value;
@@ -128,7 +125,7 @@ impl Memory {
 
 // The first `depth` values, with one more after them.
 #[tactic(auto, using(mate_code::proofs::StackLemmas::put_reverse))]
-fn put(stack: &mut [i16; 16], depth: usize, value: i16)
+fn put(stack: &mut [i16; STACK_MAX], depth: usize, value: i16)
     requires { depth < STACK_MAX }
     ensures { reverse (take (depth + 1) stack.new) ≡ value ∷ reverse (take depth stack.old) }
 {
@@ -137,7 +134,7 @@ fn put(stack: &mut [i16; 16], depth: usize, value: i16)
 
 // The last of the first `depth` values.
 #[tactic(auto, using(mate_code::proofs::StackLemmas::last_reverse))]
-fn last(stack: &[i16; 16], depth: usize) -> i16
+fn last(stack: &[i16; STACK_MAX], depth: usize) -> i16
     requires some { 1 ≤ depth }
     requires fits { depth ≤ STACK_MAX }
     ensures { reverse (take depth stack.now) ≡ result ∷ reverse (take (depth - 1) stack.now) }
@@ -147,12 +144,12 @@ fn last(stack: &[i16; 16], depth: usize) -> i16
 
 // The values from `first` on, up to `depth`.
 #[tactic(auto, using(mate_code::proofs::StackLemmas::between_is))]
-fn between(stack: &[i16; 16], first: usize, depth: usize) -> &[i16]
+fn between(stack: &[i16; STACK_MAX], first: usize, depth: usize) -> &[i16]
     requires first { first ≤ depth }
     requires fits { depth ≤ STACK_MAX }
     ensures value { result.now ≡ drop first (take depth stack.now) }
     ensures len { length (take depth stack.now) ≡ depth }
 {
-    let _last = stack[15];
+    let _last = stack[STACK_MAX - 1];
     &stack[first..depth]
 }

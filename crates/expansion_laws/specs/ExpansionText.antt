@@ -16,7 +16,7 @@ use Rattle.proc_laws.specs.FrameLaw.{RunsWithFrames}
 abbrev pub expansion_text : ProcedureSource → List ℕ
 expansion_text s = script_line (expansion s)
 
--- none of its tokens lies too deep: at most 32 blocks are open, and a part of a statement has at most 64 counted tokens
+-- none of its tokens lies too deep: at most `BLOCKS_MAX` blocks are open, and at most `COUNTED_MAX` tokens count since a break
 abbrev pub IsShallow : ProcedureSource → Type 0
 IsShallow s = first_deep (source_spelled (expansion s)) ≡ None
 

@@ -1,5 +1,5 @@
 -- Which invocations wait for the answers to their calls, and how long they do.
-use Rattle.std.specs.Prelude.{◌≡◌, ℕ, ◌<◌, ◌≤◌, ◌==◌, Bool, false, List, [], ◌∷◌, length, Option, Some, None}
+use Rattle.std.specs.Prelude.{◌≡◌, ℕ, ◌*◌, ◌<◌, ◌≤◌, ◌==◌, Bool, false, List, [], ◌∷◌, length, Option, Some, None}
 use Rattle.mate_num.specs.Lists.{Along, Each}
 use Rattle.mate_num.specs.declared.bounds.TheConstants.{CONTEXTS_MAX}
 use Rattle.mate_num.specs.declared.id.ContextId.{ContextId}
@@ -85,4 +85,4 @@ SettlingAwaits m = (r : NodeState) (p : Pace) (told : List JournalEntry) (q : Pa
 abbrev pub SettlingTellsFew : Machine → Type 0
 SettlingTellsFew m = HasFewContexts m → (es : List TimedEntry) → IsWellFormed m (first_state m) es →
     let r = state_after_all m (first_state m) es in
-    (p : Pace) (told : List JournalEntry) (q : Pace) → Settles m r p told q → AreFollowing m r told → length told ≤ 32
+    (p : Pace) (told : List JournalEntry) (q : Pace) → Settles m r p told q → AreFollowing m r told → length told ≤ 2 * CONTEXTS_MAX

@@ -4,8 +4,8 @@ ghost use Rattle.mate_journal.specs.Machine.{Machine};
 ghost use Rattle.journal_laws.specs.Waiting.{JournalsWaitApart, JournalsWaitSmall, WaitingGoesOn, SettlingLeavesWaiting, SettlingAwaits};
 ghost use Rattle.journal_laws.specs.Waiting.{SettlingTellsFew};
 
-/// In a well-formed journal the invocations that wait have contexts of their own; of a machine with at most 16 contexts, these
-/// are below 16.
+/// In a well-formed journal the invocations that wait have contexts of their own; of a machine with at most `CONTEXTS_MAX`
+/// contexts, these are below that number.
 pub fn waits_are_apart()
     ensures apart { (m : Machine) → JournalsWaitApart m }
     ensures small { (m : Machine) → JournalsWaitSmall m }
@@ -23,7 +23,7 @@ pub fn settling_leaves_waiting()
     ensures awaits { (m : Machine) → SettlingAwaits m }
 {}
 
-/// While the turns of a node settle, at most 32 entries are made.
+/// While the turns of a node settle, at most two entries for each of `CONTEXTS_MAX` contexts are made.
 pub fn settling_tells_few()
     ensures { (m : Machine) → SettlingTellsFew m }
 {}

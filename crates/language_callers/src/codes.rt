@@ -1,6 +1,7 @@
 //! Scripts that exclude wrong bodies of `compile`.
 
-ghost use Rattle.std.specs.Prelude.{◌≡◌, ◌<◌, ◌≤◌, [], ◌∷◌, Err, IfOk, IsOk};
+ghost use Rattle.std.specs.Prelude.{◌≡◌, ◌+◌, ◌<◌, ◌≤◌, [], ◌∷◌, Err, IfOk, IsOk};
+ghost use Rattle.mate_num.specs.declared.bounds.TheConstants.{CODE_MAX, STACK_MAX};
 ghost use Rattle.mate_code.specs.Table.{table_of};
 ghost use Rattle.ts_checked.specs.Checked.{checked_shape, checked_tree};
 ghost use Rattle.ts_checked.specs.Statement.{no_statements};
@@ -33,8 +34,8 @@ pub fn a_number_of_256_takes_two_bytes(
 
 pub fn the_longest_code_is_written(table: &Table, script: &Checked) -> Result<Code, CompileFault>
     requires table { table.now ≡ table_of (checked_shape script.now) }
-    requires need { script_need (checked_tree script.now) ≤ 16 }
-    requires size { script_size (checked_tree script.now) ≡ 1040 }
+    requires need { script_need (checked_tree script.now) ≤ STACK_MAX }
+    requires size { script_size (checked_tree script.now) ≡ CODE_MAX }
     ensures { IsOk result }
 {
     compile(table, script)
@@ -45,8 +46,8 @@ pub fn a_seventeenth_value_has_no_room(
     script: &Checked,
 ) -> Result<Code, CompileFault>
     requires table { table.now ≡ table_of (checked_shape script.now) }
-    requires need { script_need (checked_tree script.now) ≡ 17 }
-    ensures { result ≡ Err (CompileFault.StackDepth 17) }
+    requires need { script_need (checked_tree script.now) ≡ STACK_MAX + 1 }
+    ensures { result ≡ Err (CompileFault.StackDepth (STACK_MAX + 1)) }
 {
     compile(table, script)
 }
@@ -56,7 +57,7 @@ pub fn a_size_is_counted_up_to_its_cap(
     script: &Checked,
 ) -> Result<Code, CompileFault>
     requires table { table.now ≡ table_of (checked_shape script.now) }
-    requires need { script_need (checked_tree script.now) ≤ 16 }
+    requires need { script_need (checked_tree script.now) ≤ STACK_MAX }
     requires size { 1000000000 < script_size (checked_tree script.now) }
     ensures { result ≡ Err (CompileFault.TooLong 1000000000) }
 {

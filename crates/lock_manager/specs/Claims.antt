@@ -35,7 +35,7 @@ abbrev pub blocked_of : List Claim → List Claim → ContextId → Option ℕ
 blocked_of ahead [] ctx = None
 blocked_of ahead (c ∷ cs) ctx = if is_of ctx c then Some (against c.set ahead) else blocked_of (ahead ++ c ∷ []) cs ctx
 
--- the contexts are below 16, and each has one claim at most
+-- the contexts are below `CONTEXTS_MAX`, and each has one claim at most
 pub record AreOnce (claims : List Claim) : Type 0 where
   pub once : (ctx : ContextId) → count_by (is_of ctx) claims ≤ 1
   pub within : (ctx : ContextId) → 0 < count_by (is_of ctx) claims → ctx.0 < CONTEXTS_MAX

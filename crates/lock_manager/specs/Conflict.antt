@@ -8,7 +8,7 @@ use Rattle.mate_num.specs.declared.lock_set.LockSet.{LockSet}
 use Rattle.mate_num.specs.Uses.{Uses, uses}
 use Rattle.mate_num.specs.Locks.{lock_uses}
 
--- what a machine can have: 16 shared variables, 8 buffers and 8 devices
+-- what a machine can have: shared variables, buffers and devices, as many as there are at most
 abbrev pub resources : List Resource
 resources =
     map (λ v. Shared record { 0 = v }) (range_with_len 0 SHARED_MAX)

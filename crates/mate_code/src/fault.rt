@@ -11,7 +11,7 @@ pub enum VerifyFault {
     BackJump { place: u32 },
     /// The stack has too few operands.
     Underflow { place: u32 },
-    /// The stack would hold more than 16 values.
+    /// The stack would hold more than `STACK_MAX` values.
     Overflow { place: u32 },
     /// Two depths of the stack are given to the place; or a `Back`'s depth isn't that of its target.
     DepthDiffers { place: u32 },

@@ -7,7 +7,7 @@ ghost use Rattle.mate_code.specs.Table.{table_of, opcode_of, kind_at, kinds_of, 
 use crate::kind::Kind;
 use crate::row::Opcode;
 use arrayvec::ArrayVec;
-use mate_num::{FunId, Shape};
+use mate_num::{FUNCTIONS_MAX, FunId, Shape};
 use std::marker::Model;
 
 // The kinds that every table has, in the order of their opcodes.
@@ -59,7 +59,7 @@ pub struct Table {
     // Whether the machine has a buffer.
     buffer: bool,
     // For each function, whether it sends a buffer.
-    sends: ArrayVec<bool, 32>,
+    sends: ArrayVec<bool, FUNCTIONS_MAX>,
 }
 
 impl Model for Table {

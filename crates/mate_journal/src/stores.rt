@@ -1,6 +1,7 @@
 //! Stores, packed.
 
 ghost use Rattle.std.specs.Prelude.{◌≡◌, ◌≤◌, ◌+◌, ◌*◌, ◌∷◌, ◌++◌, [], length, take, slice_get, OnOk};
+ghost use Rattle.mate_num.specs.declared.bounds.TheConstants.{BUFFERS_MAX, PAYLOAD_MAX, SHARED_MAX};
 ghost use Rattle.mate_num.specs.Store.{buffer_at};
 ghost use Rattle.mate_journal.specs.Packed.{AreParts, store_parts};
 
@@ -161,7 +162,7 @@ impl<'a> StoreRef<'a> {
     /// The values of the shared variables.
     pub fn shared(&self) -> &'a [i16]
         ensures value { result.now ≡ self.now.shared.items }
-        ensures few { length result.now ≤ 16 }
+        ensures few { length result.now ≤ SHARED_MAX }
     {
         self.parts.piece(self.first)
     }
@@ -169,7 +170,7 @@ impl<'a> StoreRef<'a> {
     /// How many buffers there are.
     pub fn buffers(&self) -> usize
         ensures value { result ≡ length self.now.buffers.items }
-        ensures few { result ≤ 8 }
+        ensures few { result ≤ BUFFERS_MAX }
     {
         self.buffers
     }
@@ -177,7 +178,7 @@ impl<'a> StoreRef<'a> {
     /// The values in a buffer, or no values if there is no such buffer.
     pub fn buffer(&self, buffer: usize) -> &'a [i16]
         ensures value { result.now ≡ buffer_at self.now buffer }
-        ensures few { length result.now ≤ 10 }
+        ensures few { length result.now ≤ PAYLOAD_MAX }
     {
         let _len = self.parts.len();
         if buffer < self.buffers {

@@ -3,6 +3,7 @@ use Rattle.std.specs.Prelude.{ℕ, ◌+◌, Bool, nat_lt, ◌&&◌, ◌==◌, Is
 use Rattle.std.specs.Int.{bit_at}
 use Rattle.mate_num.specs.Uses.{Uses}
 use Rattle.mate_num.specs.declared.bounds.TheConstants.{BUFFERS_MAX, DEVICES_MAX, SHARED_MAX}
+use Rattle.mate_num.specs.declared.lock_set.TheConstants.{FIRST_BUFFER, FIRST_DEVICE}
 use Rattle.mate_num.specs.declared.resource.Resource.{Resource}
 use Rattle.mate_num.specs.declared.resource.Resource.TheVariants.{Shared, Buffer, Device}
 use Rattle.mate_num.specs.declared.lock_set.LockSet.{LockSet}
@@ -10,8 +11,8 @@ use Rattle.mate_num.specs.declared.lock_set.LockSet.{LockSet}
 -- the resource's bit
 abbrev pub bit_of : Resource → ℕ
 bit_of (Shared v) = v.0
-bit_of (Buffer b) = 16 + b.0
-bit_of (Device d) = 24 + d.0
+bit_of (Buffer b) = FIRST_BUFFER + b.0
+bit_of (Device d) = FIRST_DEVICE + d.0
 
 -- a machine can have the resource
 abbrev pub is_resource : Resource → Bool

@@ -2,11 +2,17 @@
 
 use arrayvec::ArrayVec;
 
+/// The greatest length of a name, in bytes.
+pub const NAME_MAX: usize = 16;
+
 /// The greatest number of shared variables.
 pub const SHARED_MAX: usize = 16;
 
 /// The greatest number of buffers.
 pub const BUFFERS_MAX: usize = 8;
+
+/// The greatest number of functions.
+pub const FUNCTIONS_MAX: usize = 32;
 
 /// The greatest number of devices.
 pub const DEVICES_MAX: usize = 8;
@@ -32,7 +38,10 @@ pub const CODE_MAX: usize = 1_040;
 /// The greatest length of code that a capsule of format 1 holds, in bytes.
 pub const SHORT_CODE: usize = 512;
 
-/// The greatest length of a capsule's image, in bytes: 16 bytes of head and the code.
+/// The length of the head of a capsule's image, in bytes: what stands before the code.
+pub const IMAGE_HEAD: usize = 16;
+
+/// The greatest length of a capsule's image, in bytes: its head and the code.
 pub const IMAGE_MAX: usize = 1_056;
 
 /// The greatest length of an image that is sent in small pieces, in bytes: that of a capsule of format 1.
@@ -62,6 +71,6 @@ pub type Image = ArrayVec<u8, IMAGE_MAX>;
 /// The bytes of a radio packet.
 pub type PacketBytes = ArrayVec<u8, PACKET_MAX>;
 
-const _: () = prove!(CODE_MAX + 16 == IMAGE_MAX);
+const _: () = prove!(IMAGE_HEAD + CODE_MAX == IMAGE_MAX);
 
-const _: () = prove!(SHORT_CODE + 16 == SHORT_IMAGE);
+const _: () = prove!(IMAGE_HEAD + SHORT_CODE == SHORT_IMAGE);

@@ -16,9 +16,9 @@ pub mod store;
 pub mod text;
 
 pub use bounds::{
-    BUFFERS_MAX, CODE_MAX, CONTEXTS_MAX, Code, DEVICES_MAX, FRAGMENTS_MAX, HANDLERS_MAX, HOUR,
-    IMAGE_MAX, Image, NODES_MAX, PACKET_MAX, PAYLOAD_MAX, PRIVATES, PacketBytes, Payload,
-    SHARED_MAX, SHORT_CODE, SHORT_IMAGE, STACK_MAX,
+    BUFFERS_MAX, CODE_MAX, CONTEXTS_MAX, Code, DEVICES_MAX, FRAGMENTS_MAX, FUNCTIONS_MAX,
+    HANDLERS_MAX, HOUR, IMAGE_HEAD, IMAGE_MAX, Image, NAME_MAX, NODES_MAX, PACKET_MAX, PAYLOAD_MAX,
+    PRIVATES, PacketBytes, Payload, SHARED_MAX, SHORT_CODE, SHORT_IMAGE, STACK_MAX,
 };
 pub use call::{Call, End, FaultKind, Stamp};
 pub use id::{BufId, ContextId, DeviceId, FunId, HandlerId, VarId};

@@ -4,10 +4,17 @@ ghost use Rattle.std.specs.Prelude.{◌≡◌, ℕ, ◌<◌, ◌^◌, IsTrue, Ma
 ghost use Rattle.mate_num.specs.Uses.{AddsResource, Conflicts, IsCompatible, no_uses, IsSameUses};
 ghost use Rattle.mate_num.specs.Locks.{bit_of, is_resource, has, lock_uses, Share, IsApart};
 
+use crate::bounds::{BUFFERS_MAX, SHARED_MAX};
 use crate::resource::Resource;
 
+/// The bit of the first buffer, above those of the shared variables.
+const FIRST_BUFFER: u8 = SHARED_MAX as u8;
+
+/// The bit of the first device, above those of the buffers.
+const FIRST_DEVICE: u8 = FIRST_BUFFER + BUFFERS_MAX as u8;
+
 /// A set of resources to read and a set of resources to write. Bit v is shared variable v,
-/// bit 16 + b is buffer b and bit 24 + d is device d.
+/// bit `FIRST_BUFFER` + b is buffer b and bit `FIRST_DEVICE` + d is device d.
 #[derive(Clone, Copy)]
 pub struct LockSet {
     read: u32,
@@ -21,8 +28,8 @@ fn bit(resource: Resource) -> u32
 {
     match resource {
         Resource::Shared(var) => 1 << var.0,
-        Resource::Buffer(buf) => 1 << (16 + buf.0),
-        Resource::Device(device) => 1 << (24 + device.0),
+        Resource::Buffer(buf) => 1 << (FIRST_BUFFER + buf.0),
+        Resource::Device(device) => 1 << (FIRST_DEVICE + device.0),
     }
 }
 

@@ -4,42 +4,42 @@ ghost use Rattle.std.specs.Prelude.{◌≡◌, ℕ, ◌<◌, ◌≤◌, ◌==◌
 ghost use Rattle.std.specs.Cmp.{partial_equiv_from_equiv};
 ghost use Rattle.std.specs.Cmp.Lexicographic.{pointwise, nat_list_eq_equiv};
 ghost use Rattle.mate_num.specs.Names.{IsName};
+ghost use Rattle.mate_num.specs.declared.bounds.TheConstants.{NAME_MAX};
 
+use crate::bounds::NAME_MAX;
 use std::fmt;
 use std::marker::Model;
 
-/// A text of at most 16 bytes. Contracts see its bytes.
+/// A text of at most `NAME_MAX` bytes. Contracts see its bytes.
 #[derive(Drop)]
 pub struct Name {
     // The text's bytes, and any others after them. A name is small, since a source's tokens and trees hold many.
-    bytes: [u8; 16],
+    bytes: [u8; NAME_MAX],
     // How many of them are the text's.
     len: u8,
 }
 
 impl Model for Name {
     ghost use Rattle.std.specs.Prelude.{◌≡◌, ◌≤◌, ℕ, List, length, take, IsUtf8};
+    ghost use Rattle.mate_num.specs.declared.bounds.TheConstants.{NAME_MAX};
 
     ghost Value = { List ℕ };
 
     ghost view = { λ n. take n.len n.bytes };
 
-    ghost invariant = { λ n. (n.len ≤ 16) × (length n.bytes ≡ 16) × IsUtf8 (take n.len n.bytes) };
+    ghost invariant = { λ n. (n.len ≤ NAME_MAX) × (length n.bytes ≡ NAME_MAX) × IsUtf8 (take n.len n.bytes) };
 }
 
 impl Name {
-    /// The greatest length of a name, in bytes.
-    pub const MAX: usize = 16;
-
-    /// The name that reads `text`; None exactly if `text` has more than 16 bytes.
+    /// The name that reads `text`; None exactly if `text` has more than `NAME_MAX` bytes.
     pub fn new(text: &str) -> Option<Name>
-        ensures { MatchOption result (16 < length text.now) (λ name. name ≡ text.now) }
+        ensures { MatchOption result (NAME_MAX < length text.now) (λ name. name ≡ text.now) }
     {
         let text = text.as_bytes();
-        if text.len() > Name::MAX {
+        if text.len() > NAME_MAX {
             return None;
         }
-        let mut bytes = [0; 16];
+        let mut bytes = [0; NAME_MAX];
         bytes[..text.len()].copy_from_slice(text);
         Some(Name {
             bytes,
@@ -47,7 +47,7 @@ impl Name {
         })
     }
 
-    /// The name that these bytes spell; None exactly if they are more than 16 or not UTF-8.
+    /// The name that these bytes spell; None exactly if they are more than `NAME_MAX` or not UTF-8.
     pub fn of_bytes(bytes: &[u8]) -> Option<Name>
         ensures { MatchOption result (¬ (IsName bytes.now)) (λ name. IsName bytes.now × (name ≡ bytes.now)) }
     {
@@ -59,14 +59,14 @@ impl Name {
 
     pub fn as_bytes(&self) -> &[u8]
         ensures value { result.now ≡ self.now }
-        ensures fits { length self.now ≤ 16 }
+        ensures fits { length self.now ≤ NAME_MAX }
     {
         &self.bytes[..self.len as usize]
     }
 
     pub fn as_str(&self) -> &str
         ensures value { result.now ≡ self.now }
-        ensures fits { length self.now ≤ 16 }
+        ensures fits { length self.now ≤ NAME_MAX }
     {
         let Ok(text) = str::from_utf8(&self.bytes[..self.len as usize]) else {
             unreachable!()
@@ -105,7 +105,7 @@ impl Default for Name {
 
     fn default() -> Name {
         Name {
-            bytes: [0; 16],
+            bytes: [0; NAME_MAX],
             len: 0,
         }
     }

@@ -2,6 +2,7 @@
 
 ghost use Rattle.std.specs.Prelude.{◌≡◌};
 
+use crate::bounds::FUNCTIONS_MAX;
 use crate::id::DeviceId;
 use arrayvec::ArrayVec;
 
@@ -21,7 +22,7 @@ pub struct FunShape {
 pub struct Shape {
     pub shared: u8,
     pub buffers: u8,
-    pub functions: ArrayVec<FunShape, 32>,
+    pub functions: ArrayVec<FunShape, FUNCTIONS_MAX>,
 }
 
 impl Shape {

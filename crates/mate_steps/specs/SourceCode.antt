@@ -23,7 +23,7 @@ abbrev pub compiled_tree : Bool → Block → Block
 compiled_tree true tree = folded tree
 compiled_tree false tree = tree
 
--- Code of an accepted tree: the compiled tree needs a stack of at most 16 values, its code has room, and these are the bytes as which
+-- Code of an accepted tree: the compiled tree's stack has at most `STACK_MAX` values, its code has room, and these are the bytes as which
 -- the verifier takes it. It takes no other bytes as this code (`one-code` of `proofs/CodeLemmas`).
 pub record IsCodeOf (shape : Shape) (fold : Bool) (tree : Block) (code : ArrayVec ℕ) : Type 0 where
   pub need : script_need (compiled_tree fold tree) ≤ STACK_MAX

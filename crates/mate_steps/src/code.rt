@@ -33,7 +33,7 @@ pub enum CodeFault {
 }
 
 /// The code of a script that the machine accepts, folded before it is compiled if `folded` says so. `Uncompiled`
-/// comes exactly if the tree that is compiled needs a stack of more than 16 values, or its code takes more than
+/// comes exactly if the tree that is compiled needs a stack of more than `STACK_MAX` values, or its code takes more than
 /// `CODE_MAX` bytes.
 pub fn compiled_script(
     alloc: Global,

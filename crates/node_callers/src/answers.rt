@@ -1,12 +1,13 @@
 //! Answers to the calls that invocations wait with.
 
-ghost use Rattle.std.specs.Prelude.{◌≡◌, ◌≤◌, ◌<◌, ◌++◌, List, map, pos, IfOk, IsOk, OnOk};
+ghost use Rattle.std.specs.Prelude.{◌≡◌, ◌≤◌, ◌<◌, ◌+◌, ◌++◌, List, map, pos, IfOk, IsOk, OnOk};
 ghost use Rattle.mate_num.specs.declared.bounds.TheConstants.{CONTEXTS_MAX};
 ghost use Rattle.mate_journal.specs.Journal.{JournalEntry, journal_of};
 ghost use Rattle.mate_journal.specs.Pace.{Pace};
 ghost use Rattle.node_invariant.specs.Keeps.{IsTimely, event_at};
 ghost use Rattle.node_invariant.specs.Meaning.{machine_in};
 ghost use Rattle.open_node.specs.View.{heard_of, HasPace};
+ghost use Rattle.open_node.specs.declared.open_node.TheConstants.{TURN_ENTRIES};
 ghost use Rattle.node_callers.specs.Told.{GoesByAnswer};
 
 use mate_num::{ContextId, Stamp};
@@ -24,7 +25,7 @@ pub fn an_answer_goes_to_its_context(
     requires context { ctx.0 < CONTEXTS_MAX }
     requires some { 0 < n }
     requires timely { IsTimely at node.old.log }
-    requires room { 17 ≤ node.old.log.spare }
+    requires room { TURN_ENTRIES + 1 ≤ node.old.log.spare }
     requires paced { (p : Pace) × HasPace node.old p }
     ensures goes_on { IfOk result IsOk }
     ensures value { IfOk result (λ step. OnOk step ((told : List JournalEntry)

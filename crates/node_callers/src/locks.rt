@@ -7,6 +7,7 @@ ghost use Rattle.journal_laws.specs.Apart.{AreApart};
 ghost use Rattle.node_invariant.specs.Keeps.{IsTimely};
 ghost use Rattle.node_invariant.specs.Meaning.{machine_in};
 ghost use Rattle.open_node.specs.View.{heard_of};
+ghost use Rattle.open_node.specs.declared.open_node.TheConstants.{TURN_ENTRIES};
 
 use journal_laws::runs_no_conflicting_ones_side_by_side;
 use mate_num::{ContextId, HandlerId, Payload, Stamp};
@@ -43,7 +44,7 @@ pub fn a_waiting_invocation_holds_its_locks(
     requires context { ctx.0 < CONTEXTS_MAX }
     requires some { 0 < n }
     requires timely { IsTimely at node.old.log }
-    requires room { 16 ≤ node.old.log.spare }
+    requires room { TURN_ENTRIES ≤ node.old.log.spare }
     ensures { AreApart (machine_in node.new.description) (heard_of node.new) }
 {
     runs_no_conflicting_ones_side_by_side();

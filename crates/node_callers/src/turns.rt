@@ -8,6 +8,7 @@ ghost use Rattle.mate_journal.specs.Turns.{entry_at, mark_of};
 ghost use Rattle.node_invariant.specs.Keeps.{IsTimely};
 ghost use Rattle.node_invariant.specs.Meaning.{machine_in};
 ghost use Rattle.open_node.specs.View.{heard_of, HasPace, Tells};
+ghost use Rattle.open_node.specs.declared.open_node.TheConstants.{SETTLING_ENTRIES, TURN_ENTRIES};
 ghost use Rattle.node_callers.specs.Told.{ExecutesAll, TellsFirst};
 
 use mate_num::{ContextId, Stamp};
@@ -21,7 +22,7 @@ pub fn a_step_is_as_long_as_it_is_told(
 ) -> Result<u32, NotReady>
     requires context { ctx.0 < CONTEXTS_MAX }
     requires timely { IsTimely at node.old.log }
-    requires room { 16 ≤ node.old.log.spare }
+    requires room { TURN_ENTRIES ≤ node.old.log.spare }
     ensures { IfOk result (λ ran. Tells node.old node.new at
         (ExecutesAll (machine_in node.old.description) (heard_of node.old) ctx 7 ran)) }
 {
@@ -30,7 +31,7 @@ pub fn a_step_is_as_long_as_it_is_told(
 
 pub fn nobody_is_ready_once_all_settled(node: &mut OpenNode, at: Stamp) -> bool
     requires timely { IsTimely at node.old.log }
-    requires room { 32 ≤ node.old.log.spare }
+    requires room { SETTLING_ENTRIES ≤ node.old.log.spare }
     ensures { (p : Pace) → HasPace node.old p → result ≡ false }
 {
     node.settle(at);
@@ -41,7 +42,7 @@ pub fn nobody_is_ready_once_all_settled(node: &mut OpenNode, at: Stamp) -> bool
 /// the second's mark is recorded first.
 pub fn turns_of_a_quantum_go_round(node: &mut OpenNode, at: Stamp)
     requires timely { IsTimely at node.old.log }
-    requires room { 32 ≤ node.old.log.spare }
+    requires room { SETTLING_ENTRIES ≤ node.old.log.spare }
     ensures { (a b : ℕ) (rest : List ℕ) → Tells node.old node.new at (λ p told _. p.line ≡ a ∷ b ∷ rest → a ≢ b
         → p.counts a + node.old.description.quantum < mark_of (machine_in node.old.description) (heard_of node.old) a
         → mark_of (machine_in node.old.description) (heard_of node.old) b ≤ p.counts b + node.old.description.quantum

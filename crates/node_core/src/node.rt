@@ -13,6 +13,7 @@ ghost use Rattle.node_calls.specs.Calls.{NobodyWaits};
 ghost use Rattle.node_calls.specs.Posting.{PostGives};
 ghost use Rattle.node_calls.specs.Installing.{InstallsBytes, Refuses};
 ghost use Rattle.open_node.specs.Journal.{KeepsJournal};
+ghost use Rattle.open_node.specs.declared.open_node.TheConstants.{SETTLING_ENTRIES, TURN_ENTRIES};
 
 use mate_journal::{NodeLog, VoidCause};
 use mate_num::{ContextId, HandlerId, Image, NoMemory, Payload, Stamp};
@@ -78,7 +79,7 @@ impl Node {
         requires context { ctx.0 < CONTEXTS_MAX }
         requires some { 0 < n }
         requires timely { IsTimely at self.old.log }
-        requires room { 16 ≤ self.old.log.spare }
+        requires room { TURN_ENTRIES ≤ self.old.log.spare }
         ensures { MatchResult result
             (λ ran. Tells self.old self.new at (HasStepped (machine_in self.old.description)
             (heard_of self.old) ctx n ran))
@@ -91,7 +92,7 @@ impl Node {
     /// none is ready.
     pub fn settle(&mut self, at: Stamp)
         requires timely { IsTimely at self.old.log }
-        requires room { 32 ≤ self.old.log.spare }
+        requires room { SETTLING_ENTRIES ≤ self.old.log.spare }
         ensures { Tells self.old self.new at (SettlesWithin (machine_in self.old.description)
             ((self.old.description.turns + 1) * CODE_MAX) (heard_of self.old)) }
     {

@@ -1,4 +1,4 @@
--- One block of values: 16 shared variables, and then room for 10 values in each buffer.
+-- One block of values: `SHARED_MAX` shared variables, and then room for `PAYLOAD_MAX` values in each buffer.
 use Rattle.std.specs.Prelude.{ℕ, ◌+◌, ◌*◌, ℤ, List, [], ◌∷◌, take, drop, slice_index}
 use Rattle.arrayvec.specs.ArrayVec.{ArrayVec}
 use Rattle.mate_num.specs.declared.bounds.TheConstants.{PAYLOAD_MAX, SHARED_MAX}
@@ -11,7 +11,7 @@ start_of buf = SHARED_MAX + buf * PAYLOAD_MAX
 abbrev pub values_of : List ℤ → List ℕ → ℕ → List ℤ
 values_of values lengths buf = take (slice_index lengths buf) (drop (start_of buf) values)
 
--- the buffers with these lengths, each with its values at the front of 10 places
+-- the buffers with these lengths, each with its values at the front of `PAYLOAD_MAX` places
 abbrev pub rows : List ℕ → List ℤ → List (ArrayVec ℤ)
 rows [] values = []
-rows (n ∷ lengths) values = record { items = take n values } ∷ rows lengths (drop 10 values)
+rows (n ∷ lengths) values = record { items = take n values } ∷ rows lengths (drop PAYLOAD_MAX values)

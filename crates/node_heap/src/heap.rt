@@ -2,29 +2,27 @@
 
 ghost use Rattle.std.specs.Prelude.{◌≡◌, ℕ, ◌+◌, ◌*◌, ◌<◌, ◌≤◌, ℤ, pos, [], length, take, drop, slice_index, slice_index_or, Err, MatchOption, ◌↔◌};
 ghost use Rattle.mate_num.specs.Store.{payload, zero_store, value_at, buffer_at, set_value, set_buffer, item_of, item_set, appended, last_of, without_last};
+ghost use Rattle.mate_num.specs.declared.bounds.TheConstants.{BUFFERS_MAX, PAYLOAD_MAX, SHARED_MAX};
 ghost use Rattle.node_heap.specs.Changes.{ChangesBuffer};
 ghost use Rattle.node_heap.specs.Blocks.{start_of, values_of};
 
 use arrayvec::ArrayVec;
-use mate_num::{BufId, FaultKind, Payload, Store, VarId};
+use mate_num::{BUFFERS_MAX, BufId, FaultKind, PAYLOAD_MAX, Payload, SHARED_MAX, Store, VarId};
 use std::marker::Model;
 
-/// Where the buffers' values begin: after 16 shared variables.
-const SHARED: usize = 16;
-
-/// How many values a buffer has room for.
-const ROOM: usize = 10;
+/// How many places the block has.
+const PLACES: usize = SHARED_MAX + BUFFERS_MAX * PAYLOAD_MAX;
 
 /// The shared variables and buffers of a node. Contracts see its store.
 ///
-/// The block has 16 shared variables, and then 10 places for each of 8 buffers. A buffer has its values
+/// The block has `SHARED_MAX` shared variables, and then `PAYLOAD_MAX` places for each buffer. A buffer has its values
 /// at the front of its places, as many as its length says.
 #[derive(Drop)]
 pub struct Heap {
     shared: u8,
     buffers: u8,
-    values: [i16; 96],
-    lengths: [u8; 8],
+    values: [i16; PLACES],
+    lengths: [u8; BUFFERS_MAX],
 }
 
 impl Model for Heap {
@@ -41,24 +39,24 @@ impl Model for Heap {
 
 /// Where the values of a buffer begin.
 fn start_of(buf: BufId) -> usize
-    requires { buf.0 < 8 }
+    requires { buf.0 < BUFFERS_MAX }
     ensures { result ≡ start_of buf.0 }
 {
-    SHARED + usize::from(buf.0) * ROOM
+    SHARED_MAX + usize::from(buf.0) * PAYLOAD_MAX
 }
 
 impl Heap {
     /// A heap of `shared` variables that hold 0, and `buffers` empty buffers.
     pub fn new(shared: u8, buffers: u8) -> Heap
-        requires shared_fits { shared ≤ 16 }
-        requires buffers_fit { buffers ≤ 8 }
+        requires shared_fits { shared ≤ SHARED_MAX }
+        requires buffers_fit { buffers ≤ BUFFERS_MAX }
         ensures { result ≡ zero_store shared buffers }
     {
         Heap {
             shared,
             buffers,
-            values: [0; 96],
-            lengths: [0; 8],
+            values: [0; PLACES],
+            lengths: [0; BUFFERS_MAX],
         }
     }
 
@@ -106,13 +104,13 @@ impl Heap {
         }
     }
 
-    /// Appends a value to a buffer. The fault `BufferFull` comes exactly if it holds 10, and leaves the heap as it was.
+    /// Appends a value to a buffer. The fault `BufferFull` comes exactly if it holds `PAYLOAD_MAX`, and leaves the heap as it was.
     pub fn append(&mut self, buf: BufId, value: i16) -> Result<(), FaultKind>
         requires { buf.0 < length self.old.buffers.items }
         ensures { ChangesBuffer self.old buf.0 (appended (buffer_at self.old buf.0) value) result self.new }
     {
         let size = self.buffer_values(buf).len();
-        if size >= ROOM {
+        if size >= PAYLOAD_MAX {
             return Err(FaultKind::BufferFull);
         }
         self.values[start_of(buf) + size] = value;
@@ -153,7 +151,7 @@ impl Heap {
         self.values[..values.len()].copy_from_slice(values);
     }
 
-    /// How many values are in a buffer, from 0 to 10.
+    /// How many values are in a buffer, from 0 to `PAYLOAD_MAX`.
     pub fn size(&self, buf: BufId) -> i16
         requires { buf.0 < length self.now.buffers.items }
         ensures { result ≡ pos (length (buffer_at self.now buf.0)) }
@@ -179,7 +177,7 @@ impl Heap {
         let Ok(shared) = ArrayVec::try_from(self.variables()) else {
             unreachable!()
         };
-        let mut buffers: ArrayVec<Payload, 8> = ArrayVec::new();
+        let mut buffers: ArrayVec<Payload, BUFFERS_MAX> = ArrayVec::new();
         for buf in 0..self.buffer_count() {
             buffers.push(self.payload(BufId(buf)));
         }
@@ -189,7 +187,7 @@ impl Heap {
     /// How many buffers there are.
     fn buffer_count(&self) -> u8
         ensures value { result ≡ length self.now.buffers.items }
-        ensures fits { result ≤ 8 }
+        ensures fits { result ≤ BUFFERS_MAX }
     {
         self.buffers
     }
@@ -197,7 +195,7 @@ impl Heap {
     /// The values of the shared variables, in their order.
     pub fn variables(&self) -> &[i16]
         ensures value { result.now ≡ self.now.shared.items }
-        ensures fits { length result.now ≤ 16 }
+        ensures fits { length result.now ≤ SHARED_MAX }
     {
         &self.values[..usize::from(self.shared)]
     }
@@ -206,8 +204,8 @@ impl Heap {
     fn buffer_values(&self, buf: BufId) -> &[i16]
         requires { buf.0 < length self.now.buffers.items }
         ensures value { result.now ≡ buffer_at self.now buf.0 }
-        ensures fits { length result.now ≤ 10 }
-        ensures in_range { buf.0 < 8 }
+        ensures fits { length result.now ≤ PAYLOAD_MAX }
+        ensures in_range { buf.0 < BUFFERS_MAX }
     {
         let size = usize::from(self.lengths[usize::from(buf.0)]);
         let start = start_of(buf);

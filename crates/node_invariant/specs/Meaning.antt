@@ -2,6 +2,7 @@
 use Rattle.std.specs.Prelude.{ℕ, [], Result, Ok, Err, drop}
 use Rattle.std.specs.Result.{result_unwrap_or}
 use Rattle.arrayvec.specs.ArrayVec.{ArrayVec}
+use Rattle.mate_num.specs.declared.bounds.TheConstants.{IMAGE_HEAD}
 use Rattle.mate_num.specs.declared.shape.Shape.{Shape}
 use Rattle.mate_code.specs.declared.decoding.DecodeFault.{DecodeFault}
 use Rattle.mate_code.specs.Code.{decoded}
@@ -13,9 +14,9 @@ use Rattle.mate_journal.specs.Machine.{Machine, Meaning}
 use Rattle.vm_desc.specs.declared.description.Description.{Description}
 use Rattle.vm_desc.specs.Shapes.{shape_of}
 
--- the code of an image, which is after the first 16 bytes
+-- the code of an image, which is after its head
 unfoldable pub image_code : Shape → ArrayVec ℕ → Code
-image_code shape image = result_unwrap_or (decoded (table_of shape) (drop 16 image.items)) []
+image_code shape image = result_unwrap_or (decoded (table_of shape) (drop IMAGE_HEAD image.items)) []
 
 -- a program's run is that of its code, in which it comes as far as its code does, and it uses what its code uses
 abbrev pub meaning_of : Shape → Meaning

@@ -11,7 +11,7 @@ ghost use Rattle.opcode_gen.specs.TableText.{names_of_functions, table_row, tabl
 use arrayvec::ArrayVec;
 use mate_code::{Kind, Table};
 use mate_files::{Pen, Sink, SinkFault};
-use mate_num::Name;
+use mate_num::{FUNCTIONS_MAX, Name};
 use vm_desc::{Description, shape};
 
 /// The opcode table of the machine.
@@ -22,7 +22,7 @@ pub fn table(desc: &Description) -> Table
 }
 
 /// The names of the machine's functions, in their order. It takes no memory.
-pub fn function_names(desc: &Description) -> ArrayVec<Name, 32>
+pub fn function_names(desc: &Description) -> ArrayVec<Name, FUNCTIONS_MAX>
     ensures { result.items ≡ names_of_functions desc.now }
 {
     let mut names = ArrayVec::new();

@@ -17,12 +17,13 @@ ghost use Rattle.mate_journal.specs.Entries.{IsEntryInRange};
 ghost use Rattle.mate_journal.specs.declared.entry.Stamped.{Stamped as Entered};
 ghost use Rattle.open_node.specs.Journal.{KeepsJournal};
 ghost use Rattle.open_node.specs.Start.{AreNewParts};
+ghost use Rattle.open_node.specs.declared.open_node.TheConstants.{SETTLING_ENTRIES, TURN_ENTRIES};
 
 use crate::shared_machine::SharedMachine;
 use crate::standing::{Asked, NotReady, Standing};
 use journal_laws::asks_devices_in_order;
 use mate_journal::{NodeLog, OpenLog, Stamped};
-use mate_num::{ContextId, HandlerId, Image, NoMemory, Stamp};
+use mate_num::{CONTEXTS_MAX, ContextId, HandlerId, Image, NoMemory, Stamp};
 use node_calls::{settle, take_turn};
 use node_contexts::{Contexts, Handlers};
 use node_heap::Heap;
@@ -30,6 +31,13 @@ use node_invariant::Parts;
 use std::alloc::Global;
 use std::marker::Model;
 use vm_desc::Description;
+
+/// The most entries that one turn makes: its invocation asks or ends, and then one invocation may start in each of the
+/// other contexts.
+pub const TURN_ENTRIES: usize = CONTEXTS_MAX;
+
+/// The most entries that are made until no invocation is ready: in each context one starts, and then asks or ends.
+pub const SETTLING_ENTRIES: usize = 2 * CONTEXTS_MAX;
 
 /// A node whose entries can be forgotten. Contracts see the node with its whole log, and how much of it is gone. After a
 /// `reserve` its calls take no memory.
@@ -131,7 +139,7 @@ impl OpenNode {
         requires context { ctx.0 < CONTEXTS_MAX }
         requires some { 0 < n }
         requires timely { IsTimely at self.old.log }
-        requires room { 16 ≤ self.old.log.spare }
+        requires room { TURN_ENTRIES ≤ self.old.log.spare }
         ensures { MatchResult result
             (λ ran. Tells self.old self.new at (HasStepped (machine_in self.old.description)
             (heard_of self.old) ctx n ran))
@@ -147,7 +155,7 @@ impl OpenNode {
     /// none is ready.
     pub fn settle(&mut self, at: Stamp)
         requires timely { IsTimely at self.old.log }
-        requires room { 32 ≤ self.old.log.spare }
+        requires room { SETTLING_ENTRIES ≤ self.old.log.spare }
         ensures { Tells self.old self.new at (SettlesWithin (machine_in self.old.description)
             ((self.old.description.turns + 1) * CODE_MAX) (heard_of self.old)) }
     {

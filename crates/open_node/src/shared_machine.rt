@@ -47,7 +47,7 @@ impl SharedMachine {
         SharedMachine::of(alloc, description, Vec::new(alloc))
     }
 
-    /// The machine, with the capsules among the images of the programs: the first 64 different ones if there are more.
+    /// The machine, with the capsules among the images of the programs: the first `READY_MAX` different ones if there are more.
     pub fn with_programs(
         alloc: Global,
         description: &Description,

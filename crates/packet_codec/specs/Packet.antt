@@ -2,14 +2,15 @@
 use Rattle.std.specs.Prelude.{◌≡◌, ℕ, ◌+◌, ◌<◌, ◌≤◌, ◌^◌, ℤ, Bool, true, false, List, length, All, FitsSigned}
 use Rattle.std.specs.Int.{w16}
 use Rattle.mate_num.specs.declared.bounds.TheConstants.{FRAGMENTS_MAX}
+use Rattle.capsule_codec.specs.declared.fragments.TheConstants.{PIECE_MAX, SHORT_PIECE}
 use Rattle.capsule_codec.specs.Image.{IsBytes}
 use Rattle.packet_codec.specs.declared.packet.Packet.{Packet}
 use Rattle.packet_codec.specs.declared.packet.Packet.TheVariants.{Vector, Status, Fragment, App}
 
 -- the length of the pieces of an image, but of its last one
 abbrev pub full_len : Bool → ℕ
-full_len true = 48
-full_len false = 24
+full_len true = PIECE_MAX
+full_len false = SHORT_PIECE
 
 -- a handler of the machine, a version, and at least one of the fragments that an image can have
 pub record IsRightStatus (handlers handler version missing : ℕ) : Type 0 where
@@ -18,7 +19,7 @@ pub record IsRightStatus (handlers handler version missing : ℕ) : Type 0 where
   pub missing_low : 1 ≤ missing
   pub missing_high : missing < 2 ^ FRAGMENTS_MAX
 
--- a handler of the machine, a version, one of 1 to 22 fragments, and a piece, which is full but for the last one
+-- a handler of the machine, a version, one of 1 to `FRAGMENTS_MAX` fragments, and a piece, which is full but for the last one
 pub record IsRightFragment (handlers handler version index count : ℕ) (large : Bool) (bytes : List ℕ) : Type 0 where
   pub handler_high : handler < handlers
   pub version_low : 1 ≤ version

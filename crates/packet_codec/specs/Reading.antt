@@ -37,7 +37,7 @@ app_in (count ∷ bytes) =
     else if not (nat_le count 10) then Err BadField
     else Ok (App (record { items = values_in bytes }))
 
--- a handler of the machine, a version, and a mask of some of 22 fragments
+-- a handler of the machine, a version, and a mask of some of `FRAGMENTS_MAX` fragments
 abbrev pub is_status : ℕ → ℕ → ℕ → ℕ → Bool
 is_status handlers handler version missing = (nat_lt handler handlers && not (version == 0)) && is_in_range 1 4194303 missing
 
@@ -47,7 +47,7 @@ status_read handlers (handler ∷ v0 ∷ v1 ∷ v2 ∷ v3 ∷ m0 ∷ m1 ∷ m2 �
     else Ok (Status (record { 0 = handler }) (u32_of v0 v1 v2 v3) (u32_of m0 m1 m2 m3))
 status_read handlers _ = Err BadLength
 
--- a handler of the machine, a version, 1 to 22 fragments, one of them, and a full piece unless it is the last one
+-- a handler of the machine, a version, 1 to `FRAGMENTS_MAX` fragments, one of them, and a full piece unless it is the last one
 abbrev pub is_fragment : ℕ → ℕ → ℕ → ℕ → ℕ → Bool → ℕ → Bool
 is_fragment handlers handler version index count large len =
     ((nat_lt handler handlers && not (version == 0)) && (nat_le count FRAGMENTS_MAX && nat_lt index count))

@@ -8,7 +8,7 @@ ghost use Rattle.packet_codec.specs.Packet.{full_len, IsRightPacket, HasPacketRa
 
 use crate::packet::Packet;
 use arrayvec::ArrayVec;
-use capsule_codec::Piece;
+use capsule_codec::{PIECE_MAX, Piece, SHORT_PIECE};
 use mate_num::{FRAGMENTS_MAX, HandlerId, Payload};
 use vm_desc::Description;
 
@@ -178,7 +178,7 @@ fn is_fragment(
 fn full_len(large: bool) -> usize
     ensures { result ≡ full_len large }
 {
-    if large { 48 } else { 24 }
+    if large { PIECE_MAX } else { SHORT_PIECE }
 }
 
 fn read_app(body: &[u8]) -> Result<Packet, PacketFault>

@@ -15,14 +15,14 @@ pub enum Packet {
         versions: ArrayVec<u32, 8>,
     },
     /// Fragments that the sender lacks of a version, from 1 on, of a handler: bit `i` of `missing` asks for fragment
-    /// `i`, of at most 22, and at least one bit is set.
+    /// `i`, of at most `FRAGMENTS_MAX`, and at least one bit is set.
     Status {
         handler: HandlerId,
         version: u32,
         missing: u32,
     },
-    /// A piece of an image: number `index`, from 0, of `count`, at most 22. It has 1 to 24 bytes, or 1 to 48 if
-    /// `large` is true. Every piece but the last one has 24 or 48.
+    /// A piece of an image: number `index`, from 0, of `count`, at most `FRAGMENTS_MAX`. It has 1 to `SHORT_PIECE`
+    /// bytes, or 1 to `PIECE_MAX` if `large` is true. Every piece but the last one has as many as it can.
     Fragment {
         handler: HandlerId,
         version: u32,

@@ -5,7 +5,7 @@ ghost use Rattle.proc_renaming.specs.Renaming.{parameter_name, parameter_decls};
 
 use arrayvec::ArrayString;
 use itoa::Buffer;
-use mate_num::{Name, NoMemory};
+use mate_num::{NAME_MAX, Name, NoMemory};
 use std::alloc::Global;
 use ts_syntax::{Decl, DeclKind, Decls, Word};
 
@@ -14,7 +14,7 @@ pub fn parameter_name(number: u32) -> Name
     ensures { result ≡ parameter_name number }
 {
     let mut digits = Buffer::new();
-    let mut text = ArrayString::<16>::new();
+    let mut text = ArrayString::<NAME_MAX>::new();
     text.push_str("_");
     text.push_str(digits.format(number));
     let Some(name) = Name::new(text.as_str()) else {

@@ -5,6 +5,7 @@ use Rattle.event_queue.specs.Agenda.{Agenda, scheduled_all}
 use Rattle.mate_journal.specs.declared.air.Aired.{Aired}
 use Rattle.world_script.specs.declared.world.World.{World}
 use Rattle.vm_desc.specs.declared.description.Description.{Description}
+use Rattle.radio_sim.specs.declared.radio.TheConstants.{NODES}
 use Rattle.radio_sim.specs.declared.event.Event.{Event}
 use Rattle.radio_sim.specs.declared.waiting.Waiting.{Waiting}
 use Rattle.radio_sim.specs.declared.wire.Wire.{Wire}
@@ -46,7 +47,7 @@ packets node senders = count_by (λ s. s == node) senders
 -- word number n of the link's stream
 pub record IsEtherOf (w : World) (senders : List ℕ) (e : Ether) : Type 0 where
   pub sent : e.sent ≡ length senders
-  pub wires : (node : ℕ) → node < 256 → wires_of e node ≡ leaving w.random (packets node senders) node 0 w.links
+  pub wires : (node : ℕ) → node < NODES → wires_of e node ≡ leaving w.random (packets node senders) node 0 w.links
 
 -- nothing waits and nothing was sent
 pub record StartsRadio (w : World) (d : Description) (e : Ether) : Type 0 where
@@ -65,4 +66,4 @@ pub record IsRightRadio (queue : Agenda Waiting) (came : ℕ) (past : List Aired
   pub gone_few : gone < 4000000000
   pub counted : sent ≤ length (past ++ airs)
   pub near : delay ≤ 10000
-  pub nodes : length wires ≡ 256
+  pub nodes : length wires ≡ NODES

@@ -4,6 +4,7 @@ use Rattle.arrayvec.specs.ArrayVec.{ArrayVec}
 use Rattle.mate_journal.specs.declared.air.Air.TheVariants as air
 use Rattle.mate_journal.specs.declared.air.Aired.{Aired}
 use Rattle.world_script.specs.declared.world.Link.{Link}
+use Rattle.radio_sim.specs.declared.radio.TheConstants.{NODES}
 use Rattle.radio_sim.specs.declared.wire.Wire.{Wire}
 use Rattle.radio_sim.specs.declared.wire.Sending.{Sending}
 use Rattle.radio_sim.specs.Wires.{leaving}
@@ -18,4 +19,4 @@ pub record IsFurther (old new : List Aired) : Type 0 where
 
 -- each node has the links that leave it, before their first packet
 abbrev pub AreLeaving : ℕ → List Link → List (List Wire) → Type 0
-AreLeaving random links wires = (node : ℕ) → node < 256 → slice_index_or wires node [] ≡ leaving random 0 node 0 links
+AreLeaving random links wires = (node : ℕ) → node < NODES → slice_index_or wires node [] ≡ leaving random 0 node 0 links

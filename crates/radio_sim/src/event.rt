@@ -1,6 +1,7 @@
 //! What waits for its time in a world.
 
 ghost use Rattle.std.specs.Prelude.{◌≡◌, ◌<◌};
+ghost use Rattle.event_queue.specs.declared.group.TheConstants.{GROUPS};
 
 use crate::shared::SharedPacket;
 use event_queue::Grouped;
@@ -60,7 +61,7 @@ impl Cancel {
     /// The number of the group.
     pub fn number(self) -> u16
         ensures value { result ≡ cancel_number self }
-        ensures below { result < 1024 }
+        ensures below { result < GROUPS }
     {
         match self {
             Cancel::Timer(node) => u16::from(node),

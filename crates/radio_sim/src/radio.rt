@@ -7,6 +7,7 @@ ghost use Rattle.world_script.specs.World.{IsRightWorld};
 ghost use Rattle.std.specs.List.{All};
 ghost use Rattle.mate_num.specs.declared.bounds.TheConstants.{HOUR};
 ghost use Rattle.world_script.specs.declared.world.Link.{Link};
+ghost use Rattle.radio_sim.specs.declared.radio.TheConstants.{NODES};
 ghost use Rattle.radio_sim.specs.Events.{group_of, cancel_number};
 ghost use Rattle.radio_sim.specs.declared.waiting.Delivery.{Delivery as Coming};
 ghost use Rattle.radio_sim.specs.Waiting.{first_event, later_deliveries, radio_agenda, IsOnTime};
@@ -301,8 +302,8 @@ fn send(
 /// The links that leave each node, each with its stream of words.
 fn wires_of(alloc: Global, random: u64, links: &[Link]) -> Result<Vec<Wires>, NoMemory>
     requires few { length links.now < 2 ^ 32 }
-    requires near { All (λ (l : Link). l.from < 256) links.now }
-    ensures nodes { IfOk result (λ wires. length wires.items ≡ 256) }
+    requires near { All (λ (l : Link). l.from < NODES) links.now }
+    ensures nodes { IfOk result (λ wires. length wires.items ≡ NODES) }
     ensures leaving { IfOk result (λ wires. AreLeaving random links.now wires.items) }
 {
     let mut wires = none_leaving(alloc)?;
@@ -314,7 +315,7 @@ fn wires_of(alloc: Global, random: u64, links: &[Link]) -> Result<Vec<Wires>, No
 
 /// No link for each node.
 fn none_leaving(alloc: Global) -> Result<Vec<Wires>, NoMemory>
-    ensures nodes { IfOk result (λ wires. length wires.items ≡ 256) }
+    ensures nodes { IfOk result (λ wires. length wires.items ≡ NODES) }
     ensures empty { IfOk result (λ wires. (node : ℕ) → slice_index_or wires.items node [] ≡ []) }
 {
     let mut wires = Vec::new(alloc);

@@ -115,8 +115,8 @@ continues-above b h = grind (arith, nat_tests, and_parts)
 form-written : (w : List ℕ) → has_form w ≡ true → is_written w ≡ true
 form-written [] h = absurd cc
 form-written (c ∷ cs) h =
-    let parts = and_parts (nat_le (length cs) 15 && begins_name c) (list_all continues_name cs) h in
-    let head = and_parts (nat_le (length cs) 15) (begins_name c) parts.0 in
+    let parts = and_parts (nat_lt (length cs) 16 && begins_name c) (list_all continues_name cs) h in
+    let head = and_parts (nat_lt (length cs) 16) (begins_name c) parts.0 in
     and_from (is_above c) (is_written cs) (begins-above c head.1) (list_all-weaker continues_name is_above continues-above cs parts.1)
 
 pub name-written : (w : List ℕ) → is_name w ≡ true → is_written w ≡ true

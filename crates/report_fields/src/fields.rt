@@ -13,7 +13,7 @@ use crate::names::{context_of, function_of, handler_of};
 use crate::numbers::value;
 use crate::words::Words;
 use mate_journal::DropCause;
-use mate_num::{ContextId, FaultKind, FunId, HandlerId, Image, PacketBytes, Payload};
+use mate_num::{ContextId, FaultKind, FunId, HandlerId, Image, NODES_MAX, PacketBytes, Payload};
 use vm_desc::Description;
 
 /// A number below 2^64.
@@ -43,12 +43,12 @@ pub fn next_number(words: &mut Words) -> Option<u32>
     Some(number as u32)
 }
 
-/// The number of a node, below 64.
+/// The number of a node, below `NODES_MAX`.
 pub fn next_node(words: &mut Words) -> Option<u8>
     ensures value { result ≡ first node_of words.old }
     ensures left { words.new ≡ rest words.old }
 {
-    let number = next_below(words, 64)?;
+    let number = next_below(words, NODES_MAX as u64)?;
     Some(number as u8)
 }
 

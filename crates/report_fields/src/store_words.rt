@@ -9,11 +9,8 @@ ghost use Rattle.report_fields.specs.Stores.{store_of};
 use crate::numbers::value;
 use crate::words::Words;
 use arrayvec::ArrayVec;
-use mate_num::{Name, Payload, Store};
+use mate_num::{BUFFERS_MAX, Name, PAYLOAD_MAX, Payload, SHARED_MAX, Store};
 use vm_desc::Description;
-
-// The most values that a buffer holds.
-const VALUES_MAX: usize = 10;
 
 /// What stands behind `front` in a word that begins so.
 fn after<'a>(front: &[u8], word: &'a [u8]) -> Option<&'a [u8]>
@@ -48,10 +45,13 @@ fn next_shared(name: &Name, words: &mut Words) -> Option<i16>
 }
 
 /// A value for each shared variable.
-fn shared(names: &ArrayVec<Name, 16>, words: &mut Words) -> Option<ArrayVec<i16, 16>>
+fn shared(
+    names: &ArrayVec<Name, SHARED_MAX>,
+    words: &mut Words,
+) -> Option<ArrayVec<i16, SHARED_MAX>>
     ensures { option_map (λ values. (values.items, words.new)) result ≡ shared_after [] names.now.items words.old }
 {
-    let mut values: ArrayVec<i16, 16> = ArrayVec::new();
+    let mut values: ArrayVec<i16, SHARED_MAX> = ArrayVec::new();
     for name in names.as_slice() {
         values.push(next_shared(name, words)?);
     }
@@ -64,7 +64,7 @@ fn items(begin: &[u8], words: &mut Words) -> Option<Payload>
 {
     let mut values = Payload::new();
     let mut word = begin;
-    while values.len() < VALUES_MAX {
+    while values.len() < PAYLOAD_MAX {
         if let Some(inner) = closed(word) {
             values.push(value(inner)?);
             return Some(values);
@@ -94,10 +94,13 @@ fn buffer(name: &Name, words: &mut Words) -> Option<Payload>
 }
 
 /// The values of each buffer.
-fn buffers(names: &ArrayVec<Name, 8>, words: &mut Words) -> Option<ArrayVec<Payload, 8>>
+fn buffers(
+    names: &ArrayVec<Name, BUFFERS_MAX>,
+    words: &mut Words,
+) -> Option<ArrayVec<Payload, BUFFERS_MAX>>
     ensures { option_map (λ all. (all.items, words.new)) result ≡ buffers_after [] names.now.items words.old }
 {
-    let mut all: ArrayVec<Payload, 8> = ArrayVec::new();
+    let mut all: ArrayVec<Payload, BUFFERS_MAX> = ArrayVec::new();
     for name in names.as_slice() {
         all.push(buffer(name, words)?);
     }

@@ -33,7 +33,7 @@ pub enum LightTold {
 #[derive(Drop)]
 pub struct LightLine {
     pub stamp: Stamp,
-    /// Below 64.
+    /// Below `NODES_MAX`.
     pub node: u8,
     pub told: LightTold,
 }

@@ -32,7 +32,7 @@ pub enum Told {
 #[derive(Drop)]
 pub struct Line {
     pub stamp: Stamp,
-    /// Below 64.
+    /// Below `NODES_MAX`.
     pub node: u8,
     pub told: Told,
 }

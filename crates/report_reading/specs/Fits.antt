@@ -59,7 +59,7 @@ pub record IsLineBelow (nodes : ℕ) (l : Line) : Type 0 where
   pub node : l.node < nodes
   pub told : IsToldBelow nodes l.told
 
--- a last line fits after lines: it counts them, and its 1 to 64 nodes are more than each node number in them
+-- a last line fits after lines: it counts them, and its 1 to `NODES_MAX` nodes are more than each node number in them
 pub record FitsLast (ls : List Line) (e : LastLine) : Type 0 where
   pub ranges : HasLastRanges e
   pub records : e.records ≡ length ls

@@ -18,7 +18,7 @@ use Rattle.report_reading.specs.declared.parts.Parts.{Parts}
 use Rattle.report_reading.specs.declared.fault.TextFault.{TextFault}
 use Rattle.report_reading.specs.declared.fault.TextFault.TheVariants.{BadLine, NoMemory}
 
--- the logs of the 64 nodes that there can be
+-- the logs of the `NODES_MAX` nodes that there can be
 pub record AreLogsOf (ls : List Line) (logs : List Log) : Type 0 where
   pub count : length logs ≡ NODES_MAX
   pub same : (node : ℕ) (d : Log) → node < NODES_MAX → IsSameLog (slice_index_or logs node d) (log_of node ls)

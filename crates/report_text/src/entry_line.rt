@@ -2,6 +2,7 @@
 
 ghost use Rattle.std.specs.Prelude.{◌≡◌, ◌+◌, ◌*◌, ◌≤◌, ◌++◌, codes, length, slice_get};
 ghost use Rattle.mate_files.specs.Pen.{Prints};
+ghost use Rattle.mate_num.specs.declared.bounds.TheConstants.{NAME_MAX};
 ghost use Rattle.mate_journal.specs.Log.{Log};
 ghost use Rattle.report_text.specs.Chunk.{IsInFront};
 ghost use Rattle.report_text.specs.Words.{handler_name, function_name, number, word, values, void_words, image_word, image_text, seen_words};
@@ -120,7 +121,7 @@ fn short_in_front(line: &mut Chunk<LINE>, desc: &Description, entry: &Entry)
 
 /// What a post has before its values.
 fn post_in_front(line: &mut Chunk<LINE>, inv: u32, handler: &[u8], ctx: ContextId)
-    requires handler { length handler.now ≤ 16 }
+    requires handler { length handler.now ≤ NAME_MAX }
     requires few { length line.old ≤ 80 }
     ensures adds { IsInFront line.old line.new (codes " post" ++ number inv ++ word handler.now ++ number ctx.0) }
     ensures fits { length line.new ≤ length line.old + 37 }
@@ -152,7 +153,7 @@ fn install_head<S: Sink>(
     handler: &[u8],
     version: u32,
 )
-    requires { length handler.now ≤ 16 }
+    requires { length handler.now ≤ NAME_MAX }
     ensures { Prints (S.written out.old) (S.faults out.old) pen.old.result (S.written out.new) (S.faults out.new) pen.new.result
         (stamp_words stamp node ++ (codes " install" ++ word handler.now ++ number version ++ codes " ")) }
 {
@@ -173,7 +174,7 @@ fn install_line<S: Sink>(
     version: u32,
     image: &[u8],
 )
-    requires { length handler.now ≤ 16 }
+    requires { length handler.now ≤ NAME_MAX }
     ensures { Prints (S.written out.old) (S.faults out.old) pen.old.result (S.written out.new) (S.faults out.new) pen.new.result
         (stamp_words stamp node ++ (codes " install" ++ word handler.now ++ number version ++ word (image_word image.now)) ++ codes "\n") }
 {
@@ -283,7 +284,7 @@ fn shown_in_front<const ROOM: usize>(
 /// The name of a handler, or no bytes if the description has no such handler.
 pub fn handler_name(desc: &Description, handler: HandlerId) -> &[u8]
     ensures value { result.now ≡ handler_name desc.now handler }
-    ensures fits { length result.now ≤ 16 }
+    ensures fits { length result.now ≤ NAME_MAX }
 {
     match desc.handlers.as_slice().get(handler.0 as usize) {
         Some(handler) => handler.name.as_bytes(),
@@ -294,7 +295,7 @@ pub fn handler_name(desc: &Description, handler: HandlerId) -> &[u8]
 /// The name of a function, or no bytes if the description has no such function.
 fn function_name(desc: &Description, fun: FunId) -> &[u8]
     ensures value { result.now ≡ function_name desc.now fun }
-    ensures fits { length result.now ≤ 16 }
+    ensures fits { length result.now ≤ NAME_MAX }
 {
     match desc.functions.as_slice().get(fun.0 as usize) {
         Some(function) => function.name.as_bytes(),

@@ -2,6 +2,7 @@
 
 ghost use Rattle.std.specs.Prelude.{◌+◌, ◌*◌, ◌≤◌, flat_map, length};
 ghost use Rattle.std.specs.List.{zip};
+ghost use Rattle.mate_num.specs.declared.bounds.TheConstants.{PAYLOAD_MAX};
 ghost use Rattle.report_text.specs.Chunk.{IsInFront};
 ghost use Rattle.report_text.specs.Words.{spaced, shared_word, buffer_word, store_words};
 
@@ -65,7 +66,7 @@ fn buffers_in_front<const ROOM: usize>(line: &mut Chunk<ROOM>, names: &[Name], s
 }
 
 fn buffer_word<const ROOM: usize>(line: &mut Chunk<ROOM>, name: &Name, values: &[i16])
-    requires few { length values.now ≤ 10 }
+    requires few { length values.now ≤ PAYLOAD_MAX }
     requires room { length line.old + 89 ≤ ROOM }
     ensures adds { IsInFront line.old line.new (buffer_word (name.now, record { items = values.now })) }
     ensures fits { length line.new ≤ length line.old + 89 }
@@ -79,7 +80,7 @@ fn buffer_word<const ROOM: usize>(line: &mut Chunk<ROOM>, name: &Name, values: &
 
 /// The values with a space between two.
 fn spaced_in_front<const ROOM: usize>(line: &mut Chunk<ROOM>, vs: &[i16])
-    requires few { length vs.now ≤ 10 }
+    requires few { length vs.now ≤ PAYLOAD_MAX }
     requires room { length line.old + 69 ≤ ROOM }
     ensures adds { IsInFront line.old line.new (spaced vs.now) }
     ensures fits { length line.new ≤ length line.old + 69 }

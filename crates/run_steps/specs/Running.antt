@@ -19,6 +19,7 @@ use Rattle.mate_journal.specs.declared.report.TheConstants.{RECORDS_MAX}
 use Rattle.journal_laws.specs.Growth.{EndsWithPace}
 use Rattle.node_invariant.specs.Meaning.{machine_in}
 use Rattle.node_invariant.specs.Keeps.{IsTimely}
+use Rattle.open_node.specs.declared.open_node.TheConstants.{SETTLING_ENTRIES}
 use Rattle.open_node.specs.View.{NodeView, heard_of, HasPace}
 use Rattle.journal_laws.specs.InRange.{IsInRange}
 use Rattle.node_programs.specs.Sources.{meaning_by}
@@ -51,7 +52,7 @@ report_with l events whole = record { nodes = l ∷ []; air = []; events = event
 pub record IsReadyFor (v : NodeView) (at : Stamp) : Type 0 where
   pub timely : IsTimely at v.log
   pub few : length v.log.entries < RECORDS_MAX
-  pub room : 32 ≤ v.log.spare
+  pub room : SETTLING_ENTRIES ≤ v.log.spare
 
 -- what a step makes on a node
 abbrev pub MakesOn : NodeView → node.Step → Pace → List JournalEntry → Pace → Type 0

@@ -12,6 +12,7 @@ use crate::heap_node::HeapNode;
 use crate::running::is_full;
 use mate_journal::Programs;
 use mate_num::{NoMemory, Stamp};
+use open_node::SETTLING_ENTRIES;
 use report_summary::{LogTally, Summary};
 use script_reader::Steps;
 use std::alloc::Global;
@@ -52,7 +53,7 @@ pub fn sum_steps(
         if is_full(&node) {
             return summary_of(alloc, &node, tally, events, false);
         }
-        node.count(&mut tally, 32)?;
+        node.count(&mut tally, SETTLING_ENTRIES)?;
         events += 1;
         let at = Stamp {
             event: events,

@@ -1,6 +1,7 @@
 //! What a step of a script does on a node, as one event.
 
 ghost use Rattle.std.specs.Prelude.{◌≡◌, ◌<◌, ◌≤◌, length};
+ghost use Rattle.mate_num.specs.declared.bounds.TheConstants.{CONTEXTS_MAX};
 ghost use Rattle.vm_desc.specs.Whole.{context_count};
 ghost use Rattle.mate_journal.specs.NodeScript.{Install, StepIn, Answer as AnswerStep};
 ghost use Rattle.script_reader.specs.Steps.{IsRightStep, IsRightTurn};
@@ -34,7 +35,7 @@ fn install(node: &mut OpenNode, program: &Program, at: Stamp)
 fn take_turn(node: &mut OpenNode, ctx: ContextId, n: u32, at: Stamp)
     requires ready { IsReadyFor node.old at }
     requires right { IsRightTurn node.old.description ctx.0 n }
-    requires contexts { context_count node.old.description ≤ 16 }
+    requires contexts { context_count node.old.description ≤ CONTEXTS_MAX }
     ensures { Tells node.old node.new at (MakesOn node.old (StepIn ctx n)) }
 {
     match node.step(ctx, n, at) {
@@ -46,7 +47,7 @@ fn take_turn(node: &mut OpenNode, ctx: ContextId, n: u32, at: Stamp)
 /// Answers the call that the invocation in the context made, or records that none waits there.
 fn answer(node: &mut OpenNode, ctx: ContextId, value: i16, at: Stamp)
     requires ready { IsReadyFor node.old at }
-    requires context { ctx.0 < 16 }
+    requires context { ctx.0 < CONTEXTS_MAX }
     ensures { Tells node.old node.new at (MakesOn node.old (AnswerStep ctx value)) }
 {
     match node.answer(ctx, value, at) {
@@ -70,7 +71,7 @@ pub(crate) fn make_step(node: &mut OpenNode, step: &Step, programs: &Programs, a
     requires ready { IsReadyFor node.old at }
     requires right { IsRightStep node.old.description (length programs.now) step.now }
     requires programs { AreRightPrograms node.old.description programs.now }
-    requires contexts { context_count node.old.description ≤ 16 }
+    requires contexts { context_count node.old.description ≤ CONTEXTS_MAX }
     ensures { Tells node.old node.new at (MakesOn node.old (step_of programs.now step.now)) }
 {
     match step {

@@ -1,6 +1,7 @@
 //! A node on the heap.
 
 ghost use Rattle.std.specs.Prelude.{◌≡◌, ◌<◌, ◌≤◌, ◌+◌, ◌^◌, ℕ, length, take, IfOk, OnOk};
+ghost use Rattle.mate_num.specs.declared.bounds.TheConstants.{CONTEXTS_MAX};
 ghost use Rattle.vm_desc.specs.Whole.{context_count};
 ghost use Rattle.mate_journal.specs.Log.{GoesOn};
 ghost use Rattle.mate_journal.specs.NodeScript.{ShowsOnce};
@@ -82,7 +83,7 @@ impl HeapNode {
         requires ready { IsReadyFor self.old at }
         requires right { IsRightStep self.old.description (length programs.now) step.now }
         requires programs { AreRightPrograms self.old.description programs.now }
-        requires contexts { context_count self.old.description ≤ 16 }
+        requires contexts { context_count self.old.description ≤ CONTEXTS_MAX }
         ensures tells { Tells self.old self.new at (MakesOn self.old (step_of programs.now step.now)) }
         ensures ranges { IsInRange self.old.log self.old.gone → IsInRange self.new.log self.new.gone }
         ensures stamp { HasStampRange at }

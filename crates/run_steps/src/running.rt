@@ -11,6 +11,7 @@ ghost use Rattle.run_steps.specs.Running.{RunGives, report_with};
 use crate::heap_node::HeapNode;
 use mate_journal::{Airs, NodeLogs, Programs, RECORDS_MAX, Report, RunFault};
 use mate_num::Stamp;
+use open_node::SETTLING_ENTRIES;
 use script_reader::Steps;
 use std::alloc::Global;
 use vm_desc::Description;
@@ -62,7 +63,7 @@ pub fn run_steps(
         if is_full(&node) {
             return Err(RunFault::LogFull(report_of(alloc, logs, node, events, false)));
         }
-        node.reserve(32)?;
+        node.reserve(SETTLING_ENTRIES)?;
         events += 1;
         let at = Stamp {
             event: events,

@@ -17,6 +17,7 @@ use crate::running::{is_full, report_of};
 use mate_files::{Sink, SinkFault};
 use mate_journal::{IntoFault, NodeLogs, Programs, Report};
 use mate_num::Stamp;
+use open_node::SETTLING_ENTRIES;
 use report_summary::{Pass, WriteFault, ended, nothing_run, stopped};
 use report_text::{write_end, write_event};
 use script_reader::Steps;
@@ -96,7 +97,7 @@ fn write_run<S: Sink>(
         if is_full(node) {
             return write_last(node, events, false, out);
         }
-        if node.make_room(written, 32).is_err() {
+        if node.make_room(written, SETTLING_ENTRIES).is_err() {
             return no_room(node, events);
         }
         let from = next_position(node);

@@ -8,7 +8,7 @@ ghost use Rattle.world_rules.specs.World.{World, series_in};
 ghost use Rattle.world_rules.specs.State.{series_value};
 
 use arrayvec::ArrayVec;
-use mate_num::FunId;
+use mate_num::{FUNCTIONS_MAX, FunId};
 use rand_core::utils::NextWord;
 use rand_pcg::Lcg64Xsh32;
 use vm_desc::{Description, FunKind};
@@ -18,7 +18,7 @@ use world_script::Series;
 #[derive(Drop)]
 pub struct Calls {
     /// How often each function was called, as far as 64 bits count.
-    pub counts: ArrayVec<u64, 32>,
+    pub counts: ArrayVec<u64, FUNCTIONS_MAX>,
     /// The random words that are left to the node.
     pub words: Lcg64Xsh32,
 }
@@ -112,12 +112,12 @@ impl Calls {
 }
 
 /// No call of any of so many functions.
-fn no_counts(functions: usize) -> ArrayVec<u64, 32>
+fn no_counts(functions: usize) -> ArrayVec<u64, FUNCTIONS_MAX>
     requires { functions ≤ 32 }
     ensures count { length result.items ≡ functions }
     ensures none { All (λ n. n ≡ 0) result.items }
 {
-    let mut counts: ArrayVec<u64, 32> = ArrayVec::new();
+    let mut counts: ArrayVec<u64, FUNCTIONS_MAX> = ArrayVec::new();
     for _ in 0..functions {
         counts.push(0);
     }

@@ -8,21 +8,22 @@ ghost use Rattle.node_invariant.specs.Meaning.{machine_in};
 ghost use Rattle.node_invariant.specs.Keeps.{IsTimely};
 ghost use Rattle.open_node.specs.View.{heard_of, Tells};
 ghost use Rattle.open_node.specs.Calls.{told_from};
+ghost use Rattle.open_node.specs.declared.open_node.TheConstants.{SETTLING_ENTRIES};
 ghost use Rattle.journal_laws.specs.Waiting.{WaitApart, AreAwaited};
 ghost use Rattle.sim_handling.specs.Handling.{IsPaced};
 
 use journal_laws::{settling_leaves_waiting, settling_tells_few, waits_are_apart};
 use mate_num::{NoMemory, Stamp};
-use open_node::OpenNode;
+use open_node::{OpenNode, SETTLING_ENTRIES};
 
-/// The node has turns until nobody is ready there, none if nobody is. They record at most 32 entries, and what calls in them waits
-/// behind them.
+/// The node has turns until nobody is ready there, none if nobody is. They record at most `SETTLING_ENTRIES`, and what calls in
+/// them waits behind them.
 pub(crate) fn have_turns(node: &mut OpenNode, at: Stamp) -> Result<(), NoMemory>
     requires timely { IsTimely at node.old.log }
     requires paced { IsPaced node.old }
     ensures tells { OnOk result (Tells node.old node.new at (Settles (machine_in node.old.description)
         (heard_of node.old))) }
-    ensures few { OnOk result (length node.new.log.entries ≤ length node.old.log.entries + 32) }
+    ensures few { OnOk result (length node.new.log.entries ≤ length node.old.log.entries + SETTLING_ENTRIES) }
     ensures apart { OnOk result (WaitApart (heard_of node.new)) }
     ensures awaited { OnOk result (AreAwaited (heard_of node.new) (told_from (length node.old.log.entries) node.new.log)) }
 {
@@ -33,7 +34,7 @@ pub(crate) fn have_turns(node: &mut OpenNode, at: Stamp) -> Result<(), NoMemory>
     if !node.is_ready() {
         return Ok(());
     }
-    node.reserve(32)?;
+    node.reserve(SETTLING_ENTRIES)?;
     is_well_formed(node);
     node.settle(at);
     is_well_formed(node);

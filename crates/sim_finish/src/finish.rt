@@ -2,6 +2,7 @@
 
 ghost use Rattle.std.specs.Prelude.{◌≡◌, ◌≤◌, ◌+◌, true, List, length, All, OnOk};
 ghost use Rattle.mate_num.specs.declared.bounds.TheConstants.{HOUR};
+ghost use Rattle.open_node.specs.declared.open_node.TheConstants.{SETTLING_ENTRIES};
 ghost use Rattle.packet_codec.specs.Packet.{IsRightPacket};
 ghost use Rattle.mate_journal.specs.declared.program.Program.{Program as ProgramOfFile};
 ghost use Rattle.world_script.specs.World.{IsRightWorld};
@@ -42,7 +43,7 @@ pub fn finish(
     requires ahead { radio.old.agenda.now ≤ at.time }
     requires hour { at.time ≤ HOUR }
     requires few { length radio.old.air ≤ 1000000 }
-    requires short { length mote.old.node.log.entries ≤ from + 32 }
+    requires short { length mote.old.node.log.entries ≤ from + SETTLING_ENTRIES }
     requires wires { length (wires_of radio.old number) ≤ 4096 }
     requires right { All (IsRightPacket (length desc.now.handlers.items)) effect.old.sends.items }
     requires interval { effect.old.begins ≡ true → at.time ≤ mote.old.timer.running.begin }

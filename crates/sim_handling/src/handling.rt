@@ -179,7 +179,7 @@ fn get(
     requires tellable { IsTellable mote.old.node at }
     requires few { length mote.old.node.log.entries < 1000000000 }
     requires paced { IsPaced mote.old.node }
-    requires hour { at.time ≤ 3600000 }
+    requires hour { at.time ≤ HOUR }
     requires within { mote.old.timer.running.begin ≤ at.time }
     requires plain { effect.old ≡ plain_effect }
     ensures does { OnOk result (DoesBy at (λ w n. record (of_packet w n.exchange packet.now) { first = Got number link.now.from ∷ [] })

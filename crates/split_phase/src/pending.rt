@@ -10,7 +10,7 @@ use std::marker::Model;
 #[derive(Clone, Copy)]
 pub struct NotWaiting;
 
-/// The calls that wait for an answer. Contracts see a list of 16 places, one for each context: the function
+/// The calls that wait for an answer. Contracts see a list of `CONTEXTS_MAX` places, one for each context: the function
 /// that it called and the call's arguments, or None.
 #[derive(Drop)]
 pub struct Pending {

@@ -1,11 +1,12 @@
 //! The names of a script, and what they name.
 
 ghost use Rattle.std.specs.Prelude.{◌≡◌, ◌<◌, ◌≤◌, length, position, bytes_eq, IfSome};
+ghost use Rattle.mate_num.specs.declared.bounds.TheConstants.{FUNCTIONS_MAX, SHARED_MAX};
 ghost use Rattle.ts_checker.specs.Names.{listed, symbol_of, function_from};
 
 use crate::fault::CheckFault;
 use arrayvec::ArrayVec;
-use mate_num::{BufId, FunId, Name, VarId};
+use mate_num::{BUFFERS_MAX, BufId, FunId, Name, PRIVATES, SHARED_MAX, VarId};
 use ts_checked::CVar;
 use ts_syntax::{Decl, DeclKind, Word};
 use vm_desc::{Description, FunKind, Function};
@@ -46,12 +47,15 @@ pub struct Entry {
     pub symbol: Symbol,
 }
 
+/// The greatest number of names of a script: no name is there twice, so the machine's shared variables and buffers and
+/// the private variables fit.
+const NAMES_MAX: usize = SHARED_MAX + BUFFERS_MAX + PRIVATES;
+
 /// The names of a script: its machine's, and those that it declared.
 #[derive(Drop)]
 pub struct Scope<'a> {
     desc: &'a Description,
-    // No name is there twice, so the machine's 16 shared variables and 8 buffers and the 8 private ones fit.
-    names: ArrayVec<Entry, 32>,
+    names: ArrayVec<Entry, NAMES_MAX>,
 }
 
 fn place_among(names: &[Name], name: &Name) -> Option<usize>
@@ -62,7 +66,7 @@ fn place_among(names: &[Name], name: &Name) -> Option<usize>
 }
 
 fn place_in(names: &[Name], name: &Name) -> Result<u8, CheckFault>
-    requires { length names.now ≤ 16 }
+    requires { length names.now ≤ SHARED_MAX }
     ensures { result ≡ listed names.now name.now }
 {
     match place_among(names, name) {
@@ -83,7 +87,7 @@ fn symbol_among(entries: &[Entry], name: &Name) -> Option<Symbol>
 }
 
 fn function_among(functions: &[Function], name: &Name) -> Option<(FunId, FunKind)>
-    requires { length functions.now ≤ 32 }
+    requires { length functions.now ≤ FUNCTIONS_MAX }
     ensures { result ≡ function_from 0 functions.now name.now }
 {
     for (index, function) in functions.iter().enumerate() {

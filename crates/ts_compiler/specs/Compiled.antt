@@ -13,7 +13,7 @@ use Rattle.ts_compiler.specs.Parts.{capped}
 use Rattle.ts_compiler.specs.declared.fault.CompileFault.{CompileFault}
 use Rattle.ts_compiler.specs.declared.fault.CompileFault.TheVariants.{StackDepth, TooLong}
 
--- the script has code: it needs a stack of at most 16 values, its code has room, and these are the code's bytes
+-- the script has code: it needs a stack of at most `STACK_MAX` values, its code has room, and these are the code's bytes
 pub record IsCompiled (shape : Shape) (tree : Block) (bytes : ArrayVec ℕ) : Type 0 where
   pub need : script_need tree ≤ STACK_MAX
   pub size : script_size tree ≤ CODE_MAX

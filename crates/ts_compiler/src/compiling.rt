@@ -19,7 +19,7 @@ use ts_meaning::{
 };
 
 /// The code of a checked script, for the machine that the table is of. `StackDepth` comes exactly if the script needs
-/// a stack of more than 16 values, and `TooLong` exactly if it doesn't but its code takes more than `CODE_MAX` bytes.
+/// a stack of more than `STACK_MAX` values, and `TooLong` exactly if it doesn't but its code takes more than `CODE_MAX` bytes.
 /// It takes no memory. One pass measures the script; code is written only if it fits.
 pub fn compile(table: &Table, script: &Checked) -> Result<Code, CompileFault>
     requires { table.now ≡ table_of (checked_shape script.now) }

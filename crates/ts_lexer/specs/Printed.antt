@@ -1,6 +1,7 @@
 -- Texts that are cut into tokens of given kinds, and texts that spell a script.
 use Rattle.std.specs.Prelude.{◌≡◌, ◌≤◌, ℕ, List, [], ◌∷◌, length, Ok}
 use Rattle.mate_num.specs.Lists.{Each}
+use Rattle.mate_num.specs.declared.bounds.TheConstants.{NAME_MAX}
 use Rattle.ts_syntax.specs.declared.token.Token.{Token}
 use Rattle.ts_syntax.specs.declared.token.TokenKind.{TokenKind}
 use Rattle.ts_syntax.specs.declared.token.TokenKind.TheVariants as kind
@@ -11,11 +12,11 @@ use Rattle.ts_syntax.specs.Faults.{Spells}
 use Rattle.ts_lexer.specs.Bare.{bare}
 use Rattle.ts_lexer.specs.Spans.{BeginsWith, Passes}
 
--- a text that can be in a name token or a keyword: at most 16 letters, digits and `_`, of which the first is no digit
+-- a text that can be in a name token or a keyword: at most `NAME_MAX` letters, digits and `_`, of which the first is no digit
 pub record IsWord (w : List ℕ) : Type 0 where
   pub begins : BeginsWith begins_name w
   pub passes : Passes in_name w
-  pub short : length w ≤ 16
+  pub short : length w ≤ NAME_MAX
 
 -- the text of a name token
 pub record IsNameText (w : List ℕ) : Type 0 where

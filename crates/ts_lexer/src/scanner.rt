@@ -8,7 +8,7 @@ use crate::spans::{
     begins_with_letter, digits_len, is_blank, is_digit, is_letter, line_len, literal_value,
     name_len, name_text, sign, word,
 };
-use mate_num::{Items, Name};
+use mate_num::{Items, NAME_MAX};
 use std::alloc::Global;
 use ts_syntax::{Dialect, Token, TokenKind, Tokens};
 
@@ -139,8 +139,8 @@ impl<'a> Scanner<'a> {
     {
         let from = self.place;
         let len = name_len(self.rest);
-        if len > Name::MAX {
-            let place = from + Name::MAX as u32;
+        if len > NAME_MAX {
+            let place = from + NAME_MAX as u32;
             return Err(TokenFault::BadByte { place });
         }
         let text = name_text(self.take(len));

@@ -4,6 +4,7 @@ ghost use Rattle.std.specs.Prelude.{◌≡◌, ◌<◌, ◌≤◌, ◌==◌, not
 ghost use Rattle.std.specs.List.{prefix_len};
 ghost use Rattle.ts_syntax.specs.Cut.{is_blank, begins_name, in_name, is_digit, sign_of, word_kind, kind_in, procedure_kind};
 ghost use Rattle.ts_lexer.specs.Spans.{begins, Passes, digits_value, sign_at};
+ghost use Rattle.mate_num.specs.declared.bounds.TheConstants.{NAME_MAX};
 
 use mate_num::Name;
 use ts_syntax::{Dialect, TokenKind};
@@ -84,7 +85,7 @@ pub fn literal_value(digits: &[u8]) -> Option<u16>
 
 /// The keyword of a dialect that a text spells, or else the name. A text is compared only with the keywords of its length.
 pub fn word(dialect: Dialect, text: &str) -> TokenKind
-    requires { length text.now ≤ 16 }
+    requires { length text.now ≤ NAME_MAX }
     ensures { result ≡ kind_in dialect (word_kind text.now) }
 {
     match text.len() {
@@ -180,7 +181,7 @@ fn word_of_7(dialect: Dialect, text: &str) -> TokenKind
 
 fn long_word(dialect: Dialect, text: &str) -> TokenKind
     requires least { 8 ≤ length text.now }
-    requires most { length text.now ≤ 16 }
+    requires most { length text.now ≤ NAME_MAX }
     ensures { result ≡ kind_in dialect (word_kind text.now) }
 {
     own_word(dialect, text)
@@ -189,7 +190,7 @@ fn long_word(dialect: Dialect, text: &str) -> TokenKind
 /// What a text that is no keyword of plain TinyScript is in a dialect: if a script may have procedures, `proc` and
 /// `do` are keywords.
 fn own_word(dialect: Dialect, text: &str) -> TokenKind
-    requires { length text.now ≤ 16 }
+    requires { length text.now ≤ NAME_MAX }
     ensures { result ≡ kind_in dialect (TokenKind.Name text.now) }
 {
     match dialect {
@@ -199,7 +200,7 @@ fn own_word(dialect: Dialect, text: &str) -> TokenKind
 }
 
 fn procedure_word(text: &str) -> TokenKind
-    requires { length text.now ≤ 16 }
+    requires { length text.now ≤ NAME_MAX }
     ensures { result ≡ procedure_kind (TokenKind.Name text.now) }
 {
     match text {
@@ -210,7 +211,7 @@ fn procedure_word(text: &str) -> TokenKind
 }
 
 fn name(text: &str) -> TokenKind
-    requires { length text.now ≤ 16 }
+    requires { length text.now ≤ NAME_MAX }
     ensures { result ≡ TokenKind.Name text.now }
 {
     let Some(name) = Name::new(text) else {

@@ -8,7 +8,7 @@ ghost use Rattle.ts_checked.specs.Statement.{Block};
 ghost use Rattle.ts_meaning.specs.Laws.{RunsAsItsScript, UsesAsItsScript, IsVerifiedScript, IsEncodable};
 ghost use Rattle.ts_meaning.specs.Translation.{script_need};
 
-/// The code of a script that is right for a machine and needs a stack of at most 16 values runs as the script does:
+/// The code of a script that is right for a machine and needs a stack of at most `STACK_MAX` values runs as the script does:
 /// whatever the store, the message, the answers and the turns are, the end, the store and the calls are the same.
 pub fn code_runs_as_its_script()
     ensures { (shape : Shape) (tree : Block) → IsTrue (is_right shape tree) → script_need tree ≤ STACK_MAX → RunsAsItsScript shape tree }
@@ -19,7 +19,7 @@ pub fn code_uses_as_its_script()
     ensures { (shape : Shape) (tree : Block) → UsesAsItsScript shape tree }
 {}
 
-/// The code of a script that is right for a machine and needs a stack of at most 16 values is verified.
+/// The code of a script that is right for a machine and needs a stack of at most `STACK_MAX` values is verified.
 pub fn code_is_verified()
     ensures { (shape : Shape) (tree : Block) → IsTrue (is_right shape tree) → script_need tree ≤ STACK_MAX → IsVerifiedScript shape tree }
 {}

@@ -4,10 +4,11 @@ ghost use Rattle.std.specs.Prelude.{◌≡◌, ◌≤◌, ◌<◌, false, length
 ghost use Rattle.ts_parser.specs.Depths.{role_seen};
 ghost use Rattle.ts_syntax.specs.Depth.{shallow, is_deep, role_is_deep, blocks_after, counted_after, after, first_deep};
 ghost use Rattle.ts_syntax.specs.Spelling.{kinds};
+ghost use Rattle.ts_syntax.specs.declared.depth.TheConstants.{BLOCKS_MAX, COUNTED_MAX};
 
 use crate::role::{Role, ends, role_of};
 use std::marker::Model;
-use ts_syntax::{Token, TokenKind};
+use ts_syntax::{BLOCKS_MAX, COUNTED_MAX, Token, TokenKind};
 
 /// The depth before a token. No token before it is too deep.
 #[derive(Drop)]
@@ -23,21 +24,16 @@ struct Depth {
 impl Model for Depth {
     ghost use Rattle.std.specs.Prelude.{◌≤◌};
     ghost use Rattle.ts_syntax.specs.Depth.{Depth as Seen};
+    ghost use Rattle.ts_syntax.specs.declared.depth.TheConstants.{BLOCKS_MAX, COUNTED_MAX};
 
     ghost Value = { Seen };
 
     ghost view = { λ d. record { blocks = d.blocks; counted = d.counted; ended = d.ended } };
 
-    ghost invariant = { λ d. (d.blocks ≤ 32) × (d.counted ≤ 64) };
+    ghost invariant = { λ d. (d.blocks ≤ BLOCKS_MAX) × (d.counted ≤ COUNTED_MAX) };
 }
 
 impl Depth {
-    /// The greatest number of open blocks.
-    const BLOCKS: u8 = 32;
-
-    /// The greatest number of counted tokens.
-    const COUNTED: u8 = 64;
-
     /// The depth at the start.
     fn start() -> Depth
         ensures { result ≡ shallow }
@@ -54,8 +50,8 @@ impl Depth {
         ensures { result ≡ role_is_deep self.now (role_seen role) }
     {
         match role {
-            Role::Opener => !self.ended && self.blocks >= Depth::BLOCKS,
-            Role::Counter => self.counted >= Depth::COUNTED,
+            Role::Opener => !self.ended && self.blocks >= BLOCKS_MAX,
+            Role::Counter => self.counted >= COUNTED_MAX,
             Role::Closer => false,
             Role::Breaker => false,
             Role::Bystander => false,
@@ -66,7 +62,7 @@ impl Depth {
     fn blocks_after(&self, role: Role) -> u8
         requires { role_is_deep self.now (role_seen role) ≡ false }
         ensures value { result ≡ blocks_after self.now (role_seen role) }
-        ensures few { result ≤ 32 }
+        ensures few { result ≤ BLOCKS_MAX }
     {
         match role {
             Role::Opener => {
@@ -87,7 +83,7 @@ impl Depth {
     fn counted_after(&self, role: Role) -> u8
         requires { role_is_deep self.now (role_seen role) ≡ false }
         ensures value { result ≡ counted_after self.now (role_seen role) }
-        ensures few { result ≤ 64 }
+        ensures few { result ≤ COUNTED_MAX }
     {
         match role {
             Role::Opener => self.counted,
@@ -112,8 +108,8 @@ impl Depth {
     }
 }
 
-/// The index of the first token that is too deep: a keyword that opens a block inside 32 open ones, or the 65th
-/// counted token since the last `;`, `then`, `else`, `end`, `next` or the start.
+/// The index of the first token that is too deep: a keyword that opens a block inside `BLOCKS_MAX` open ones, or a
+/// counted token after `COUNTED_MAX` others since the last `;`, `then`, `else`, `end`, `next` or the start.
 pub fn first_deep(tokens: &[Token]) -> Option<usize>
     ensures first { result ≡ first_deep (kinds tokens.now) }
     ensures within { IfSome result (λ i. i < length tokens.now) }

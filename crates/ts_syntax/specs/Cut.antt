@@ -3,6 +3,7 @@ use Rattle.std.specs.Prelude.{ℕ, ◌+◌, ◌-◌, ◌*◌, Bool, ◌&&◌, �
 use Rattle.mate_num.specs.Results.{result_map}
 use Rattle.std.specs.List.{find}
 use Rattle.std.specs.Str.{bytes_eq}
+use Rattle.mate_num.specs.declared.bounds.TheConstants.{NAME_MAX}
 use Rattle.ts_syntax.specs.declared.dialect.Dialect.{Dialect}
 use Rattle.ts_syntax.specs.declared.dialect.Dialect.TheVariants as dialect
 use Rattle.ts_syntax.specs.declared.token.Token.{Token}
@@ -89,7 +90,7 @@ abbrev pub turn : ℕ → Mode → ℕ → CutStep
 turn i between b = fresh i b
 turn i comment b = if b == 10 then go [] between else go [] comment
 turn i (word from w) b =
-    if in_name b then (if nat_lt (length w) 16 then go [] (word from (w ++ b ∷ [])) else stop (bad_byte i))
+    if in_name b then (if nat_lt (length w) NAME_MAX then go [] (word from (w ++ b ∷ [])) else stop (bad_byte i))
     else behind (token (word_kind w) from i) (fresh i b)
 turn i (literal from n) b =
     if is_digit b then go [] (literal from (n * 10 + (b - 48))) else

@@ -1,6 +1,7 @@
 -- How deep a source is at each token: open blocks, and counted tokens since the last break.
 use Rattle.std.specs.Prelude.{ℕ, ◌+◌, ◌-◌, Bool, true, false, ◌&&◌, not, nat_le, if◌then◌else◌, List, [], ◌∷◌, Option, Some, None}
 use Rattle.std.specs.Option.{option_map}
+use Rattle.ts_syntax.specs.declared.depth.TheConstants.{BLOCKS_MAX, COUNTED_MAX}
 use Rattle.ts_syntax.specs.declared.token.TokenKind.{TokenKind}
 use Rattle.ts_syntax.specs.declared.token.TokenKind.TheVariants as kind
 
@@ -53,10 +54,10 @@ abbrev pub is_end_token : TokenKind → Bool
 is_end_token kind.End = true
 is_end_token _ = false
 
--- a token lies too deep: a 33rd block inside 32 open ones, or a 65th counted token
+-- a token lies too deep: a block inside `BLOCKS_MAX` open ones, or a counted token after `COUNTED_MAX` others
 abbrev pub role_is_deep : Depth → Role → Bool
-role_is_deep d opener = not d.ended && nat_le 32 d.blocks
-role_is_deep d counter = nat_le 64 d.counted
+role_is_deep d opener = not d.ended && nat_le BLOCKS_MAX d.blocks
+role_is_deep d counter = nat_le COUNTED_MAX d.counted
 role_is_deep d _ = false
 
 abbrev pub is_deep : Depth → TokenKind → Bool

@@ -2,6 +2,7 @@
 #![tactic(auto)]
 
 pub mod code;
+pub mod depth;
 pub mod dialect;
 pub mod expect;
 pub mod expr;
@@ -14,6 +15,7 @@ pub mod stmt;
 pub mod token;
 pub mod word;
 
+pub use depth::{BLOCKS_MAX, COUNTED_MAX};
 pub use dialect::Dialect;
 pub use expr::{Args, Expr};
 pub use grammar::grammar_law;

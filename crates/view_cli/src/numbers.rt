@@ -1,5 +1,6 @@
 //! Numbers and lists of nodes in words.
 
+use mate_num::NODES_MAX;
 use report_fields::numbers::{below, unsigned};
 
 /// The number in a word, below 2^64, with no sign and no 0 before it; `none` if there is no word.
@@ -20,15 +21,15 @@ pub fn nodes_of(word: &str) -> Option<u64> {
     Some(nodes)
 }
 
-/// The number of a node, below 64.
+/// The number of a node, below `NODES_MAX`.
 fn node_of(word: &str) -> Option<u64> {
-    below(word.as_bytes(), 64)
+    below(word.as_bytes(), NODES_MAX as u64)
 }
 
 /// The nodes from `first` to `last`, a bit for each.
 fn nodes_between(first: u64, last: u64) -> u64 {
     let mut nodes = 0u64;
-    for node in 0..64u64 {
+    for node in 0..NODES_MAX as u64 {
         if first <= node && node <= last {
             nodes |= 1 << node;
         }

@@ -1,6 +1,7 @@
 //! The bounds of a world: the time by which each node has to hold a version, three longest intervals for each hop
 //! from where it was injected.
 
+use mate_num::NODES_MAX;
 use std::alloc::Global;
 use view_records::ViewFault;
 use vm_desc::Description;
@@ -104,21 +105,25 @@ fn has_loss(links: &[Link]) -> bool {
 
 /// The word with the bit of a node.
 fn bit(node: u8) -> u64 {
-    if node < 64 { 1 << node } else { 0 }
+    if usize::from(node) < NODES_MAX {
+        1 << node
+    } else {
+        0
+    }
 }
 
 /// For each node, a word with a bit for each node to which it has a link.
 #[derive(Clone, Copy)]
 struct Around {
-    to: [u64; 64],
+    to: [u64; NODES_MAX],
 }
 
 impl Around {
     fn of(links: &[Link]) -> Around {
-        let mut around = Around { to: [0; 64] };
+        let mut around = Around { to: [0; NODES_MAX] };
         for link in links {
             let from = usize::from(link.from);
-            if from < 64 {
+            if from < NODES_MAX {
                 around.to[from] |= bit(link.to);
             }
         }
@@ -128,7 +133,10 @@ impl Around {
     /// Whether the nodes have links both ways.
     fn are_near(&self, a: u8, b: u8) -> bool {
         let (from, to) = (usize::from(a), usize::from(b));
-        from < 64 && to < 64 && self.to[from] & bit(b) != 0 && self.to[to] & bit(a) != 0
+        from < NODES_MAX
+            && to < NODES_MAX
+            && self.to[from] & bit(b) != 0
+            && self.to[to] & bit(a) != 0
     }
 
     /// The nodes that have links both ways with at least one of these.

@@ -1,6 +1,6 @@
 //! The installs of a report.
 
-use mate_num::Stamp;
+use mate_num::{NODES_MAX, Stamp};
 use report_reader::{Line, Told};
 use std::alloc::Global;
 use view_records::ViewFault;
@@ -99,19 +99,21 @@ pub fn next_of(installs: &[Install], install: &Install) -> Option<Stamp> {
 /// The version of a handler that each node holds, while the installs go on.
 #[derive(Clone, Copy)]
 pub struct Held {
-    versions: [u32; 64],
+    versions: [u32; NODES_MAX],
 }
 
 impl Held {
     /// No version anywhere.
     pub fn new() -> Held {
-        Held { versions: [0; 64] }
+        Held {
+            versions: [0; NODES_MAX],
+        }
     }
 
     /// A node gets a version.
     pub fn take(&mut self, install: &Install) {
         let node = usize::from(install.node);
-        if node < 64 {
+        if node < NODES_MAX {
             self.versions[node] = install.version;
         }
     }

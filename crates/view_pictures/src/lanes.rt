@@ -117,7 +117,7 @@ fn contexts_of(marks: &[Mark], node: u8) -> u64 {
     for mark in marks {
         if mark.node == node {
             if let What::Stretch(stretch) = mark.what {
-                contexts |= 1 << (stretch.live.ctx.0 % 16);
+                contexts |= 1 << (stretch.live.ctx.0 % CONTEXTS_MAX as u8);
             }
         }
     }

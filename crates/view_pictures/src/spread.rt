@@ -11,7 +11,7 @@ use crate::svg::{
 use crate::titles::write_when;
 use crate::window::Window;
 use mate_files::Sink;
-use mate_num::{HandlerId, Stamp};
+use mate_num::{HandlerId, NODES_MAX, Stamp};
 use report_reading::last_line::LastLine;
 use std::alloc::Global;
 use std::io::Read;
@@ -114,9 +114,9 @@ impl Part {
     /// How many nodes have a row.
     fn rows(&self) -> u64 {
         let mut count = 0u64;
-        for node in 0..64u8 {
+        for node in 0..NODES_MAX as u8 {
             if self.has_row(node) {
-                count = count.saturating_add(1).min(64);
+                count = count.saturating_add(1).min(NODES_MAX as u64);
             }
         }
         count
@@ -241,7 +241,7 @@ fn held_at_end(installs: &[Install], handler: HandlerId) -> Held {
 fn draw_bands<S: Sink>(part: &Part, rows: u64, ink: &mut Ink<S>) {
     let mut dark = true;
     let mut y = rows;
-    for node in 0..64u8 {
+    for node in 0..NODES_MAX as u8 {
         if part.has_row(node) {
             write_band(dark, y, ROW, ink);
             begin_text(ink, "e s", LEFT * 10 - 60, y.saturating_add(9));

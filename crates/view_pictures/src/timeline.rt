@@ -12,7 +12,7 @@ use crate::svg::{
 use crate::titles::write_title;
 use crate::window::Window;
 use mate_files::Sink;
-use mate_num::{ContextId, HandlerId};
+use mate_num::{CONTEXTS_MAX, ContextId, HandlerId};
 use report_reading::last_line::LastLine;
 use std::alloc::Global;
 use std::io::Read;
@@ -243,7 +243,7 @@ fn draw_stretches<S: Sink>(
     for mark in marks {
         if let What::Stretch(stretch) = mark.what {
             if let Some(lane) = lanes.find(mark.node) {
-                let top = lane.context(stretch.live.ctx.0 % 16);
+                let top = lane.context(stretch.live.ctx.0 % CONTEXTS_MAX as u8);
                 draw_stretch(desc, seen, mark, &stretch, top, ink);
                 draw_end(seen, &stretch, top, ink);
             }

@@ -1,6 +1,6 @@
 //! The part of a report that is drawn.
 
-use mate_num::Stamp;
+use mate_num::{NODES_MAX, Stamp};
 
 /// Which part of a report is drawn.
 #[derive(Clone, Copy)]
@@ -22,7 +22,7 @@ pub fn all_nodes() -> u64 {
 impl Window {
     /// Whether a node is drawn.
     pub fn has_node(&self, node: u8) -> bool {
-        if node < 64 {
+        if node < NODES_MAX as u8 {
             (self.nodes >> node) & 1 == 1
         } else {
             false

@@ -1,7 +1,8 @@
 -- The lengths and ranges that every description keeps, each by its name.
 use Rattle.std.specs.Prelude.{◌≡◌, ◌≤◌, ◌%◌, length, IsTrue, None}
 use Rattle.std.specs.List.{list_all}
-use Rattle.mate_num.specs.declared.bounds.TheConstants.{SHARED_MAX, BUFFERS_MAX, DEVICES_MAX, HANDLERS_MAX, CONTEXTS_MAX, HOUR}
+use Rattle.mate_num.specs.declared.bounds.TheConstants.{SHARED_MAX, BUFFERS_MAX, DEVICES_MAX, FUNCTIONS_MAX, HANDLERS_MAX, CONTEXTS_MAX, HOUR}
+use Rattle.vm_desc.specs.declared.settings.TheConstants.{DOUBLINGS_MAX}
 use Rattle.vm_desc.specs.Names.{is_name}
 use Rattle.vm_desc.specs.Limits.{is_handler, is_function, longest, round_time, duplicate_of}
 use Rattle.vm_desc.specs.Whole.{parts_of, context_count}
@@ -13,7 +14,7 @@ pub record HasBounds (d : Description) : Type 0 where
   pub handlers_high : length d.handlers.items ≤ HANDLERS_MAX
   pub contexts_low : 1 ≤ context_count d
   pub contexts_high : context_count d ≤ CONTEXTS_MAX
-  pub functions_high : length d.functions.items ≤ 32
+  pub functions_high : length d.functions.items ≤ FUNCTIONS_MAX
   pub shared_high : length d.shared.items ≤ SHARED_MAX
   pub buffers_high : length d.buffers.items ≤ BUFFERS_MAX
   pub devices_high : length d.devices.items ≤ DEVICES_MAX
@@ -23,7 +24,7 @@ pub record HasBounds (d : Description) : Type 0 where
   pub imin_low : 2 ≤ d.trickle.imin
   pub imin_high : d.trickle.imin ≤ 60000
   pub imin_even : d.trickle.imin % 2 ≡ 0
-  pub doublings_high : d.trickle.doublings ≤ 16
+  pub doublings_high : d.trickle.doublings ≤ DOUBLINGS_MAX
   pub longest_high : longest d.trickle ≤ HOUR
   pub k_low : 1 ≤ d.trickle.k
   pub k_high : d.trickle.k ≤ 255

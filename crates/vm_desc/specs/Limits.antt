@@ -2,7 +2,8 @@
 use Rattle.std.specs.Prelude.{ℕ, List, length, map, Bool, true, ◌&&◌, ◌+◌, ◌*◌, ◌%◌, ◌^◌, ◌==◌, nat_le, Option, Some, None, is_none, ◌++◌, sum_by}
 use Rattle.std.specs.Option.{option_or}
 use Rattle.std.specs.List.{list_all}
-use Rattle.mate_num.specs.declared.bounds.TheConstants.{SHARED_MAX, BUFFERS_MAX, DEVICES_MAX, HANDLERS_MAX, CONTEXTS_MAX, FRAGMENTS_MAX, HOUR}
+use Rattle.mate_num.specs.declared.bounds.TheConstants.{SHARED_MAX, BUFFERS_MAX, DEVICES_MAX, FUNCTIONS_MAX, HANDLERS_MAX, CONTEXTS_MAX, FRAGMENTS_MAX, HOUR}
+use Rattle.vm_desc.specs.declared.settings.TheConstants.{DOUBLINGS_MAX}
 use Rattle.vm_desc.specs.Names.{between, is_name, first_repeat}
 use Rattle.vm_desc.specs.declared.handler.Handler.{Handler}
 use Rattle.vm_desc.specs.declared.handler.HandlerKind.{HandlerKind}
@@ -48,7 +49,8 @@ abbrev pub longest : TrickleSet → ℕ
 longest t = t.imin * 2 ^ t.doublings
 
 abbrev pub is_trickle : TrickleSet → Bool
-is_trickle t = ((between 2 60000 t.imin && t.imin % 2 == 0) && (nat_le t.doublings 16 && nat_le (longest t) HOUR)) && between 1 255 t.k
+is_trickle t =
+    ((between 2 60000 t.imin && t.imin % 2 == 0) && (nat_le t.doublings DOUBLINGS_MAX && nat_le (longest t) HOUR)) && between 1 255 t.k
 
 abbrev pub is_radio : RadioSet → Bool
 is_radio r = between 1 10000 r.delay && between 1 10000 r.gap
@@ -76,9 +78,9 @@ duplicate_of p = duplicate_among p.shared p.buffers p.devices p.handlers p.funct
 abbrev pub are_handlers : List Handler → Bool
 are_handlers hs = (between 1 HANDLERS_MAX (length hs) && list_all is_handler hs) && nat_le (context_sum hs) CONTEXTS_MAX
 
--- at most 32 functions
+-- not too many functions
 abbrev pub are_functions : ℕ → List Function → Bool
-are_functions devices fs = nat_le (length fs) 32 && list_all (is_function devices) fs
+are_functions devices fs = nat_le (length fs) FUNCTIONS_MAX && list_all (is_function devices) fs
 
 -- at most `most` names, each of them right
 abbrev pub are_names : ℕ → List (List ℕ) → Bool

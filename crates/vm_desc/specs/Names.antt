@@ -1,7 +1,8 @@
 -- What a name is, and the first name that a list has twice.
-use Rattle.std.specs.Prelude.{ℕ, List, [], ◌∷◌, ◌++◌, length, codes, Bool, false, not, ◌&&◌, ◌||◌, ◌==◌, nat_le, if◌then◌else◌, Option, Some, None}
+use Rattle.std.specs.Prelude.{ℕ, List, [], ◌∷◌, ◌++◌, length, codes, Bool, false, not, ◌&&◌, ◌||◌, ◌==◌, nat_lt, nat_le, if◌then◌else◌, Option, Some, None}
 use Rattle.std.specs.List.{list_any, list_all}
 use Rattle.std.specs.Str.{bytes_eq}
+use Rattle.mate_num.specs.declared.bounds.TheConstants.{NAME_MAX}
 
 -- n is from low to high
 abbrev pub between : ℕ → ℕ → ℕ → Bool
@@ -24,10 +25,10 @@ reserved_words =
 abbrev pub is_keyword : List ℕ → Bool
 is_keyword word = list_any (λ keyword. bytes_eq word keyword) reserved_words
 
--- 1 to 16 bytes: a letter or `_`, then letters, digits or `_`
+-- 1 to `NAME_MAX` bytes: a letter or `_`, then letters, digits or `_`
 abbrev pub has_form : List ℕ → Bool
 has_form [] = false
-has_form (c ∷ cs) = (nat_le (length cs) 15 && begins_name c) && list_all continues_name cs
+has_form (c ∷ cs) = (nat_lt (length cs) NAME_MAX && begins_name c) && list_all continues_name cs
 
 -- of that form, and no keyword
 abbrev pub is_name : List ℕ → Bool

@@ -7,7 +7,9 @@ use crate::function::Function;
 use crate::handler::Handler;
 use crate::settings::{RadioSet, TrickleSet};
 use arrayvec::ArrayVec;
-use mate_num::{ContextId, HandlerId, Name};
+use mate_num::{
+    BUFFERS_MAX, ContextId, DEVICES_MAX, FUNCTIONS_MAX, HANDLERS_MAX, HandlerId, Name, SHARED_MAX,
+};
 
 /// The handlers, functions, variables and settings of a machine. The number of one of its parts is
 /// the position in its list.
@@ -19,12 +21,12 @@ use mate_num::{ContextId, HandlerId, Name};
 pub struct Description {
     /// The machine's number, which its capsules and packets have.
     pub vm_id: u32,
-    /// 1 to 8 handlers, with at most `CONTEXTS_MAX` contexts in all.
-    pub handlers: ArrayVec<Handler, 8>,
-    pub functions: ArrayVec<Function, 32>,
-    pub shared: ArrayVec<Name, 16>,
-    pub buffers: ArrayVec<Name, 8>,
-    pub devices: ArrayVec<Name, 8>,
+    /// 1 to `HANDLERS_MAX` handlers, with at most `CONTEXTS_MAX` contexts in all.
+    pub handlers: ArrayVec<Handler, HANDLERS_MAX>,
+    pub functions: ArrayVec<Function, FUNCTIONS_MAX>,
+    pub shared: ArrayVec<Name, SHARED_MAX>,
+    pub buffers: ArrayVec<Name, BUFFERS_MAX>,
+    pub devices: ArrayVec<Name, DEVICES_MAX>,
     /// How often an invocation may go back in its code: at most 1,000,000.
     pub turns: u32,
     /// How many instructions a context runs in one go: 1 to 10,000.
@@ -114,20 +116,22 @@ impl Description {
     }
 }
 
-fn copy_of_handlers(handlers: &ArrayVec<Handler, 8>) -> ArrayVec<Handler, 8>
+fn copy_of_handlers(handlers: &ArrayVec<Handler, HANDLERS_MAX>) -> ArrayVec<Handler, HANDLERS_MAX>
     ensures { result ≡ handlers.now }
 {
-    let mut copy: ArrayVec<Handler, 8> = ArrayVec::new();
+    let mut copy: ArrayVec<Handler, HANDLERS_MAX> = ArrayVec::new();
     for handler in handlers.as_slice() {
         copy.push(handler.copy());
     }
     copy
 }
 
-fn copy_of_functions(functions: &ArrayVec<Function, 32>) -> ArrayVec<Function, 32>
+fn copy_of_functions(
+    functions: &ArrayVec<Function, FUNCTIONS_MAX>,
+) -> ArrayVec<Function, FUNCTIONS_MAX>
     ensures { result ≡ functions.now }
 {
-    let mut copy: ArrayVec<Function, 32> = ArrayVec::new();
+    let mut copy: ArrayVec<Function, FUNCTIONS_MAX> = ArrayVec::new();
     for function in functions.as_slice() {
         copy.push(function.copy());
     }

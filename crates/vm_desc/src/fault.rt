@@ -13,7 +13,7 @@ pub enum DescFault {
     /// others, is any key that no description has.
     BadField { key: Key },
     /// The list of `key` is too long. `Key::HandlerContexts`, after all other keys, says that the
-    /// handlers have more than 16 contexts in all.
+    /// handlers have more than `CONTEXTS_MAX` contexts in all.
     OverLimit { key: Key },
     /// `name` is the first name that is in its list a second time: shared variables and buffers are one list, which is
     /// checked before those of the devices, the handlers and the functions.

@@ -19,5 +19,5 @@ pub use function::{FunKind, Function};
 pub use handler::{Handler, HandlerKind};
 pub use key::Key;
 pub use names::name_of;
-pub use settings::{RadioSet, TrickleSet};
+pub use settings::{DOUBLINGS_MAX, RadioSet, TrickleSet};
 pub use shape_of::shape;

@@ -4,7 +4,7 @@ ghost use Rattle.std.specs.Prelude.{◌≡◌, IfSome, IsTrue};
 ghost use Rattle.std.specs.List.{list_all};
 ghost use Rattle.vm_desc.specs.Names.{begins_name, continues_name, is_keyword, has_form, is_name, name_of, stands_in, first_repeat};
 
-use mate_num::Name;
+use mate_num::{NAME_MAX, Name};
 
 /// The name that reads `text`; None if it doesn't have a name's form.
 pub fn name_of(text: &str) -> Option<Name>
@@ -14,7 +14,7 @@ pub fn name_of(text: &str) -> Option<Name>
     if is_name(text) { Name::new(text) } else { None }
 }
 
-/// Whether `text` has a name's form: 1 to 16 bytes, a letter or `_` first, then letters, digits
+/// Whether `text` has a name's form: 1 to `NAME_MAX` bytes, a letter or `_` first, then letters, digits
 /// or `_`, and no keyword.
 fn is_name(text: &str) -> bool
     ensures { result ≡ is_name text.now }
@@ -27,7 +27,7 @@ fn has_form(bytes: &[u8]) -> bool
 {
     match bytes {
         [] => false,
-        [first, rest @ ..] => rest.len() <= 15 && begins_name(*first) && continue_name(rest),
+        [first, rest @ ..] => rest.len() < NAME_MAX && begins_name(*first) && continue_name(rest),
     }
 }
 

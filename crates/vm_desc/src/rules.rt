@@ -11,10 +11,16 @@ use crate::key::Key;
 use crate::names::first_repeat;
 use crate::{Function, Handler, RadioSet, TrickleSet};
 use arrayvec::ArrayVec;
-use mate_num::{CONTEXTS_MAX, FRAGMENTS_MAX, Name};
+use mate_num::{
+    BUFFERS_MAX, CONTEXTS_MAX, DEVICES_MAX, FRAGMENTS_MAX, FUNCTIONS_MAX, HANDLERS_MAX, Name,
+    SHARED_MAX,
+};
+
+/// The greatest number of variables: shared ones and buffers, which have one list of names.
+const VARIABLES_MAX: usize = SHARED_MAX + BUFFERS_MAX;
 
 /// `OverLimit` at `Key::HandlerContexts` if the handlers have more than `CONTEXTS_MAX` contexts in all.
-pub fn few_contexts(handlers: &ArrayVec<Handler, 8>) -> Result<(), DescFault>
+pub fn few_contexts(handlers: &ArrayVec<Handler, HANDLERS_MAX>) -> Result<(), DescFault>
     ensures value { result ≡ few_contexts handlers.now.items }
     ensures few { OnOk result (context_sum handlers.now.items ≤ CONTEXTS_MAX) }
 {
@@ -29,11 +35,11 @@ pub fn few_contexts(handlers: &ArrayVec<Handler, 8>) -> Result<(), DescFault>
 
 /// `Duplicate` if a name is in its list twice.
 pub fn no_repeat(
-    shared: &ArrayVec<Name, 16>,
-    buffers: &ArrayVec<Name, 8>,
-    devices: &ArrayVec<Name, 8>,
-    handlers: &ArrayVec<Handler, 8>,
-    functions: &ArrayVec<Function, 32>,
+    shared: &ArrayVec<Name, SHARED_MAX>,
+    buffers: &ArrayVec<Name, BUFFERS_MAX>,
+    devices: &ArrayVec<Name, DEVICES_MAX>,
+    handlers: &ArrayVec<Handler, HANDLERS_MAX>,
+    functions: &ArrayVec<Function, FUNCTIONS_MAX>,
 ) -> Result<(), DescFault>
     ensures value { result ≡ no_repeat (duplicate_among shared.now.items buffers.now.items devices.now.items
         handlers.now.items functions.now.items) }
@@ -55,12 +61,12 @@ fn only_once(names: &[Name]) -> Result<(), DescFault>
     }
 }
 
-fn variable_names(shared: &[Name], buffers: &[Name]) -> ArrayVec<Name, 24>
+fn variable_names(shared: &[Name], buffers: &[Name]) -> ArrayVec<Name, VARIABLES_MAX>
     requires shared { length shared.now ≤ SHARED_MAX }
     requires buffers { length buffers.now ≤ BUFFERS_MAX }
     ensures { result.items ≡ shared.now ++ buffers.now }
 {
-    let mut names: ArrayVec<Name, 24> = ArrayVec::new();
+    let mut names: ArrayVec<Name, VARIABLES_MAX> = ArrayVec::new();
     for name in shared {
         names.push(name.copy());
     }
@@ -70,20 +76,20 @@ fn variable_names(shared: &[Name], buffers: &[Name]) -> ArrayVec<Name, 24>
     names
 }
 
-fn handler_names(handlers: &ArrayVec<Handler, 8>) -> ArrayVec<Name, 8>
+fn handler_names(handlers: &ArrayVec<Handler, HANDLERS_MAX>) -> ArrayVec<Name, HANDLERS_MAX>
     ensures { result.items ≡ map (λ h. h.name) handlers.now.items }
 {
-    let mut names: ArrayVec<Name, 8> = ArrayVec::new();
+    let mut names: ArrayVec<Name, HANDLERS_MAX> = ArrayVec::new();
     for handler in handlers.as_slice() {
         names.push(handler.name.copy());
     }
     names
 }
 
-fn function_names(functions: &ArrayVec<Function, 32>) -> ArrayVec<Name, 32>
+fn function_names(functions: &ArrayVec<Function, FUNCTIONS_MAX>) -> ArrayVec<Name, FUNCTIONS_MAX>
     ensures { result.items ≡ map (λ f. f.name) functions.now.items }
 {
-    let mut names: ArrayVec<Name, 32> = ArrayVec::new();
+    let mut names: ArrayVec<Name, FUNCTIONS_MAX> = ArrayVec::new();
     for function in functions.as_slice() {
         names.push(function.name.copy());
     }

@@ -2,14 +2,18 @@
 
 ghost use Rattle.std.specs.Prelude.{◌≡◌, ◌≤◌, ◌*◌, ◌^◌, IsTrue};
 ghost use Rattle.mate_num.specs.declared.bounds.TheConstants.{HOUR};
+ghost use Rattle.vm_desc.specs.declared.settings.TheConstants.{DOUBLINGS_MAX};
+
+/// How often the shortest interval of a Trickle timer doubles at most.
+pub const DOUBLINGS_MAX: u32 = 16;
 
 /// The settings of a handler's Trickle timer.
 #[derive(Clone, Copy)]
 pub struct TrickleSet {
     /// The shortest interval, in ms: even, from 2 to 60,000.
     pub imin: u32,
-    /// How often the shortest interval doubles before it stays, up to 16: the longest interval has
-    /// `imin * 2^doublings` ms, at most 3,600,000.
+    /// How often the shortest interval doubles before it stays, up to `DOUBLINGS_MAX`: the longest interval has
+    /// `imin * 2^doublings` ms, at most `HOUR`.
     pub doublings: u8,
     /// How many consistent packets received in an interval keep a node silent: 1 to 255.
     pub k: u8,
@@ -40,7 +44,7 @@ impl TrickleSet {
 /// `imin`, doubled `doublings` times: the longest interval of settings that have them.
 pub fn doubled(imin: u32, doublings: u32) -> u32
     requires imin { imin ≤ 60000 }
-    requires doublings { doublings ≤ 16 }
+    requires doublings { doublings ≤ DOUBLINGS_MAX }
     ensures { result ≡ imin * 2 ^ doublings }
 {
     imin << doublings

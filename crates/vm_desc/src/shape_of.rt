@@ -8,7 +8,7 @@ ghost use Rattle.vm_desc.specs.Shapes.{fun_shape, shape_of};
 use crate::description::Description;
 use crate::function::{FunKind, Function};
 use arrayvec::ArrayVec;
-use mate_num::{FunShape, Shape};
+use mate_num::{FUNCTIONS_MAX, FunShape, Shape};
 
 /// What code and checked trees need to know of `desc`: the numbers of its shared variables and
 /// buffers and, for each function in order, what its instruction pops, whether it sends a buffer,
@@ -17,7 +17,7 @@ pub fn shape(desc: &Description) -> Shape
     ensures value { result ≡ shape_of desc.now }
     ensures limits { IsTrue (is_shape result) }
 {
-    let mut functions: ArrayVec<FunShape, 32> = ArrayVec::new();
+    let mut functions: ArrayVec<FunShape, FUNCTIONS_MAX> = ArrayVec::new();
     for function in desc.functions.as_slice() {
         functions.push(shape_of_function(function));
     }

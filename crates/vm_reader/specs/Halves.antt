@@ -2,6 +2,7 @@
 use Rattle.std.specs.Prelude.{ℕ, List, codes, Some, None, Result, Ok}
 use Rattle.toml.specs.Data.{Members, get_member}
 use Rattle.mate_num.specs.Results.{◌>>=◌}
+use Rattle.mate_num.specs.declared.bounds.TheConstants.{SHARED_MAX, BUFFERS_MAX, DEVICES_MAX}
 use Rattle.vm_desc.specs.Limits.{Parts}
 use Rattle.vm_desc.specs.declared.key.Key.TheVariants as key
 use Rattle.vm_desc.specs.declared.fault.DescFault.{DescFault}
@@ -20,9 +21,9 @@ pub record Opening : Type 0 where
 unfoldable pub opening_at : Members → Result Opening DescFault
 opening_at doc = do
   vm_id ← field key.Vm (number 0 4294967295) None (get_member (codes "vm") doc)
-  shared ← names key.Shared 16 (get_member (codes "shared") doc)
-  buffers ← names key.Buffers 8 (get_member (codes "buffers") doc)
-  devices ← names key.Devices 8 (get_member (codes "devices") doc)
+  shared ← names key.Shared SHARED_MAX (get_member (codes "shared") doc)
+  buffers ← names key.Buffers BUFFERS_MAX (get_member (codes "buffers") doc)
+  devices ← names key.Devices DEVICES_MAX (get_member (codes "devices") doc)
   turns ← field key.Turns (number 0 1000000) (Some 10000) (get_member (codes "turns") doc)
   quantum ← field key.Quantum (number 1 10000) (Some 16) (get_member (codes "quantum") doc)
   Ok (record { vm_id = vm_id; shared = shared; buffers = buffers; devices = devices; turns = turns; quantum = quantum })

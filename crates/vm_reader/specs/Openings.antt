@@ -1,6 +1,7 @@
 -- What was read of the keys before the handlers, and the rules that it keeps.
 use Rattle.std.specs.Prelude.{◌≡◌, ◌≤◌, length, true}
 use Rattle.std.specs.List.{list_all}
+use Rattle.mate_num.specs.declared.bounds.TheConstants.{SHARED_MAX, BUFFERS_MAX, DEVICES_MAX}
 use Rattle.vm_desc.specs.Names.{is_name}
 use Rattle.vm_reader.specs.Halves as halves
 use Rattle.vm_reader.specs.declared.opening.Opening.{Opening}
@@ -17,11 +18,11 @@ seen_opening o = record {
 
 pub record IsOpening (o : Opening) : Type 0 where
   pub vm_id : o.vm_id ≤ 4294967295
-  pub few_shared : length o.shared.items ≤ 16
+  pub few_shared : length o.shared.items ≤ SHARED_MAX
   pub each_shared : list_all is_name o.shared.items ≡ true
-  pub few_buffers : length o.buffers.items ≤ 8
+  pub few_buffers : length o.buffers.items ≤ BUFFERS_MAX
   pub each_buffer : list_all is_name o.buffers.items ≡ true
-  pub few_devices : length o.devices.items ≤ 8
+  pub few_devices : length o.devices.items ≤ DEVICES_MAX
   pub each_device : list_all is_name o.devices.items ≡ true
   pub turns : o.turns ≤ 1000000
   pub quantum_low : 1 ≤ o.quantum

@@ -3,7 +3,8 @@
 use Rattle.std.specs.Prelude.{ℕ, List, [], ◌∷◌, ◌+◌, ◌*◌, ◌%◌, ◌^◌, ◌==◌, length, codes, nat_lt, nat_le, if◌then◌else◌, Option, Some, None, option_map, option_and_then, Result, Ok, Err}
 use Rattle.std.specs.List.{position}
 use Rattle.std.specs.Str.{bytes_eq}
-use Rattle.mate_num.specs.declared.bounds.TheConstants.{HOUR}
+use Rattle.mate_num.specs.declared.bounds.TheConstants.{SHARED_MAX, BUFFERS_MAX, DEVICES_MAX, FUNCTIONS_MAX, HANDLERS_MAX, HOUR}
+use Rattle.vm_desc.specs.declared.settings.TheConstants.{DOUBLINGS_MAX}
 use Rattle.toml.specs.Data.{Data, Members, as_str, get_member}
 use Rattle.mate_num.specs.declared.id.DeviceId.{DeviceId}
 use Rattle.vm_desc.specs.Limits.{Parts, duplicate_of, round_time, longest}
@@ -48,7 +49,7 @@ handler_at t = do
 unfoldable pub handlers_at : Option Data → Result (List Handler) DescFault
 handlers_at value = do
   d ← taken key.Handler value
-  ts ← tables key.Handler 8 d
+  ts ← tables key.Handler HANDLERS_MAX d
   some ← allowed key.Handler (nat_lt 0 (length ts))
   each handler_at ts
 
@@ -85,14 +86,14 @@ function_at devices t = do
 -- the list of functions, which may be absent
 unfoldable pub functions_at : List (List ℕ) → Option Data → Result (List Function) DescFault
 functions_at devices None = Ok []
-functions_at devices (Some d) = tables key.Function 32 d >>= each (function_at devices)
+functions_at devices (Some d) = tables key.Function FUNCTIONS_MAX d >>= each (function_at devices)
 
 -- the keys of the Trickle timer
 unfoldable pub trickle_at : Option Members → Result TrickleSet DescFault
 trickle_at t = do
   imin ← field key.TrickleImin (number 2 60000) (Some 1000) (member_of (codes "imin") t)
   even ← allowed key.TrickleImin (imin % 2 == 0)
-  doublings ← field key.TrickleDoublings (number 0 16) (Some 4) (member_of (codes "doublings") t)
+  doublings ← field key.TrickleDoublings (number 0 DOUBLINGS_MAX) (Some 4) (member_of (codes "doublings") t)
   short ← allowed key.TrickleDoublings (nat_le (imin * 2 ^ doublings) HOUR)
   k ← field key.TrickleK (number 1 255) (Some 2) (member_of (codes "k") t)
   Ok (record { imin = imin; doublings = doublings; k = k })
@@ -123,9 +124,9 @@ ruled p = do
 unfoldable pub description_at : Members → Result Parts DescFault
 description_at doc = do
   vm_id ← field key.Vm (number 0 4294967295) None (get_member (codes "vm") doc)
-  shared ← names key.Shared 16 (get_member (codes "shared") doc)
-  buffers ← names key.Buffers 8 (get_member (codes "buffers") doc)
-  devices ← names key.Devices 8 (get_member (codes "devices") doc)
+  shared ← names key.Shared SHARED_MAX (get_member (codes "shared") doc)
+  buffers ← names key.Buffers BUFFERS_MAX (get_member (codes "buffers") doc)
+  devices ← names key.Devices DEVICES_MAX (get_member (codes "devices") doc)
   turns ← field key.Turns (number 0 1000000) (Some 10000) (get_member (codes "turns") doc)
   quantum ← field key.Quantum (number 1 10000) (Some 16) (get_member (codes "quantum") doc)
   handlers ← handlers_at (get_member (codes "handler") doc)

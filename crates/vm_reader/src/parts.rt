@@ -5,40 +5,43 @@ ghost use Rattle.std.specs.List.{list_all, position};
 ghost use Rattle.std.specs.Str.{bytes_eq};
 ghost use Rattle.toml.specs.View.{array_view, table_view};
 ghost use Rattle.mate_num.specs.Shapes.{is_device};
+ghost use Rattle.mate_num.specs.declared.bounds.TheConstants.{DEVICES_MAX, FUNCTIONS_MAX, HANDLERS_MAX};
 ghost use Rattle.vm_desc.specs.Limits.{is_kind, is_handler, function_args, is_function, is_trickle, is_radio};
 ghost use Rattle.vm_reader.specs.Fields.{GivesField, field, word_as, each, seen, seen_table, tables_in, are_tables};
 ghost use Rattle.vm_reader.specs.Reading.{handler_kind, with_period, handler_at, handlers_at, fun_kind, with_args, device, function_at, functions_at, trickle_at, radio_at};
 
 use crate::fields::{allowed, at, name, number, tables, taken, within};
 use arrayvec::ArrayVec;
-use mate_num::{DeviceId, HOUR, Name};
+use mate_num::{DEVICES_MAX, DeviceId, FUNCTIONS_MAX, HANDLERS_MAX, HOUR, Name};
 use toml::value::Array;
 use toml::{Table, Value};
 use vm_desc::settings::doubled;
-use vm_desc::{DescFault, FunKind, Function, Handler, HandlerKind, Key, RadioSet, TrickleSet};
+use vm_desc::{
+    DOUBLINGS_MAX, DescFault, FunKind, Function, Handler, HandlerKind, Key, RadioSet, TrickleSet,
+};
 
-/// The handlers in `value`: one to eight.
+/// The handlers in `value`: 1 to `HANDLERS_MAX`.
 #[tactic(auto, unfolding(crate::specs::Reading::handlers_at))]
-pub fn handlers_in(value: Option<&Value>) -> Result<ArrayVec<Handler, 8>, DescFault>
+pub fn handlers_in(value: Option<&Value>) -> Result<ArrayVec<Handler, HANDLERS_MAX>, DescFault>
     ensures value { GivesField (λ v. v.items) result (handlers_at (seen value.entry)) }
     ensures some { IfOk result (λ v. 1 ≤ length v.items) }
-    ensures few { IfOk result (λ v. length v.items ≤ 8) }
+    ensures few { IfOk result (λ v. length v.items ≤ HANDLERS_MAX) }
     ensures rules { IfOk result (λ v. IsTrue (list_all is_handler v.items)) }
 {
     let value = taken(Key::Handler, value)?;
-    let items = tables(Key::Handler, 8, value)?;
+    let items = tables(Key::Handler, HANDLERS_MAX, value)?;
     allowed(Key::Handler, !items.is_empty())?;
     each_handler(items)
 }
 
-fn each_handler(items: &Array) -> Result<ArrayVec<Handler, 8>, DescFault>
-    requires few { length items.now.items ≤ 8 }
+fn each_handler(items: &Array) -> Result<ArrayVec<Handler, HANDLERS_MAX>, DescFault>
+    requires few { length items.now.items ≤ HANDLERS_MAX }
     requires tables { are_tables (array_view items.now) ≡ true }
     ensures value { GivesField (λ v. v.items) result (each handler_at (tables_in (array_view items.now))) }
     ensures count { IfOk result (λ v. length v.items ≡ length items.now.items) }
     ensures rules { IfOk result (λ v. IsTrue (list_all is_handler v.items)) }
 {
-    let mut handlers: ArrayVec<Handler, 8> = ArrayVec::new();
+    let mut handlers: ArrayVec<Handler, HANDLERS_MAX> = ArrayVec::new();
     for item in items {
         let Some(table) = item.as_table() else {
             unreachable!()
@@ -48,31 +51,37 @@ fn each_handler(items: &Array) -> Result<ArrayVec<Handler, 8>, DescFault>
     Ok(handlers)
 }
 
-/// The functions in `value`: at most 32, and none if it is absent.
+/// The functions in `value`: at most `FUNCTIONS_MAX`, and none if it is absent.
 #[tactic(auto, unfolding(crate::specs::Reading::functions_at))]
 pub fn functions_in(
-    devices: &ArrayVec<Name, 8>,
+    devices: &ArrayVec<Name, DEVICES_MAX>,
     value: Option<&Value>,
-) -> Result<ArrayVec<Function, 32>, DescFault>
+) -> Result<ArrayVec<Function, FUNCTIONS_MAX>, DescFault>
     ensures value { GivesField (λ v. v.items) result (functions_at devices.now.items (seen value.entry)) }
-    ensures few { IfOk result (λ v. length v.items ≤ 32) }
+    ensures few { IfOk result (λ v. length v.items ≤ FUNCTIONS_MAX) }
     ensures rules { IfOk result (λ v. IsTrue (list_all (is_function (length devices.now.items)) v.items)) }
 {
     match value {
-        Some(value) => each_function(devices.as_slice(), tables(Key::Function, 32, value)?),
+        Some(value) => each_function(
+            devices.as_slice(),
+            tables(Key::Function, FUNCTIONS_MAX, value)?,
+        ),
         None => Ok(ArrayVec::new()),
     }
 }
 
-fn each_function(devices: &[Name], items: &Array) -> Result<ArrayVec<Function, 32>, DescFault>
-    requires devices { length devices.now ≤ 8 }
-    requires few { length items.now.items ≤ 32 }
+fn each_function(
+    devices: &[Name],
+    items: &Array,
+) -> Result<ArrayVec<Function, FUNCTIONS_MAX>, DescFault>
+    requires devices { length devices.now ≤ DEVICES_MAX }
+    requires few { length items.now.items ≤ FUNCTIONS_MAX }
     requires tables { are_tables (array_view items.now) ≡ true }
     ensures value { GivesField (λ v. v.items) result (each (function_at devices.now) (tables_in (array_view items.now))) }
     ensures count { IfOk result (λ v. length v.items ≡ length items.now.items) }
     ensures rules { IfOk result (λ v. IsTrue (list_all (is_function (length devices.now)) v.items)) }
 {
-    let mut functions: ArrayVec<Function, 32> = ArrayVec::new();
+    let mut functions: ArrayVec<Function, FUNCTIONS_MAX> = ArrayVec::new();
     for item in items {
         let Some(table) = item.as_table() else {
             unreachable!()
@@ -140,7 +149,7 @@ fn with_period(kind: HandlerKind, value: Option<&Value>) -> Result<HandlerKind, 
 
 #[tactic(auto, unfolding(crate::specs::Reading::function_at))]
 fn function_in(devices: &[Name], table: &Table) -> Result<Function, DescFault>
-    requires { length devices.now ≤ 8 }
+    requires { length devices.now ≤ DEVICES_MAX }
     ensures value { result ≡ function_at devices.now (table_view table.now) }
     ensures rules { IfOk result (λ f. IsTrue (is_function (length devices.now) f)) }
 {
@@ -205,7 +214,7 @@ fn with_args(kind: FunKind, value: Option<&Value>) -> Result<FunKind, DescFault>
 }
 
 fn device(devices: &[Name], value: Option<&Value>) -> Result<Option<DeviceId>, DescFault>
-    requires { length devices.now ≤ 8 }
+    requires { length devices.now ≤ DEVICES_MAX }
     ensures value { result ≡ field Key.FunctionDevice (device devices.now) (Some None) (seen value.entry) }
     ensures rules { IfOk result (λ d. IsTrue (is_device (length devices.now) d)) }
 {
@@ -244,7 +253,7 @@ pub fn trickle_in(table: Option<&Table>) -> Result<TrickleSet, DescFault>
     let doublings = number(
         Key::TrickleDoublings,
         0,
-        16,
+        DOUBLINGS_MAX,
         Some(4),
         within(table, "doublings"),
     )?;

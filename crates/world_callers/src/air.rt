@@ -1,7 +1,7 @@
 //! What events record, cancel and schedule on the radio.
 
 ghost use Rattle.std.specs.Prelude.{◌≡◌, ◌<◌, ◌≤◌, ℕ, List, [], ◌∷◌, ◌++◌, OnOk};
-ghost use Rattle.mate_num.specs.declared.bounds.TheConstants.{HOUR};
+ghost use Rattle.mate_num.specs.declared.bounds.TheConstants.{HOUR, NODES_MAX};
 ghost use Rattle.vm_desc.specs.declared.function.FunKind.TheVariants as kind;
 ghost use Rattle.event_queue.specs.Agenda.{due_at};
 ghost use Rattle.radio_sim.specs.declared.event.Event.TheVariants as event;
@@ -59,7 +59,7 @@ pub fn the_point_comes_at_its_time(
 
 /// A pump that is due ends where it shall, also where no answers do.
 pub fn a_pump_ends_without_the_answers(radio: &mut Radio, node: u8)
-    requires { node < 64 }
+    requires { node < NODES_MAX }
     ensures { (t : ℕ) → due_at t radio.old.agenda.items ≡ event.Pump node ∷ [] → due_at t radio.new.agenda.items ≡ [] }
 {
     let ends = Ends {

@@ -1,6 +1,7 @@
 //! The contexts of a node.
 
 ghost use Rattle.std.specs.Prelude.{◌≡◌, ◌<◌, Some, IfOk, IsSome, IsSomeAnd, IsTrue, false, pos};
+ghost use Rattle.mate_num.specs.declared.bounds.TheConstants.{CONTEXTS_MAX};
 ghost use Rattle.mate_num.specs.Locks.{lock_uses};
 ghost use Rattle.mate_num.specs.declared.resource.Resource.TheVariants.{Shared};
 ghost use Rattle.mate_code.specs.Effect.{push};
@@ -23,7 +24,7 @@ pub fn an_answer_is_pushed(contexts: &mut Contexts, handlers: &Handlers, ctx: Co
 }
 
 pub fn a_finished_invocation_holds_no_locks(contexts: &mut Contexts, ctx: ContextId) -> bool
-    requires small { ctx.0 < 16 }
+    requires small { ctx.0 < CONTEXTS_MAX }
     requires started { IsSome (at contexts.old ctx).holds }
     ensures { result ≡ false }
 {

@@ -7,7 +7,7 @@ use Rattle.world_rules.specs.World.{World, handlers}
 use Rattle.world_rules.specs.Effect.{Installing}
 use Rattle.world_rules.specs.State.{Moment, effect_at, state}
 
--- a program for a handler: its version and its image, of 1 to 22 fragments
+-- a program for a handler: its version and its image, of 1 to `FRAGMENTS_MAX` fragments
 pub record Version : Type 0 where
   pub handler : ℕ
   pub version : ℕ

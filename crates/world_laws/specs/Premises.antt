@@ -56,7 +56,7 @@ abbrev pub RightScriptsPlanRightly : Type 0
 RightScriptsPlanRightly = (d : Description) (meaning : Meaning) (script : Script) (programs : ℕ → HeldProgram)
     → IsRightScript d script programs → IsRightPlan (world_of d meaning script programs)
 
--- the image of every capsule has 1 to 22 fragments
+-- the image of every capsule has 1 to `FRAGMENTS_MAX` fragments
 abbrev pub CapsulesHaveFewFragments : Type 0
 CapsulesHaveFewFragments = (c : CapsuleParts) → IsCapsule c → (1 ≤ count_of (capsule_image c))
     × (count_of (capsule_image c) ≤ FRAGMENTS_MAX)

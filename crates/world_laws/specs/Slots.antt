@@ -1,5 +1,6 @@
 -- When a node sends the fragments that it was asked for.
 use Rattle.std.specs.Prelude.{◌≡◌, ℕ, ◌+◌, ◌*◌, ◌/◌, ◌<◌, ◌≤◌, false, IsTrue, List, [], ◌∷◌, ◌++◌, Some}
+use Rattle.mate_num.specs.declared.bounds.TheConstants.{FRAGMENTS_MAX}
 use Rattle.capsule_exchange.specs.Happenings.{next_slot, is_marked_slot}
 use Rattle.world_rules.specs.Cause.{Cause}
 use Rattle.world_rules.specs.Cause as event
@@ -30,8 +31,8 @@ pub record SendsSlot (w : World) (i slot by : ℕ) (before later : List Moment) 
 
 -- a slot that is marked is sent in time, unless the node is reset or installs its handler
 abbrev pub SendsInTime : World → Type 0
-SendsInTime w = (i slot time : ℕ) (before later : List Moment) → i < w.nodes → slot < handlers w * 22 → HaveCome w (later ++ before)
-    → last_time before ≤ time
-    → IsTrue (is_marked_slot ((state w before).nodes i).exchange slot) → AreSparing w i (slot / 22) before later
-    → IsDone (state w (later ++ before)) (time + handlers w * 22 * w.description.radio.gap)
-    → SendsSlot w i slot (time + handlers w * 22 * w.description.radio.gap) before later
+SendsInTime w = (i slot time : ℕ) (before later : List Moment) → i < w.nodes → slot < handlers w * FRAGMENTS_MAX
+    → HaveCome w (later ++ before) → last_time before ≤ time
+    → IsTrue (is_marked_slot ((state w before).nodes i).exchange slot) → AreSparing w i (slot / FRAGMENTS_MAX) before later
+    → IsDone (state w (later ++ before)) (time + handlers w * FRAGMENTS_MAX * w.description.radio.gap)
+    → SendsSlot w i slot (time + handlers w * FRAGMENTS_MAX * w.description.radio.gap) before later

@@ -1,9 +1,9 @@
 -- The names of a machine, as a source's words, and its first sensor among its functions.
-use Rattle.std.proofs.Common.{◌≡◌, ℕ, ◌+◌, ◌≤◌, Bool, true, false, not, ◌&&◌, ◌||◌, ◌==◌, nat_le, cond, List, [], ◌∷◌, ◌++◌, length, map, Option, Some, None, refl, sym, ◌∙◌, ap, subst, arith}
+use Rattle.std.proofs.Common.{◌≡◌, ℕ, ◌+◌, ◌≤◌, Bool, true, false, not, ◌&&◌, ◌||◌, ◌==◌, nat_lt, nat_le, cond, List, [], ◌∷◌, ◌++◌, length, map, Option, Some, None, refl, sym, ◌∙◌, ap, subst, arith}
 use Rattle.std.specs.Option.{option_or}
 use Rattle.std.specs.List.{list_any, list_all}
 use Rattle.std.specs.Str.{bytes_eq}
-use Rattle.std.proofs.lemmas.Bool.{and_parts, leb-true, not-true, cond-true, cond-false}
+use Rattle.std.proofs.lemmas.Bool.{and_parts, ltb-true, not-true, cond-true, cond-false}
 use Rattle.std.proofs.lemmas.List.Folds.{list_any-append}
 use Rattle.std.proofs.lemmas.Slice.Eq.{bytes_eq-Decides}
 use Rattle.mate_num.specs.declared.id.FunId.{FunId}
@@ -67,13 +67,13 @@ pub name_is_one : (w : List ℕ) → is_name w ≡ true → IsOneName w
 name_is_one [] h = absurd cc
 name_is_one (c ∷ cs) h =
     let parts = and_parts (has_form (c ∷ cs)) (not (is_keyword (c ∷ cs))) h in
-    let form = and_parts (nat_le (length cs) 15 && desc.begins_name c) (list_all continues_name cs) parts.0 in
-    let front = and_parts (nat_le (length cs) 15) (desc.begins_name c) form.0 in
+    let form = and_parts (nat_lt (length cs) 16 && desc.begins_name c) (list_all continues_name cs) parts.0 in
+    let front = and_parts (nat_lt (length cs) 16) (desc.begins_name c) form.0 in
     let first : cut.begins_name c ≡ true = sym (same_begins c) ∙ front.1 in
     record {
       begins = first;
       passes = (ap (λ b. b || is_digit c) first, all_pass cs form.1);
-      short = omega (arith, leb-true (length cs) 15 front.0);
+      short = omega (arith, ltb-true (length cs) 16 front.0);
       kind_is = no_keyword (c ∷ cs) (not_true (is_keyword (c ∷ cs)) parts.1);
     } where
       not_true : (b : Bool) → not b ≡ true → b ≡ false

@@ -22,7 +22,7 @@ pub struct Generated {
     pub sources: Texts,
 }
 
-/// The world of `number` on the machine: 8 to 64 nodes in a ring, two versions of each handler, and 200 posts. Its files
+/// The world of `number` on the machine: 8 to `NODES_MAX` nodes in a ring, two versions of each handler, and 200 posts. Its files
 /// have no names; their sources come with it.
 pub fn generate(alloc: Global, desc: &Description, number: u64) -> Result<Generated, NoMemory>
     ensures world { IfOk result (λ made. made.world ≡ made_world desc.now number) }

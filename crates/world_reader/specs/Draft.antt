@@ -2,7 +2,8 @@
 use Rattle.std.specs.Prelude.{◌≡◌, ℕ, ◌+◌, ◌*◌, ◌<◌, ◌≤◌, ◌==◌, ◌&&◌, Bool, true, false, if◌then◌else◌, List, [], ◌∷◌, length, slice_index}
 use Rattle.std.specs.Prelude.{slice_index_or, All, Option, option_map, Result, Ok, Err, ⊤}
 use Rattle.std.specs.List.{AllPairs}
-use Rattle.mate_num.specs.declared.bounds.TheConstants.{HOUR, NODES_MAX}
+use Rattle.mate_num.specs.declared.bounds.TheConstants.{FUNCTIONS_MAX, HANDLERS_MAX, HOUR, NODES_MAX}
+use Rattle.world_reader.specs.declared.draft.TheConstants.{PAIRS, PLACES}
 use Rattle.vm_desc.specs.declared.description.Description.{Description}
 use Rattle.world_script.specs.declared.world.World.{World}
 use Rattle.world_script.specs.declared.world.Series.{Series}
@@ -70,7 +71,7 @@ pub record KeepsWorld (d : Description) (p : WorldProgress) : Type 0 where
   pub events : All (IsRightPlanned d p.world.nodes p.world.until (length p.world.files)) p.world.events
   pub in_order : AllPairs Follow p.world.events
   pub past : All (λ e. e.time ≤ p.time) p.world.events
-  pub places : length p.newest ≡ 8
+  pub places : length p.newest ≡ HANDLERS_MAX
   pub noted : All (IsNotedAt p.newest) p.world.events
 
 -- the event's file is named with it, its time isn't before the last one, and its version is newer than the newest one
@@ -102,8 +103,9 @@ place_from n node fun (s ∷ series) = if is_of_pair node fun s then n else plac
 
 -- the tables of links and of series agree with the lists
 pub record AreTables (linked : List Bool) (places : List ℕ) (w : World) : Type 0 where
-  pub linked_len : length linked ≡ 4096
-  pub places_len : length places ≡ 2048
+  pub linked_len : length linked ≡ PAIRS
+  pub places_len : length places ≡ PLACES
   pub links : (from to : ℕ) → from < NODES_MAX → to < NODES_MAX
       → slice_index_or linked (from * NODES_MAX + to) false ≡ is_linked from to w.links
-  pub series : (node fun : ℕ) → node < NODES_MAX → fun < 32 → slice_index places (node * 32 + fun) ≡ place_from 1 node fun w.series
+  pub series : (node fun : ℕ) → node < NODES_MAX → fun < FUNCTIONS_MAX
+      → slice_index places (node * FUNCTIONS_MAX + fun) ≡ place_from 1 node fun w.series

@@ -1,6 +1,6 @@
 -- The world script in bytes, line by line; if a line is refused, the first such line and its first cause.
 use Rattle.std.specs.Prelude.{ℕ, ◌<◌, Bool, true, if◌then◌else◌, List, [], ◌∷◌, ◌++◌, slice_set, replicate, Result, Ok, Err}
-use Rattle.mate_num.specs.declared.bounds.TheConstants.{NODES_MAX}
+use Rattle.mate_num.specs.declared.bounds.TheConstants.{FUNCTIONS_MAX, NODES_MAX}
 use Rattle.vm_desc.specs.declared.description.Description.{Description}
 use Rattle.script_reader.specs.declared.fault.Cause.{Cause}
 use Rattle.script_reader.specs.declared.fault.Cause.TheVariants.{Word}
@@ -89,5 +89,5 @@ HasPlace p (SaysRandom random) = Unit {0}
 HasPlace p (SaysUntil until) = Unit {0}
 HasPlace p (SaysSuppress on) = Unit {0}
 HasPlace p (SaysLink link both) = (link.from < NODES_MAX) × (link.to < NODES_MAX)
-HasPlace p (SaysSeries series) = (series.node < NODES_MAX) × (series.fun.0 < 32)
+HasPlace p (SaysSeries series) = (series.node < NODES_MAX) × (series.fun.0 < FUNCTIONS_MAX)
 HasPlace p (SaysPlanned e file) = Unit {0}

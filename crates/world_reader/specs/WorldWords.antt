@@ -47,7 +47,7 @@ abbrev pub some_values : WordReading (List ℤ)
 some_values [] = Err Word
 some_values (w ∷ words) = found (values_from [] (w ∷ words)) []
 
--- some bytes, at most 64, that are no packet
+-- some bytes, at most `PACKET_MAX`, that are no packet
 abbrev pub if_noise : Description → List ℕ → Result (ArrayVec ℕ) Cause
 if_noise d bytes =
     if length bytes == 0 then Err Number

@@ -1,14 +1,14 @@
 //! What a line adds to the world so far.
 
 ghost use Rattle.std.specs.Prelude.{◌≡◌, ◌<◌, false, length, IfErr, OnOk, option_map};
-ghost use Rattle.mate_num.specs.declared.bounds.TheConstants.{NODES_MAX};
+ghost use Rattle.mate_num.specs.declared.bounds.TheConstants.{FUNCTIONS_MAX, NODES_MAX};
 ghost use Rattle.world_script.specs.World.{with_values};
 ghost use Rattle.world_reader.specs.WorldLines.{SaysLink, SaysSeries, SaysPlanned};
 ghost use Rattle.world_reader.specs.Draft.{world_progress_of, world_said_of, AreTables};
 ghost use Rattle.world_reader.specs.WorldScript.{newest_with, with_told, HasPlace};
 
 use crate::{Command, Draft, Stage};
-use mate_num::{NoMemory, Text};
+use mate_num::{FUNCTIONS_MAX, HANDLERS_MAX, NODES_MAX, NoMemory, Text};
 use script_reader::{ScriptFault, note_newest};
 use world_script::{Link, Planned, Series, SeriesList, What};
 
@@ -70,19 +70,19 @@ fn join_one(draft: &mut Draft, link: Link) -> Result<(), NoMemory>
     ensures value { OnOk result (world_progress_of draft.new ≡ with_told (world_progress_of draft.old) (SaysLink link false)) }
     ensures tables { OnOk result (AreTables draft.new.linked draft.new.places draft.new.world) }
 {
-    draft.linked[link.from as usize * 64 + link.to as usize] = true;
+    draft.linked[link.from as usize * NODES_MAX + link.to as usize] = true;
     draft.world.links.push(link)
 }
 
 // Adds the values to their series, or a new one.
 fn give(draft: &mut Draft, series: Series) -> Result<(), NoMemory>
     requires node { series.node < NODES_MAX }
-    requires fun { series.fun.0 < 32 }
+    requires fun { series.fun.0 < FUNCTIONS_MAX }
     requires tables { AreTables draft.old.linked draft.old.places draft.old.world }
     ensures value { OnOk result (world_progress_of draft.new ≡ with_told (world_progress_of draft.old) (SaysSeries series)) }
     ensures tables { OnOk result (AreTables draft.new.linked draft.new.places draft.new.world) }
 {
-    let pair = series.node as usize * 32 + series.fun.0 as usize;
+    let pair = series.node as usize * FUNCTIONS_MAX + series.fun.0 as usize;
     let place = draft.places[pair];
     if place == 0 {
         draft.world.series.push(series)?;
@@ -110,7 +110,7 @@ fn plan(draft: &mut Draft, planned: Planned, file: Option<&str>) -> Result<(), N
 }
 
 // Notes the version of an injection.
-fn note_version(newest: &mut [u32; 8], what: &What)
+fn note_version(newest: &mut [u32; HANDLERS_MAX], what: &What)
     ensures { newest.new ≡ newest_with newest.old what.now }
 {
     if let What::Inject {

@@ -1,8 +1,15 @@
 //! A world as far as its script was read.
 
 use crate::stage::Stage;
+use mate_num::{FUNCTIONS_MAX, HANDLERS_MAX, NODES_MAX};
 use std::alloc::Global;
 use world_script::World;
+
+/// How many pairs of nodes there are.
+pub const PAIRS: usize = NODES_MAX * NODES_MAX;
+
+/// How many pairs of a node and a function there are.
+pub const PLACES: usize = NODES_MAX * FUNCTIONS_MAX;
 
 /// What the lines so far say.
 #[derive(Drop)]
@@ -13,9 +20,9 @@ pub struct Draft {
     /// The last planned time.
     pub time: u32,
     /// The newest version of each handler, 0 for none.
-    pub newest: [u32; 8],
-    /// For each two nodes, in rows of 64, whether a link leads from the one to the other.
-    pub linked: [bool; 4096],
-    /// For each node and function, in rows of 32, how many series stand up to theirs, 0 for none.
-    pub places: [usize; 2048],
+    pub newest: [u32; HANDLERS_MAX],
+    /// For each two nodes, in rows of `NODES_MAX`, whether a link leads from the one to the other.
+    pub linked: [bool; PAIRS],
+    /// For each node and function, in rows of `FUNCTIONS_MAX`, how many series stand up to theirs, 0 for none.
+    pub places: [usize; PLACES],
 }

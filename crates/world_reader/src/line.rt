@@ -11,7 +11,7 @@ use crate::command::Command;
 use crate::draft::Draft;
 use crate::refusal::Refusal;
 use crate::stage::Stage;
-use mate_num::HOUR;
+use mate_num::{HOUR, NODES_MAX};
 use script_reader::{Cause, Words};
 use vm_desc::Description;
 
@@ -68,7 +68,7 @@ fn nodes_in(verb: &str, words: &mut Words<'_>) -> Result<u8, Cause>
     ensures high { IfOk result (λ n. n ≤ NODES_MAX) }
 {
     if verb == "nodes" {
-        let nodes = words.number(1, 64, Cause::Range)?;
+        let nodes = words.number(1, NODES_MAX as u64, Cause::Range)?;
         Ok(nodes as u8)
     } else {
         Err(Cause::Word)

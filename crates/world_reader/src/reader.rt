@@ -6,17 +6,19 @@ ghost use Rattle.script_reader.specs.Lines.{split_words};
 ghost use Rattle.script_reader.specs.Script.{AnswersScript, FollowsLine};
 ghost use Rattle.world_script.specs.World.{IsRightWorld};
 ghost use Rattle.world_reader.specs.Draft.{world_progress_of, KeepsWorld, AreTables};
+ghost use Rattle.world_reader.specs.declared.draft.TheConstants.{PAIRS, PLACES};
 ghost use Rattle.world_reader.specs.WorldScript.{after_world_line, world_script_in, world_at_end, no_world};
 
 use crate::adding::take;
+use crate::draft::{PAIRS, PLACES};
 use crate::{Draft, Refusal, Stage};
-use mate_num::Items;
+use mate_num::{HANDLERS_MAX, Items};
 use script_reader::{Cause, Lines, ScriptFault, Words};
 use std::alloc::Global;
 use vm_desc::Description;
 use world_script::{SeriesList, World};
 
-/// The world that the script in `bytes`, of at most 1,048,576 bytes, plans.
+/// The world that the script in `bytes`, of at most `FILE_MAX` bytes, plans.
 ///
 /// The lines that aren't empty and don't begin with `#` are `nodes N`, `random S` and `until MS`, then settings
 /// (`suppress on`, `suppress off`, `link A B LOSS`, `both A B LOSS`, `series NODE FUN V ..`), then events
@@ -56,7 +58,7 @@ fn begun(alloc: Global) -> Draft
             files: Items::new(alloc),
         },
         time: 0,
-        newest: [0; 8],
+        newest: [0; HANDLERS_MAX],
         linked: no_links(),
         places: no_places(),
     }
@@ -109,14 +111,14 @@ fn finish(draft: Draft, number: u32) -> Result<World, ScriptFault>
     }
 }
 
-fn no_links() -> [bool; 4096]
-    ensures { result ≡ replicate 4096 false }
+fn no_links() -> [bool; PAIRS]
+    ensures { result ≡ replicate PAIRS false }
 {
-    [false; 4096]
+    [false; PAIRS]
 }
 
-fn no_places() -> [usize; 2048]
-    ensures { result ≡ replicate 2048 0 }
+fn no_places() -> [usize; PLACES]
+    ensures { result ≡ replicate PLACES 0 }
 {
-    [0; 2048]
+    [0; PLACES]
 }

@@ -12,6 +12,7 @@ use crate::command::Command;
 use crate::draft::Draft;
 use crate::refusal::Refusal;
 use crate::world_words::{node_in, sensor_in, values_in};
+use mate_num::NODES_MAX;
 use script_reader::{Cause, Words};
 use vm_desc::Description;
 use world_script::{Link, Series};
@@ -105,7 +106,7 @@ impl Draft {
         requires tables { AreTables self.now.linked self.now.places self.now.world }
         ensures { result ≡ is_linked from to self.now.world.links }
     {
-        self.linked[from as usize * 64 + to as usize]
+        self.linked[from as usize * NODES_MAX + to as usize]
     }
 
     #[tactic(auto, unfolding(crate::specs::WorldLines::a_series))]

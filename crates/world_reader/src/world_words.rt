@@ -11,7 +11,7 @@ ghost use Rattle.world_reader.specs.Draft.{ReadsWithMemory};
 
 use crate::refusal::Refusal;
 use capsule_codec::{HexFault, from_hex};
-use mate_num::{FunId, Items, PacketBytes};
+use mate_num::{FunId, Items, PACKET_MAX, PacketBytes};
 use script_reader::{Cause, Words};
 use std::alloc::Global;
 use vm_desc::{Description, FunKind};
@@ -103,7 +103,7 @@ pub fn values_in(alloc: Global, words: &mut Words<'_>) -> Result<Values, Refusal
     Ok(values)
 }
 
-/// Bytes that are no packet of the machine, 1 to 64, in hexadecimal digits.
+/// Bytes that are no packet of the machine, 1 to `PACKET_MAX`, in hexadecimal digits.
 #[tactic(auto, unfolding(crate::specs::WorldWords::some_noise))]
 pub fn noise_in(desc: &Description, words: &mut Words<'_>) -> Result<PacketBytes, Cause>
     ensures value { ReadsWords (λ b. b) (some_noise desc.now) (split_words words.old) result (split_words words.new) }
@@ -124,7 +124,7 @@ fn if_noise(desc: &Description, bytes: &[u8]) -> Result<PacketBytes, Cause>
     if bytes.is_empty() {
         return Err(Cause::Number);
     }
-    if bytes.len() > 64 {
+    if bytes.len() > PACKET_MAX {
         return Err(Cause::Range);
     }
     if packet_codec::decode(desc, bytes).is_ok() {

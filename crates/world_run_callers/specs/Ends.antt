@@ -3,6 +3,7 @@ use Rattle.std.specs.Prelude.{◌≡◌, ◌+◌, ◌≤◌, ℕ, not, ◌&&◌,
 use Rattle.std.specs.List.{flat_map}
 use Rattle.mate_num.specs.declared.bounds.TheConstants.{HOUR}
 use Rattle.vm_desc.specs.declared.description.Description.{Description}
+use Rattle.open_node.specs.declared.open_node.TheConstants.{SETTLING_ENTRIES}
 use Rattle.packet_codec.specs.Packet.{IsRightPacket}
 use Rattle.packet_codec.specs.declared.packet.Packet.{Packet}
 use Rattle.world_script.specs.World.{IsRightWorld}
@@ -24,7 +25,7 @@ pub record MayFinish (d : Description) (script : Script) (radio : Ether) (x : Mo
   pub machine : x.node.description ≡ d
   pub kept : x.node.gone.entries ≤ from
   pub low : from ≤ length x.node.log.entries
-  pub short : length x.node.log.entries ≤ from + 32
+  pub short : length x.node.log.entries ≤ from + SETTLING_ENTRIES
   pub ahead : radio.agenda.now ≤ time
   pub hour : time ≤ HOUR
   pub few : length radio.air ≤ 1000000

@@ -9,11 +9,11 @@ use std::marker::Model;
 /// What a world's script plans: nodes, the links between them, outside answers, and events in order of time.
 #[derive(Drop)]
 pub struct World {
-    /// How many nodes there are: 1 to 64, numbered from 0.
+    /// How many nodes there are: 1 to `NODES_MAX`, numbered from 0.
     pub nodes: u8,
     /// What the random streams start from.
     pub random: u64,
-    /// The last time at which events are run, in ms: 1 to 3,600,000.
+    /// The last time at which events are run, in ms: 1 to `HOUR`.
     pub until: u32,
     /// Whether a node keeps its versions to itself if it has heard them often enough.
     pub suppress: bool,
@@ -78,7 +78,7 @@ pub enum What {
     Show,
     /// Reset the node.
     Reset,
-    /// The node hears these bytes, 1 to 64, which are no packet of the machine.
+    /// The node hears these bytes, 1 to `PACKET_MAX`, which are no packet of the machine.
     Noise {
         bytes: PacketBytes,
     },

@@ -7,32 +7,32 @@ use Rattle.capsule_codec.proofs.decoding.read.Goals.{then-not-is_size-via-then-n
 pub returns-then-not-starts_with : goal.returns-then-not-starts_with
 returns-then-not-starts_with c = no-magic c.args.desc.now c.args.bytes.now c.starts_with.result c.starts_with.ensures.value c.if-not-starts_with.true
 
-pub returns-then-bytes-lt-HEAD : goal.returns-then-bytes-lt-HEAD
-returns-then-bytes-lt-HEAD c = no-head c.args.desc.now c.args.bytes.now c.starts_with.result c.starts_with.ensures.value c.if-not-starts_with.false c.if-bytes-lt-HEAD.true
+pub returns-then-bytes-lt-IMAGE_HEAD : goal.returns-then-bytes-lt-IMAGE_HEAD
+returns-then-bytes-lt-IMAGE_HEAD c = no-head c.args.desc.now c.args.bytes.now c.starts_with.result c.starts_with.ensures.value c.if-not-starts_with.false c.if-bytes-lt-IMAGE_HEAD.true
 
 pub returns-then-format-ne2 : goal.returns-then-format-ne2
 returns-then-format-ne2 c =
-    no-format c.args.desc.now c.args.bytes.now c.starts_with.result c.starts_with.ensures.value c.if-not-starts_with.false c.if-bytes-lt-HEAD.false c.if-format-ne1.true c.if-format-ne2.true
+    no-format c.args.desc.now c.args.bytes.now c.starts_with.result c.starts_with.ensures.value c.if-not-starts_with.false c.if-bytes-lt-IMAGE_HEAD.false c.if-format-ne1.true c.if-format-ne2.true
 
 pub returns-then-id-desc : goal.returns-then-id-desc
 returns-then-id-desc c =
-    let head = has-head c.args.desc.now c.args.bytes.now c.starts_with.result c.starts_with.ensures.value c.if-not-starts_with.false c.if-bytes-lt-HEAD.false c.else-format-ne1.either in
+    let head = has-head c.args.desc.now c.args.bytes.now c.starts_with.result c.starts_with.ensures.value c.if-not-starts_with.false c.if-bytes-lt-IMAGE_HEAD.false c.else-format-ne1.either in
     other-vm c.args.desc.now c.args.bytes.now head c.u32_at-id.result c.u32_at-id.ensures c.if-id-desc.true
 
 pub returns-then-from-len : goal.returns-then-from-len
 returns-then-from-len c =
-    let head = has-head c.args.desc.now c.args.bytes.now c.starts_with.result c.starts_with.ensures.value c.if-not-starts_with.false c.if-bytes-lt-HEAD.false c.else-format-ne1.either in
+    let head = has-head c.args.desc.now c.args.bytes.now c.starts_with.result c.starts_with.ensures.value c.if-not-starts_with.false c.if-bytes-lt-IMAGE_HEAD.false c.else-format-ne1.either in
     no-handler c.args.desc.now c.args.bytes.now head c.u32_at-id.result c.u32_at-id.ensures c.if-id-desc.false c.from.result c.len.result c.from.ensures c.len.ensures.value c.if-from-len.true
 
 pub returns-then-version-eq0 : goal.returns-then-version-eq0
 returns-then-version-eq0 c =
-    let head = has-head c.args.desc.now c.args.bytes.now c.starts_with.result c.starts_with.ensures.value c.if-not-starts_with.false c.if-bytes-lt-HEAD.false c.else-format-ne1.either in
+    let head = has-head c.args.desc.now c.args.bytes.now c.starts_with.result c.starts_with.ensures.value c.if-not-starts_with.false c.if-bytes-lt-IMAGE_HEAD.false c.else-format-ne1.either in
     no-version c.args.desc.now c.args.bytes.now head c.u32_at-id.result c.u32_at-id.ensures c.if-id-desc.false c.from.result c.len.result c.from.ensures c.len.ensures.value c.if-from-len.false
     c.u32_at-version.result c.u32_at-version.ensures c.if-version-eq0.true
 
 pub returns-then-not-is_size : goal.returns-then-not-is_size
 returns-then-not-is_size c =
-    let head = has-head c.args.desc.now c.args.bytes.now c.starts_with.result c.starts_with.ensures.value c.if-not-starts_with.false c.if-bytes-lt-HEAD.false c.else-format-ne1.either in
+    let head = has-head c.args.desc.now c.args.bytes.now c.starts_with.result c.starts_with.ensures.value c.if-not-starts_with.false c.if-bytes-lt-IMAGE_HEAD.false c.else-format-ne1.either in
     let numbered = is-numbered c.args.desc.now c.args.bytes.now head c.u32_at-id.result c.u32_at-id.ensures c.if-id-desc.false c.from.result c.len.result c.from.ensures c.len.ensures.value c.if-from-len.false
     c.u32_at-version.result c.u32_at-version.ensures c.if-version-eq0.false in
     elim c.then-not-is_size.branch [
@@ -48,7 +48,7 @@ invariant_of-result c =
 
 pub returns : goal.returns
 returns c =
-    let head = has-head c.args.desc.now c.args.bytes.now c.starts_with.result c.starts_with.ensures.value c.if-not-starts_with.false c.if-bytes-lt-HEAD.false c.else-format-ne1.either in
+    let head = has-head c.args.desc.now c.args.bytes.now c.starts_with.result c.starts_with.ensures.value c.if-not-starts_with.false c.if-bytes-lt-IMAGE_HEAD.false c.else-format-ne1.either in
     let numbered = is-numbered c.args.desc.now c.args.bytes.now head c.u32_at-id.result c.u32_at-id.ensures c.if-id-desc.false c.from.result c.len.result c.from.ensures c.len.ensures.value c.if-from-len.false
     c.u32_at-version.result c.u32_at-version.ensures c.if-version-eq0.false in
     whole-size c.args.desc.now c.args.bytes.now numbered c.u16_at-size.result c.u16_at-size.ensures c.is_size.result c.is_size.ensures c.if-not-is_size.false c.from-else-not-is_size.result c.from-else-not-is_size.ensures c.if-from-bytes.false
