@@ -1,5 +1,6 @@
--- What holds of a list, item by item.
-use Rattle.std.specs.Prelude.{List, [], ◌∷◌}
+-- What holds of a list, item by item, and what a word stands for in a list.
+use Rattle.std.specs.Prelude.{ℕ, List, [], ◌∷◌, if◌then◌else◌}
+use Rattle.std.specs.Str.{bytes_eq}
 
 -- of each item
 abbrev pub Each : {A : Type 0} → (A → Type 0) → List A → Type 0
@@ -10,3 +11,8 @@ Each Is (x ∷ xs) = Is x × Each Is xs
 abbrev pub Along : {A S : Type 0} → (S → A → Type 0) → (S → A → S) → S → List A → Type 0
 Along Is keep kept [] = Unit {0}
 Along Is keep kept (x ∷ xs) = Is kept x × Along Is keep (keep kept x) xs
+
+-- what a word stands for, among words with what they stand for; else this
+abbrev pub lookup_or : {A : Type 0} → A → List ℕ → List (List ℕ × A) → A
+lookup_or other word [] = other
+lookup_or other word (x ∷ xs) = if bytes_eq word x.0 then x.1 else lookup_or other word xs

@@ -2,7 +2,7 @@
 use Rattle.std.specs.Prelude.{ℕ, if◌then◌else◌, List, [], ◌∷◌, ◌++◌, length, codes, slice_index, slice_set, replicate, Option, Some, None}
 use Rattle.mate_num.specs.Results.{result_map}
 use Rattle.std.specs.Prelude.{Result, Ok, Err}
-use Rattle.std.specs.Str.{bytes_eq}
+use Rattle.mate_num.specs.Lists.{lookup_or}
 use Rattle.vm_desc.specs.declared.description.Description.{Description}
 use Rattle.script_reader.specs.declared.fault.Cause.{Cause}
 use Rattle.script_reader.specs.declared.fault.Cause.TheVariants.{Word, Range}
@@ -61,21 +61,15 @@ alone s = give (record { step = s; file = None })
 
 -- what is after the first words of the lines that name no file, no handler and no number of instructions
 unfoldable pub behind_others : Description → List ℕ → WordReading Said
-behind_others d verb =
-    if bytes_eq verb (codes "run") then alone step.Run
-    else if bytes_eq verb (codes "answer") then an_answer d
-    else if bytes_eq verb (codes "show") then alone step.Show
-    else if bytes_eq verb (codes "reset") then alone step.Reset
-    else found (Err Word)
+behind_others d verb = lookup_or (found (Err Word)) verb
+    ((codes "run", alone step.Run) ∷ (codes "answer", an_answer d)
+    ∷ (codes "show", alone step.Show) ∷ (codes "reset", alone step.Reset) ∷ [])
 
 -- what is after a line's first word
 unfoldable pub behind : Description → List ℕ → ℕ → List ℕ → WordReading Said
-behind d newest files verb =
-    if bytes_eq verb (codes "install") then an_install d newest files
-    else if bytes_eq verb (codes "load") then a_load files
-    else if bytes_eq verb (codes "post") then a_post d
-    else if bytes_eq verb (codes "step") then a_step d
-    else behind_others d verb
+behind d newest files verb = lookup_or (behind_others d verb) verb
+    ((codes "install", an_install d newest files) ∷ (codes "load", a_load files)
+    ∷ (codes "post", a_post d) ∷ (codes "step", a_step d) ∷ [])
 
 -- a whole line
 unfoldable pub a_line : Description → List ℕ → ℕ → WordReading Said

@@ -28,6 +28,21 @@ pub record Parts : Type 0 where
   pub trickle : TrickleSet
   pub radio : RadioSet
 
+abbrev pub parts : (vm_id : ℕ) (handlers : List Handler) (functions : List Function) (shared buffers devices : List (List ℕ))
+    (turns quantum : ℕ) (trickle : TrickleSet) (radio : RadioSet) → Parts
+parts vm_id handlers functions shared buffers devices turns quantum trickle radio = record {
+  vm_id = vm_id;
+  handlers = handlers;
+  functions = functions;
+  shared = shared;
+  buffers = buffers;
+  devices = devices;
+  turns = turns;
+  quantum = quantum;
+  trickle = trickle;
+  radio = radio;
+}
+
 -- a timer's period is from 1 to 3,600,000 ms
 abbrev pub is_kind : HandlerKind → Bool
 is_kind (Timer period) = between 1 HOUR period

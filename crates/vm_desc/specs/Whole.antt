@@ -1,22 +1,12 @@
 -- A description as its parts, and the built-in one.
 use Rattle.std.specs.Prelude.{ℕ, [], ◌∷◌, codes, IsTrue}
-use Rattle.vm_desc.specs.Limits.{Parts, context_sum, is_valid}
+use Rattle.vm_desc.specs.Limits.{Parts, parts, context_sum, is_valid}
 use Rattle.vm_desc.specs.declared.handler.HandlerKind.TheVariants.{Plain}
 use Rattle.vm_desc.specs.declared.description.Description.{Description}
 
 abbrev pub parts_of : Description → Parts
-parts_of d = record {
-  vm_id = d.vm_id;
-  handlers = d.handlers.items;
-  functions = d.functions.items;
-  shared = d.shared.items;
-  buffers = d.buffers.items;
-  devices = d.devices.items;
-  turns = d.turns;
-  quantum = d.quantum;
-  trickle = d.trickle;
-  radio = d.radio;
-}
+parts_of d =
+    parts d.vm_id d.handlers.items d.functions.items d.shared.items d.buffers.items d.devices.items d.turns d.quantum d.trickle d.radio
 
 -- how many contexts a machine has
 abbrev pub context_count : Description → ℕ

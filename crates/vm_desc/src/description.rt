@@ -1,7 +1,7 @@
 //! A machine's description.
 
 ghost use Rattle.std.specs.Prelude.{◌≡◌, IsTrue};
-ghost use Rattle.vm_desc.specs.Limits.{Parts, is_valid};
+ghost use Rattle.vm_desc.specs.Limits.{Parts, parts, is_valid};
 
 use crate::function::Function;
 use crate::handler::Handler;
@@ -33,18 +33,8 @@ pub struct Description {
     pub quantum: u32,
     pub trickle: TrickleSet,
     pub radio: RadioSet,
-    pub ghost valid: { IsTrue (is_valid record {
-      vm_id = vm_id;
-      handlers = handlers.items;
-      functions = functions.items;
-      shared = shared.items;
-      buffers = buffers.items;
-      devices = devices.items;
-      turns = turns;
-      quantum = quantum;
-      trickle = trickle;
-      radio = radio;
-    }) },
+    pub ghost valid: { IsTrue (is_valid (parts vm_id handlers.items functions.items shared.items buffers.items devices.items
+        turns quantum trickle radio)) },
 }
 
 impl Description {

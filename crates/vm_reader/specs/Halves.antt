@@ -3,7 +3,7 @@ use Rattle.std.specs.Prelude.{ℕ, List, codes, Some, None, Result, Ok}
 use Rattle.toml.specs.Data.{Members, get_member}
 use Rattle.mate_num.specs.Results.{◌>>=◌}
 use Rattle.mate_num.specs.declared.bounds.TheConstants.{SHARED_MAX, BUFFERS_MAX, DEVICES_MAX}
-use Rattle.vm_desc.specs.Limits.{Parts}
+use Rattle.vm_desc.specs.Limits.{Parts, parts}
 use Rattle.vm_desc.specs.declared.key.Key.TheVariants as key
 use Rattle.vm_desc.specs.declared.fault.DescFault.{DescFault}
 use Rattle.vm_reader.specs.Fields.{field, number, names}
@@ -35,18 +35,7 @@ from_handlers_at o doc = do
   functions ← functions_at o.devices (get_member (codes "function") doc)
   trickle ← trickle_of doc
   radio ← radio_of doc
-  ruled (record {
-    vm_id = o.vm_id;
-    handlers = handlers;
-    functions = functions;
-    shared = o.shared;
-    buffers = o.buffers;
-    devices = o.devices;
-    turns = o.turns;
-    quantum = o.quantum;
-    trickle = trickle;
-    radio = radio;
-  })
+  ruled (parts o.vm_id handlers functions o.shared o.buffers o.devices o.turns o.quantum trickle radio)
 
 -- the one half after the other
 abbrev pub both_halves : Members → Result Parts DescFault

@@ -1,7 +1,7 @@
 -- Which keys a description may have, and where.
 use Rattle.std.specs.Prelude.{ℕ, List, [], ◌∷◌, codes, Bool, true, ◌&&◌, if◌then◌else◌, Option, Some, None, is_some, unwrap_or}
 use Rattle.std.specs.Option.{option_or}
-use Rattle.std.specs.Str.{bytes_eq}
+use Rattle.mate_num.specs.Lists.{lookup_or}
 use Rattle.toml.specs.Data.{Data, string, integer, float, boolean, datetime, array, table, Items, no_items, item, Members, no_members, member}
 use Rattle.vm_desc.specs.Names.{stands_in}
 use Rattle.vm_reader.specs.declared.known.Place.{Place}
@@ -22,12 +22,9 @@ value_place p word = if stands_in (known_words p) word then Some place.Value els
 
 -- a table, or tables, of a document are under such a key
 abbrev pub table_below : Place → List ℕ → Option Place
-table_below place.Document word =
-    if bytes_eq word (codes "handler") then Some place.Handler
-    else if bytes_eq word (codes "function") then Some place.Function
-    else if bytes_eq word (codes "trickle") then Some place.Trickle
-    else if bytes_eq word (codes "radio") then Some place.Radio
-    else None
+table_below place.Document word = lookup_or None word
+    ((codes "handler", Some place.Handler) ∷ (codes "function", Some place.Function)
+    ∷ (codes "trickle", Some place.Trickle) ∷ (codes "radio", Some place.Radio) ∷ [])
 table_below _ word = None
 
 -- the place of what is under a key, and none for a key that isn't known there

@@ -7,9 +7,10 @@ use Rattle.mate_num.specs.declared.bounds.TheConstants.{SHARED_MAX, BUFFERS_MAX,
 use Rattle.vm_desc.specs.declared.settings.TheConstants.{DOUBLINGS_MAX}
 use Rattle.toml.specs.Data.{Data, Members, as_str, get_member}
 use Rattle.mate_num.specs.declared.id.DeviceId.{DeviceId}
-use Rattle.vm_desc.specs.Limits.{Parts, duplicate_of, round_time, longest}
+use Rattle.vm_desc.specs.Limits.{Parts, parts, duplicate_of, round_time, longest}
 use Rattle.vm_desc.specs.Rules.{few_contexts, no_repeat, in_time}
 use Rattle.mate_num.specs.Results.{◌>>=◌}
+use Rattle.mate_num.specs.Lists.{lookup_or}
 use Rattle.vm_reader.specs.Fields.{taken, field, number, name, names, tables, each, section, member_of, allowed, absent, word_as}
 use Rattle.vm_desc.specs.declared.key.Key.TheVariants as key
 use Rattle.vm_desc.specs.declared.fault.DescFault.{DescFault}
@@ -24,12 +25,8 @@ use Rattle.vm_desc.specs.declared.settings.RadioSet.{RadioSet}
 
 -- the kind that a word names; a timer's period has a key of its own
 abbrev pub handler_kind : List ℕ → Option HandlerKind
-handler_kind word =
-    if bytes_eq word (codes "plain") then Some Plain
-    else if bytes_eq word (codes "timer") then Some (Timer 0)
-    else if bytes_eq word (codes "receive") then Some Receive
-    else if bytes_eq word (codes "once") then Some Once
-    else None
+handler_kind word = lookup_or None word
+    ((codes "plain", Some Plain) ∷ (codes "timer", Some (Timer 0)) ∷ (codes "receive", Some Receive) ∷ (codes "once", Some Once) ∷ [])
 
 -- a timer has a period, and no other kind has one
 abbrev pub with_period : HandlerKind → Option Data → Result HandlerKind DescFault
@@ -55,14 +52,9 @@ handlers_at value = do
 
 -- the kind that a word names; the number of an actuator's arguments has a key of its own
 abbrev pub fun_kind : List ℕ → Option FunKind
-fun_kind word =
-    if bytes_eq word (codes "sense") then Some Sense
-    else if bytes_eq word (codes "act") then Some (Act 0)
-    else if bytes_eq word (codes "send") then Some Send
-    else if bytes_eq word (codes "id") then Some Id
-    else if bytes_eq word (codes "rand") then Some Rand
-    else if bytes_eq word (codes "clock") then Some Clock
-    else None
+fun_kind word = lookup_or None word
+    ((codes "sense", Some Sense) ∷ (codes "act", Some (Act 0)) ∷ (codes "send", Some Send)
+    ∷ (codes "id", Some Id) ∷ (codes "rand", Some Rand) ∷ (codes "clock", Some Clock) ∷ [])
 
 -- an actuator may have arguments, and no other kind may
 abbrev pub with_args : FunKind → Option Data → Result FunKind DescFault
@@ -133,15 +125,4 @@ description_at doc = do
   functions ← functions_at devices (get_member (codes "function") doc)
   trickle ← trickle_of doc
   radio ← radio_of doc
-  ruled (record {
-    vm_id = vm_id;
-    handlers = handlers;
-    functions = functions;
-    shared = shared;
-    buffers = buffers;
-    devices = devices;
-    turns = turns;
-    quantum = quantum;
-    trickle = trickle;
-    radio = radio;
-  })
+  ruled (parts vm_id handlers functions shared buffers devices turns quantum trickle radio)
