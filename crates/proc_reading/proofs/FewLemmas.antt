@@ -63,16 +63,19 @@ turn_within i (less from) b =
     either 2 (b == 61) _ _ (omega arith) (either 2 (b == 62) _ _ (omega arith) (behind_within _ (fresh i b) (fresh_within i b)))
 turn_within i (greater from) b = either 2 (b == 61) _ _ (omega arith) (behind_within _ (fresh i b) (fresh_within i b))
 
+itself : (n : ℕ) → n ≤ n
+itself n = omega arith
+
 ends_few : (i : ℕ) (m : Mode) → Few (owed m) (turned (λ _. Ok []) (turn i m 10))
-ends_few i between = omega arith
-ends_few i comment = omega arith
-ends_few i (word from w) = omega arith
+ends_few i between = itself 0
+ends_few i comment = itself 0
+ends_few i (word from w) = itself 1
 ends_few i (literal from n) = by (nat_lt 65535 n) where
   by : (b : Bool) → Few 1 (turned (λ _. Ok []) (if b then stop (big_literal from) else go (token (kind.Num n) from i ∷ []) between))
   by true = tt
-  by false = omega arith
-ends_few i (less from) = omega arith
-ends_few i (greater from) = omega arith
+  by false = itself 1
+ends_few i (less from) = itself 1
+ends_few i (greater from) = itself 1
 
 front_few : (n k : ℕ) (ts : List Token) (r : Result (List Token) CutFault) (o : ℕ) → length ts + o ≤ n → Few (o + k) r → Few (n + k) (with_front ts r)
 front_few n k ts (Err f) o h more = tt
