@@ -19,7 +19,7 @@ use Rattle.world_script.specs.declared.world.Planned.{Planned}
 use Rattle.world_rules.specs.Effect.{Installing}
 use Rattle.world_rules.specs.State.{Moment, effect_at, state}
 use Rattle.world_rules.specs.Run.{HaveCome}
-use Rattle.world_laws.proofs.Among.{all-at}
+use Rattle.mate_num.proofs.ListLemmas.{all-at}
 use Rattle.world_laws.specs.Versions.{WasInjected}
 use Rattle.world_laws.proofs.Versions.{installs_injected}
 use Rattle.world_laws.proofs.Premises.{SaysInject, says-inject, plans_rightly}

@@ -1,5 +1,5 @@
--- What holds of a list, item by item, and what a word stands for in a list.
-use Rattle.std.specs.Prelude.{ℕ, List, [], ◌∷◌, if◌then◌else◌}
+-- What holds of a list, item by item, what is in it, and what a word stands for in it.
+use Rattle.std.specs.Prelude.{◌≡◌, ℕ, List, [], ◌∷◌, ◌⊎◌, if◌then◌else◌}
 use Rattle.std.specs.Str.{bytes_eq}
 
 -- of each item
@@ -11,6 +11,11 @@ Each Is (x ∷ xs) = Is x × Each Is xs
 abbrev pub Along : {A S : Type 0} → (S → A → Type 0) → (S → A → S) → S → List A → Type 0
 Along Is keep kept [] = Unit {0}
 Along Is keep kept (x ∷ xs) = Is kept x × Along Is keep (keep kept x) xs
+
+-- the list has this item
+abbrev pub Among : {X : Type 0} → X → List X → Type 0
+Among x [] = ⊥
+Among x (y ∷ ys) = (y ≡ x) ⊎ Among x ys
 
 -- what a word stands for, among words with what they stand for; else this
 abbrev pub lookup_or : {A : Type 0} → A → List ℕ → List (List ℕ × A) → A

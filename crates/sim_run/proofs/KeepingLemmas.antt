@@ -20,7 +20,7 @@ use Rattle.open_node.specs.Journal.{KeepsJournal}
 use Rattle.open_node.specs.View.{heard_of}
 use Rattle.radio_sim.specs.Radio.{Ether}
 use Rattle.radio_sim.specs.declared.event.Event.{Event}
-use Rattle.world_laws.proofs.Among.{all-at}
+use Rattle.mate_num.proofs.ListLemmas.{all-at}
 use Rattle.sim_air.specs.Calls.{AreCallsOf}
 use Rattle.world_rules.specs.World.{World}
 use Rattle.world_rules.specs.State.{Moment, WorldState, state}

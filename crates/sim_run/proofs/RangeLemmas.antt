@@ -21,7 +21,7 @@ use Rattle.radio_sim.specs.Radio.{Ether}
 use Rattle.journal_laws.specs.InRange.{IsSizeOf, IsInRangeFrom, IsInRange}
 use Rattle.journal_laws.specs.declared.growth.LogSize.{LogSize}
 use Rattle.journal_laws.proofs.GrowthLemmas.{none-in-range, forgotten-in-range, log-goes-on, at-hand, goes-on}
-use Rattle.world_laws.proofs.Among.{all-at}
+use Rattle.mate_num.proofs.ListLemmas.{all-at}
 use Rattle.sim_mote.specs.Motes.{TellsAlone}
 use Rattle.sim_mote.specs.declared.mote.Mote.{Mote}
 use Rattle.sim_run.specs.Keeping.{HaveForgotten, LetsGo, LetsGoAsTold}

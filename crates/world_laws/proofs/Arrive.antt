@@ -25,7 +25,8 @@ use Rattle.world_rules.specs.World.{World, PlannedLine, Want, Inject, Post, Show
 use Rattle.world_rules.specs.Effect.{Node, NodeEffect, no_effect, node_effect, of_line, of_point, of_slot, sender, begun_length, is_owing, event_node}
 use Rattle.world_rules.specs.State.{Moment, WorldState, Scheduled, at_this, of_time, Sending, sendings, packets_of, is_lost, deliveries, air_made, node_at, effect_at, node_after, next_period, of_interval, new_interval, new_pump, still_pumps, answers_due, schedules, is_kept, is_some_length, left_due, lines_from, first_of, start_node, world_start, state}
 use Rattle.world_rules.specs.Run.{IsNext, HaveCome, IsAtEnd, stamp_of, airs}
-use Rattle.world_laws.proofs.Among.{Among, among-unfilter}
+use Rattle.mate_num.specs.Lists.{Among}
+use Rattle.mate_num.proofs.ListLemmas.{among-unfilter}
 use Rattle.world_laws.proofs.Points.{past-step}
 use Rattle.world_laws.specs.Transmissions.{Transmission, transmissions, loses_on, bringing_links, losing_links, Arrival, arrival_at, arrivals_at, brings_at}
 use Rattle.world_laws.specs.PacketRecords.{PacketsArriveOnce, ReachedIsDone}

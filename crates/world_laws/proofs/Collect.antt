@@ -18,7 +18,7 @@ use Rattle.capsule_exchange.specs.Steps.{takes}
 use Rattle.capsule_exchange.proofs.CollectLemmas.{is_newer, target_next, parts_newer, parts_same, form_in, joins_parts, collected_push}
 use Rattle.capsule_exchange.proofs.LawLemmas.{gap_asked}
 use Rattle.world_laws.specs.Newest.{Version}
-use Rattle.world_laws.proofs.Among.{Among}
+use Rattle.mate_num.specs.Lists.{Among}
 
 -- a packet that tells of nothing newer, and of the version only fragments of its image
 abbrev pub IsTame : Version → Packet → Type 0

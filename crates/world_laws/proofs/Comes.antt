@@ -10,7 +10,8 @@ use Rattle.world_rules.specs.Effect.{begun_length, event_node}
 use Rattle.world_rules.specs.State.{Moment, WorldState, of_time, node_at, effect_at, schedules, is_kept, is_some_length, after_moment, world_start, state}
 use Rattle.world_rules.specs.Run.{IsNext, HaveCome}
 use Rattle.world_laws.specs.Causes.{IsSublist, came_at, scheduled_for, ComeInOrder, HasEvent, IsCancelled, EachComes}
-use Rattle.world_laws.proofs.Among.{Among, among-right, none-among}
+use Rattle.mate_num.specs.Lists.{Among}
+use Rattle.mate_num.proofs.ListLemmas.{among-right, none-among}
 use Rattle.world_laws.proofs.Due.{due-keeps}
 
 -- ---- parts of lists

@@ -14,7 +14,9 @@ use Rattle.world_rules.specs.World.{World, links_from, period_of, latency_of}
 use Rattle.world_rules.specs.Effect.{begun_length, is_owing, event_node}
 use Rattle.world_rules.specs.State.{Moment, WorldState, Scheduled, of_time, Sending, sendings, is_lost, deliveries, packets_of, next_period, of_interval, new_interval, new_pump, calls_in, answer_at, answers_due, still_pumps, node_at, effect_at, node_after, schedules, is_kept, is_some_length, left_due, after_moment}
 use Rattle.world_rules.specs.Run.{IsNext}
-use Rattle.world_laws.proofs.Among.{Among, among-left, among-right, among-append, among-filter, among-unfilter, among-flat_map, among-rest, among-behind, among-of_time, among-un_of_time}
+use Rattle.mate_num.specs.Lists.{Among}
+use Rattle.mate_num.proofs.ListLemmas.{among-left, among-right, among-append, among-filter, among-unfilter, among-flat_map, among-rest, among-behind}
+use Rattle.world_laws.proofs.OfTime.{among-of_time, among-un_of_time}
 
 abbrev pub at : ℕ → Cause → Scheduled
 at t c = record { time = t; cause = c }

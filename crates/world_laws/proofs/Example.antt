@@ -19,7 +19,8 @@ use Rattle.world_rules.specs.Cause as event
 use Rattle.world_rules.specs.World.{World, Inject, Post}
 use Rattle.world_rules.specs.State.{Moment, Scheduled, air_made, schedules, lines_from, first_of, state, world_start}
 use Rattle.world_rules.specs.Run.{HaveCome}
-use Rattle.world_laws.proofs.Among.{Among, among-un_of_time}
+use Rattle.mate_num.specs.Lists.{Among}
+use Rattle.world_laws.proofs.OfTime.{among-un_of_time}
 use Rattle.world_laws.proofs.Points.{none_is_empty}
 
 abbrev description : Description

@@ -23,7 +23,8 @@ use Rattle.world_rules.specs.Run.{MayCome, HaveCome, IsDone}
 use Rattle.world_laws.specs.Hops.{HasLink}
 use Rattle.world_laws.specs.Newest.{Version, IsWorldVersion, IsNewest}
 use Rattle.world_laws.specs.Spread.{IsQuiet, AreQuiet}
-use Rattle.world_laws.proofs.Among.{Among, among-left, among-right, among-filter, none-among}
+use Rattle.mate_num.specs.Lists.{Among}
+use Rattle.mate_num.proofs.ListLemmas.{among-left, among-right, among-filter, none-among}
 use Rattle.world_laws.specs.Causes.{HasEvent}
 use Rattle.world_laws.proofs.Comes.{come-along}
 use Rattle.world_laws.proofs.Due.{at, due-new}

@@ -14,7 +14,7 @@ use Rattle.capsule_exchange.specs.Laws.{AreFragmentsOf}
 use Rattle.capsule_exchange.proofs.LawLemmas.{one_image}
 use Rattle.world_rules.specs.World.{World}
 use Rattle.world_laws.specs.Versions.{WasInjected, IsOneImage}
-use Rattle.world_laws.proofs.Among.{Among}
+use Rattle.mate_num.specs.Lists.{Among}
 use Rattle.world_laws.proofs.Points.{among-filter_map}
 use Rattle.world_rules.specs.State.{Moment}
 

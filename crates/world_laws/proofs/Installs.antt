@@ -10,7 +10,8 @@ use Rattle.world_rules.specs.Effect.{Node, Deed, Nothing, Installing, Posting, A
 use Rattle.world_rules.specs.State.{Moment, WorldState, node_at, effect_at, state}
 use Rattle.world_rules.specs.Run.{DeedMakes, HaveCome}
 use Rattle.world_laws.specs.Installs.{TellsInstall, InstallsItsOwn, WasInstalled, HeldWasInstalled, HeldNeverFalls, InstallsRise}
-use Rattle.world_laws.proofs.Among.{Among, among-right, among-append}
+use Rattle.mate_num.specs.Lists.{Among}
+use Rattle.mate_num.proofs.ListLemmas.{among-right, among-append}
 use Rattle.world_laws.proofs.Points.{nodes-here, nodes-other, earlier-come}
 use Rattle.world_laws.proofs.Agree.{NoInstall, NoneInstall, HeldAfter, by_made, occasions-none, installs-rest, settles-none, moves, held_agrees}
 

@@ -1,4 +1,4 @@
-pub mod Among
+pub mod OfTime
 pub mod Timers
 pub mod Due
 pub mod Points

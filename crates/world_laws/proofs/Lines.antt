@@ -12,7 +12,9 @@ use Rattle.world_rules.specs.Effect.{event_node, begun_length}
 use Rattle.world_rules.specs.State.{Moment, WorldState, Scheduled, at_this, of_time, of_interval, node_at, effect_at, node_after, schedules, is_kept, is_some_length, left_due, after_moment, start_node, lines_from, first_of, world_start, state}
 use Rattle.world_rules.specs.Run.{IsNext, HaveCome}
 use Rattle.world_laws.specs.Lines.{IsPlanTimely, LinesInOrder}
-use Rattle.world_laws.proofs.Among.{Among, among-append, among-unfilter, among-flat_map, among-un_of_time, apart}
+use Rattle.mate_num.specs.Lists.{Among}
+use Rattle.mate_num.proofs.ListLemmas.{among-append, among-unfilter, among-flat_map}
+use Rattle.world_laws.proofs.OfTime.{among-un_of_time, apart}
 use Rattle.world_laws.proofs.Due.{at, due-from, kind, Source, period, interval, delivery, pump, answer, source}
 use Rattle.world_laws.proofs.Points.{among-next, next-before, period-kind}
 

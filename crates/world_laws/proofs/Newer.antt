@@ -15,7 +15,7 @@ use Rattle.world_rules.specs.Effect.{event_node}
 use Rattle.world_rules.specs.State.{Moment, node_at, state}
 use Rattle.world_rules.specs.Run.{HaveCome}
 use Rattle.world_laws.specs.Packets.{InstallsBy, ByLine, ByRadio}
-use Rattle.world_laws.proofs.Among.{Among}
+use Rattle.mate_num.specs.Lists.{Among}
 use Rattle.world_laws.proofs.Packets.{installs_have_reasons}
 use Rattle.world_laws.proofs.Points.{among-next, earlier-come}
 use Rattle.world_laws.specs.Lines.{IsPlanTimely}

@@ -18,7 +18,9 @@ use Rattle.world_rules.specs.Run.{HaveCome, IsDone}
 use Rattle.world_laws.specs.Causes.{HasEvent, IsCancelled}
 use Rattle.world_laws.specs.Calls.{answer_for, CallsAreAnswered, WasCalled, AnswersWereCalled}
 use Rattle.world_laws.specs.Arrivals.{sent_by, SentArrive, WasSent, ArrivalsWereSent}
-use Rattle.world_laws.proofs.Among.{Among, among-left, among-right, among-append, among-flat_map, among-un_of_time, none-among, apart}
+use Rattle.mate_num.specs.Lists.{Among}
+use Rattle.mate_num.proofs.ListLemmas.{among-left, among-right, among-append, among-flat_map, none-among}
+use Rattle.world_laws.proofs.OfTime.{among-un_of_time, apart}
 use Rattle.world_laws.proofs.Due.{at, due-from, due-new, kind, answer_scheduled, Source, period, interval, delivery, pump, answer, source}
 use Rattle.world_laws.proofs.Points.{among-next, among-map_of, line-kind, period-kind}
 use Rattle.world_laws.proofs.Comes.{come-along}

@@ -18,7 +18,8 @@ use Rattle.world_rules.specs.World.{World, PlannedLine, Want, Inject, Post, Show
 use Rattle.world_rules.specs.Effect.{Node, Installing, no_effect, node_effect, of_line, of_packet, of_fragment, of_point, of_slot, event_node}
 use Rattle.world_rules.specs.State.{Moment, WorldState, node_at, effect_at, messages, message_in, is_send_kind, packets_of, state}
 use Rattle.world_laws.specs.Packets.{SendsFor, TellsVersions, AsksFor, OwesFragment, IsMessage, PacketsHaveReasons, exchange_happenings, ExchangesStand, InstallsBy, ByLine, ByRadio, InstallsHaveReasons}
-use Rattle.world_laws.proofs.Among.{Among, among-append}
+use Rattle.mate_num.specs.Lists.{Among}
+use Rattle.mate_num.proofs.ListLemmas.{among-append}
 use Rattle.world_laws.proofs.Happens.{installer}
 use Rattle.world_laws.proofs.Origins.{among-get, place-of}
 use Rattle.world_laws.proofs.Points.{among-filter_map, nodes-here, nodes-other}

@@ -10,7 +10,9 @@ use Rattle.world_rules.specs.World.{World, handlers, handler_id, period_of}
 use Rattle.world_rules.specs.State.{Moment, WorldState, Scheduled, next_period, schedules, of_interval, lines_from, first_of, start_node, world_start, state}
 use Rattle.world_rules.specs.Run.{HaveCome, IsDone}
 use Rattle.world_laws.specs.Causes.{HasEvent, PeriodsCome}
-use Rattle.world_laws.proofs.Among.{Among, among-left, among-right, among-of_time, none-among}
+use Rattle.mate_num.specs.Lists.{Among}
+use Rattle.mate_num.proofs.ListLemmas.{among-left, among-right, none-among}
+use Rattle.world_laws.proofs.OfTime.{among-of_time}
 use Rattle.world_laws.proofs.Due.{at, due-new}
 use Rattle.world_laws.proofs.Points.{among-map_of}
 use Rattle.world_laws.proofs.Comes.{come-along}

@@ -17,7 +17,9 @@ use Rattle.world_rules.specs.Effect.{Node, NodeEffect, node_effect, begun_length
 use Rattle.world_rules.specs.State.{Moment, WorldState, Scheduled, of_interval, node_at, effect_at, node_after, schedules, is_some_length, after_moment, start_node, lines_from, first_of, world_start, state}
 use Rattle.world_rules.specs.Run.{IsNext, MayCome, HaveCome}
 use Rattle.world_laws.specs.Times.{IsRightSet, last_time, StandsIn, NeverResets, Fires, FiresInTime}
-use Rattle.world_laws.proofs.Among.{Among, among-left, among-right, among-append, among-flat_map, none-among, among-of_time, among-un_of_time, apart}
+use Rattle.mate_num.specs.Lists.{Among}
+use Rattle.mate_num.proofs.ListLemmas.{among-left, among-right, among-append, among-flat_map, none-among}
+use Rattle.world_laws.proofs.OfTime.{among-of_time, among-un_of_time, apart}
 use Rattle.world_laws.proofs.Timers.{IsSameInterval, timer_kept, timer_begun, Begins, shortened, again, expired, why_begun, few}
 use Rattle.world_laws.proofs.Due.{at, Outlasts, due-keeps, due-from, due-new, kind, Source, period, interval, delivery, pump, answer, source, begun-scheduled}
 

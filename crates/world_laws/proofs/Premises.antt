@@ -36,7 +36,7 @@ use Rattle.world_laws.specs.Newest.{IsWorldVersion}
 use Rattle.world_laws.specs.Installs.{WasInstalled}
 use Rattle.world_laws.proofs.Installs.{held_was_installed, held_never_falls}
 use Rattle.world_laws.proofs.Newer.{installs_are_newer}
-use Rattle.world_laws.proofs.Among.{all-at}
+use Rattle.mate_num.proofs.ListLemmas.{all-at}
 use Rattle.world_laws.proofs.Points.{earlier-come}
 use Rattle.world_laws.specs.Premises.{IsInjectedProgram, IsRightScript, OpenScriptsAreOpen, RightScriptsPlanRightly, CapsulesHaveFewFragments, ScriptsInstallsAreNewer, InjectedAreVersions, InstalledBy, InjectedIsInstalled}
 use Rattle.world_laws.specs.HopBound.{HoldsBy, version_of}

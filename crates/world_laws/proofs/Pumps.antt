@@ -15,7 +15,8 @@ use Rattle.world_rules.specs.State.{Moment, WorldState, Scheduled, node_at, effe
 use Rattle.world_rules.specs.Run.{MayCome, HaveCome}
 use Rattle.world_laws.specs.Times.{IsRightSet, last_time}
 use Rattle.world_laws.specs.Slots.{IsSparing, AreSparing, SendsSlot, SendsInTime}
-use Rattle.world_laws.proofs.Among.{Among, among-left, among-right, none-among}
+use Rattle.mate_num.specs.Lists.{Among}
+use Rattle.mate_num.proofs.ListLemmas.{among-left, among-right, none-among}
 use Rattle.world_laws.proofs.Due.{at, Outlasts, due-keeps, due-new}
 use Rattle.world_laws.proofs.Points.{among-range, next-before, last-before, nodes-here, nodes-other, run-timed, earlier-come}
 use Rattle.world_laws.proofs.Happens.{Happens, nothing, injected, heard, completed, forgot, sent, happens}

@@ -7,7 +7,8 @@ use Rattle.world_rules.specs.World.{World}
 use Rattle.world_rules.specs.Effect.{event_node}
 use Rattle.world_rules.specs.State.{Moment, numbered_sendings, sent_bytes, packets_of, state}
 use Rattle.world_rules.specs.Run.{stamp_of, airs}
-use Rattle.world_laws.proofs.Among.{Among, among-append}
+use Rattle.mate_num.specs.Lists.{Among}
+use Rattle.mate_num.proofs.ListLemmas.{among-append}
 use Rattle.world_laws.proofs.Origins.{among-get, place-of}
 use Rattle.world_laws.proofs.Packets.{packets_have_reasons}
 use Rattle.world_laws.specs.Transmissions.{Transmission, transmissions}

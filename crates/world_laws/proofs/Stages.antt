@@ -25,7 +25,7 @@ use Rattle.world_laws.specs.Slots.{AreSparing, SendsSlot}
 use Rattle.world_laws.specs.Causes.{HasEvent}
 use Rattle.world_laws.specs.Newest.{Version, IsWorldVersion, IsNewest}
 use Rattle.world_laws.specs.Spread.{IsOpenWorld, AreQuiet, HopsInTime}
-use Rattle.world_laws.proofs.Among.{Among}
+use Rattle.mate_num.specs.Lists.{Among}
 use Rattle.world_laws.proofs.Points.{fires_in_time}
 use Rattle.world_laws.proofs.Pumps.{sends_in_time}
 use Rattle.world_laws.proofs.Collect.{IsTame, AreTame, Has, parts-alike, target-stays, parts-grow, has-got, complete-all, at-range}

@@ -23,7 +23,9 @@ use Rattle.world_rules.specs.Effect.{Node, NodeEffect, Installing, no_effect, no
 use Rattle.world_rules.specs.State.{Moment, WorldState, Scheduled, Sending, of_interval, numbered_sendings, messages, message_in, is_send_kind, packets_of, node_at, effect_at, node_after, after_moment, start_node, lines_from, first_of, world_start, state}
 use Rattle.world_rules.specs.Run.{MayCome, HaveCome}
 use Rattle.world_laws.specs.Newest.{Version, IsWorldVersion, IsNewest}
-use Rattle.world_laws.proofs.Among.{Among, among-append, among-flat_map, among-un_of_time, apart}
+use Rattle.mate_num.specs.Lists.{Among}
+use Rattle.mate_num.proofs.ListLemmas.{among-append, among-flat_map}
+use Rattle.world_laws.proofs.OfTime.{among-un_of_time, apart}
 use Rattle.world_laws.proofs.Due.{at, due-from, kind, Source, period, interval, delivery, pump, answer, source}
 use Rattle.world_laws.proofs.Points.{nodes-here, nodes-other, among-next, among-filter_map, line-kind, period-kind}
 use Rattle.world_laws.proofs.Happens.{Happens, nothing, injected, heard, completed, forgot, sent, happens}

@@ -13,7 +13,9 @@ use Rattle.world_rules.specs.Effect.{Node, begun_length, event_node}
 use Rattle.world_rules.specs.State.{Moment, WorldState, Scheduled, of_interval, node_at, effect_at, node_after, after_moment, is_some_length, lines_from, first_of, start_node, world_start, state}
 use Rattle.world_rules.specs.Run.{HaveCome, IsDone}
 use Rattle.world_laws.specs.Causes.{HasEvent, IsCancelled}
-use Rattle.world_laws.proofs.Among.{Among, among-left, among-right, among-append, among-flat_map, among-of_time, among-un_of_time, none-among, apart}
+use Rattle.mate_num.specs.Lists.{Among}
+use Rattle.mate_num.proofs.ListLemmas.{among-left, among-right, among-append, among-flat_map, none-among}
+use Rattle.world_laws.proofs.OfTime.{among-of_time, among-un_of_time, apart}
 use Rattle.world_laws.proofs.Due.{at, due-from, due-new, kind, Source, period, interval, delivery, pump, answer, source, begun-scheduled}
 use Rattle.world_laws.proofs.Timers.{IsSameInterval, timer_kept}
 use Rattle.world_laws.proofs.Points.{among-next, nodes-here, nodes-other, point-of, end-of, end-in, among-range, among-map_of, line-kind, period-kind}

@@ -25,7 +25,7 @@ use Rattle.mate_journal.specs.declared.report.Report.{Report}
 use Rattle.mate_journal.specs.declared.program.Program.{Program}
 use Rattle.report_text.specs.Text.{lines, event_lines, event_piece}
 use Rattle.vm_desc.specs.declared.description.Description.{Description}
-use Rattle.world_laws.proofs.Among.{all-at}
+use Rattle.mate_num.proofs.ListLemmas.{all-at}
 use Rattle.world_rules.specs.World.{World}
 use Rattle.world_rules.specs.State.{Moment}
 use Rattle.world_rules.specs.Run.{journal, airs, IsJournalOf}

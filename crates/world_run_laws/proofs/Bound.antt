@@ -27,7 +27,7 @@ use Rattle.world_rules.specs.Run.{HaveCome, IsDone, IsJournalOf, stamp_of, journ
 use Rattle.world_rules.specs.Report.{IsLogOf, IsWorldReport}
 use Rattle.world_laws.specs.Causes.{HasEvent}
 use Rattle.world_laws.specs.Times.{last_time}
-use Rattle.world_laws.proofs.Among.{all-at}
+use Rattle.mate_num.proofs.ListLemmas.{all-at}
 use Rattle.world_laws.proofs.Points.{earlier-come}
 use Rattle.world_laws.specs.PacketRecords.{HasReached}
 use Rattle.world_laws.proofs.Arrive.{reached_is_done}

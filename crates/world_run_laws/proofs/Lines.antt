@@ -24,7 +24,9 @@ use Rattle.world_rules.specs.State.{Moment, lines_from, first_of, world_start, s
 use Rattle.world_rules.specs.Run.{HaveCome, IsDone}
 use Rattle.world_laws.specs.Causes.{HasEvent}
 use Rattle.world_laws.specs.Times.{last_time}
-use Rattle.world_laws.proofs.Among.{Among, among-left, among-of_time, none-among}
+use Rattle.mate_num.specs.Lists.{Among}
+use Rattle.mate_num.proofs.ListLemmas.{among-left, none-among}
+use Rattle.world_laws.proofs.OfTime.{among-of_time}
 use Rattle.world_laws.proofs.Comes.{come-along}
 use Rattle.world_laws.proofs.Due.{at}
 use Rattle.world_laws.proofs.Points.{run-past, last-before}

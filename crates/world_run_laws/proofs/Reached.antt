@@ -20,7 +20,8 @@ use Rattle.world_rules.specs.State.{Moment, air_made, state}
 use Rattle.world_rules.specs.Run.{HaveCome, EndsJournal, IsJournalOf, airs, journal, stamp_of}
 use Rattle.world_rules.specs.Report.{IsLogOf, IsWorldReport}
 use Rattle.world_laws.specs.Times.{last_time}
-use Rattle.world_laws.proofs.Among.{Among, among-append}
+use Rattle.mate_num.specs.Lists.{Among}
+use Rattle.mate_num.proofs.ListLemmas.{among-append}
 use Rattle.world_laws.proofs.Points.{run-past, last-before}
 use Rattle.world_laws.proofs.Journals.{journal-here, journal-other}
 use Rattle.world_laws.specs.PacketRecords.{HasReached}

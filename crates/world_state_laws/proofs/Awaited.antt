@@ -17,7 +17,9 @@ use Rattle.world_rules.specs.World.{World}
 use Rattle.world_rules.specs.Effect.{Node, event_node, cuts}
 use Rattle.world_rules.specs.State.{Moment, WorldState, Scheduled, of_time, of_interval, node_at, effect_at, node_after, schedules, left_due, after_moment, start_node, lines_from, first_of, world_start, state}
 use Rattle.world_rules.specs.Run.{IsNext, HaveCome}
-use Rattle.world_laws.proofs.Among.{Among, among-append, among-flat_map, among-un_of_time, apart}
+use Rattle.mate_num.specs.Lists.{Among}
+use Rattle.mate_num.proofs.ListLemmas.{among-append, among-flat_map}
+use Rattle.world_laws.proofs.OfTime.{among-un_of_time, apart}
 use Rattle.world_laws.proofs.Due.{at, Outlasts, due-from, kind, AnswerOf, Source, period, interval, delivery, pump, answer, source}
 use Rattle.world_laws.proofs.Points.{cause_is, nodes-here, nodes-other, line-kind, period-kind}
 use Rattle.world_state_laws.proofs.Waits.{calls_of, asked-calls, BeginsWith, AnswersOther, event-begins, event-keeps, event-once, event-waits}

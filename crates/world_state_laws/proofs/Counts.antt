@@ -14,7 +14,8 @@ use Rattle.world_rules.specs.World.{World, links_from, period_of}
 use Rattle.world_rules.specs.Effect.{begun_length, event_node}
 use Rattle.world_rules.specs.State.{Moment, WorldState, Scheduled, of_time, Sending, sendings, is_lost, deliveries, packets_of, next_period, new_interval, new_pump, answers_due, node_at, effect_at, node_after, schedules, is_kept, is_some_length, left_due}
 use Rattle.world_rules.specs.Run.{IsNext}
-use Rattle.world_laws.proofs.Among.{Among, among-unfilter, among-behind}
+use Rattle.mate_num.specs.Lists.{Among}
+use Rattle.mate_num.proofs.ListLemmas.{among-unfilter, among-behind}
 use Rattle.world_laws.proofs.Due.{at, Outlasts, period_part, interval_part, delivery_part, pumps_anew, pump_part, answer_part}
 use Rattle.world_state_laws.proofs.Waits.{calls_of}
 

@@ -18,7 +18,9 @@ use Rattle.world_rules.specs.Effect.{Node, NodeEffect, event_node}
 use Rattle.world_rules.specs.State.{Moment, WorldState, Scheduled, of_interval, is_send_kind, message_in, messages, packets_of, node_at, effect_at, node_after, start_node, lines_from, first_of, world_start, state}
 use Rattle.world_rules.specs.Run.{IsNext, HaveCome}
 use Rattle.world_laws.specs.Packets.{SendsFor, TellsVersions, AsksFor, OwesFragment, IsMessage}
-use Rattle.world_laws.proofs.Among.{Among, among-append, among-right, among-flat_map, among-un_of_time, apart}
+use Rattle.mate_num.specs.Lists.{Among}
+use Rattle.mate_num.proofs.ListLemmas.{among-append, among-right, among-flat_map}
+use Rattle.world_laws.proofs.OfTime.{among-un_of_time, apart}
 use Rattle.world_laws.proofs.Due.{at, due-from, kind, Source, period, interval, delivery, pump, answer, source}
 use Rattle.world_laws.proofs.Happens.{Happens, nothing, injected, heard, completed, forgot, sent, happens}
 use Rattle.world_laws.proofs.Origins.{among-get, place-of}

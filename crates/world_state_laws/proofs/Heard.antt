@@ -28,7 +28,8 @@ use Rattle.capsule_exchange.proofs.KnowledgeLemmas.{vector_learned}
 use Rattle.capsule_exchange.proofs.AnswerLemmas.{vector_asks, asks_right}
 use Rattle.world_rules.specs.World.{World, handlers}
 use Rattle.world_rules.specs.State.{Moment}
-use Rattle.world_laws.proofs.Among.{Among, among-append}
+use Rattle.mate_num.specs.Lists.{Among}
+use Rattle.mate_num.proofs.ListLemmas.{among-append}
 use Rattle.world_laws.proofs.Points.{among-filter_map}
 use Rattle.world_laws.specs.Versions.{InjectsAt, IsOneImage}
 use Rattle.world_laws.proofs.Injected.{HoldsInjected, marked-within}

@@ -8,7 +8,7 @@ use Rattle.world_rules.specs.World.{World}
 use Rattle.world_rules.specs.Effect.{Node, Installing, node_effect, event_node}
 use Rattle.world_rules.specs.State.{Moment, state}
 use Rattle.world_rules.specs.Run.{IsNext, HaveCome}
-use Rattle.world_laws.proofs.Among.{Among}
+use Rattle.mate_num.specs.Lists.{Among}
 use Rattle.world_laws.proofs.Points.{among-next}
 use Rattle.world_laws.proofs.Happens.{Installer, installer}
 use Rattle.world_laws.specs.Versions.{WasInjected, InjectsAt, IsOneImage}

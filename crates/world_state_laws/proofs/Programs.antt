@@ -26,7 +26,7 @@ use Rattle.world_script.specs.declared.world.Planned.{Planned}
 use Rattle.world_script.specs.declared.world.What.{What}
 use Rattle.world_script.specs.declared.world.What.TheVariants as what
 use Rattle.world_rules.specs.World.{PlannedLine, Inject, want_of, line_planned}
-use Rattle.world_laws.proofs.Among.{all-at}
+use Rattle.mate_num.proofs.ListLemmas.{all-at}
 use Rattle.world_laws.specs.Versions.{InjectsAt}
 use Rattle.world_laws.specs.Premises.{IsInjectedProgram, IsRightScript}
 use Rattle.world_laws.proofs.Premises.{injected_are_versions}

@@ -19,7 +19,7 @@ use Rattle.world_rules.specs.Effect.{Installing, node_effect, event_node}
 use Rattle.world_rules.specs.State.{Moment, state}
 use Rattle.world_rules.specs.Run.{IsNext, HaveCome}
 use Rattle.world_laws.specs.Times.{IsRightSet, last_time}
-use Rattle.world_laws.proofs.Among.{Among}
+use Rattle.mate_num.specs.Lists.{Among}
 use Rattle.world_laws.proofs.Points.{among-next, last-before, run-timed}
 use Rattle.world_laws.specs.Installs.{InstallsAreNewer}
 use Rattle.world_laws.specs.Versions.{InjectsAt}

@@ -20,7 +20,7 @@ use Rattle.report_summary.specs.declared.summary.Summary.{Summary}
 use Rattle.report_summary.specs.declared.tally.LogTally.{LogTally}
 use Rattle.report_summary.proofs.TallyLemmas.{tally-same, tally-few, up-to, air-same, air-few}
 use Rattle.report_summary.specs.Writing.{OfRun, IsEnded}
-use Rattle.world_laws.proofs.Among.{all-at}
+use Rattle.mate_num.proofs.ListLemmas.{all-at}
 use Rattle.world_rules.specs.World.{World}
 use Rattle.world_rules.specs.State.{Moment}
 use Rattle.sim_mote.specs.declared.mote.Mote.{Mote}

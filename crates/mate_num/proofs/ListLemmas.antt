@@ -1,15 +1,9 @@
--- What stands in a list.
+-- Lemmas on what is in a list.
 use Rattle.std.proofs.Common.{◌≡◌, ℕ, Bool, true, false, List, [], ◌∷◌, ◌++◌, drop, refl, sym, ◌∙◌, ap, subst, inl, inr, ◌⊎◌}
-use Rattle.std.specs.Prelude.{cond, ◌==◌, Some, All, slice_get}
+use Rattle.std.specs.Prelude.{cond, Some, All, slice_get}
 use Rattle.std.specs.List.{filter, flat_map}
-use Rattle.std.proofs.lemmas.Bool.Decides.{eqb_tells}
 use Rattle.std.proofs.lemmas.Option.{get_or_from_slice_get, slice_get_within}
-use Rattle.world_rules.specs.Cause.{Cause}
-use Rattle.world_rules.specs.State.{Scheduled, of_time}
-
-abbrev pub Among : {X : Type 0} → X → List X → Type 0
-Among x [] = ⊥
-Among x (y ∷ ys) = (y ≡ x) ⊎ Among x ys
+use Rattle.mate_num.specs.Lists.{Among}
 
 pub among-left : {X : Type 0} (x : X) (xs ys : List X) → Among x xs → Among x (xs ++ ys)
 among-left x [] ys h = absurd h
@@ -63,39 +57,6 @@ pub none-among : {X : Type 0} (x : X) (xs : List X) → xs ≡ [] → Among x xs
 none-among x [] is h = h
 none-among x (y ∷ xs) is h = cc
 
--- ---- what is scheduled for a time
-
-abbrev at : ℕ → Cause → Scheduled
-at t c = record { time = t; cause = c }
-
-pub among-of_time : (t : ℕ) (c : Cause) (xs : List Scheduled) → Among (at t c) xs → Among c (of_time t xs)
-among-of_time t c [] h = absurd h
-among-of_time t c (x ∷ xs) h = elim (eqb_tells x.time t) [
-  | inl same ↦ rw same.0 (here (λ a. among-of_time t c xs a) h)
-  | inr other ↦ rw other.0 (past (λ a. among-of_time t c xs a) h other.1)
-] where
-  here : (Among (at t c) xs → Among c (of_time t xs)) → (x ≡ at t c) ⊎ Among (at t c) xs → (x.cause ≡ c) ⊎ Among c (of_time t xs)
-  here rest (inl e) = inl (ap (λ (y : Scheduled). y.cause) e)
-  here rest (inr a) = inr (rest a)
-
-  past : (Among (at t c) xs → Among c (of_time t xs)) → (x ≡ at t c) ⊎ Among (at t c) xs → (x.time ≡ t → ⊥) → Among c (of_time t xs)
-  past rest (inl e) other = absurd (other (ap (λ (y : Scheduled). y.time) e))
-  past rest (inr a) other = rest a
-
-pub among-un_of_time : (t : ℕ) (c : Cause) (xs : List Scheduled) → Among c (of_time t xs) → Among (at t c) xs
-among-un_of_time t c [] h = absurd h
-among-un_of_time t c (x ∷ xs) h = elim (eqb_tells x.time t) [
-  | inl same ↦ here (λ a. among-un_of_time t c xs a) same.1 (rw same.0 at h)
-  | inr other ↦ inr (among-un_of_time t c xs (rw other.0 at h))
-] where
-  here : (Among c (of_time t xs) → Among (at t c) xs) → x.time ≡ t → (x.cause ≡ c) ⊎ Among c (of_time t xs) → (x ≡ at t c) ⊎ Among (at t c) xs
-  here rest is (inl e) = inl (λ k. record { time = is k; cause = e k })
-  here rest is (inr a) = inr (rest a)
-
 -- what holds of each holds of the one at a place
 pub all-at : {X : Type 0} (P : X → Type 0) (xs : List X) (i : ℕ) (x : X) → All P xs → slice_get xs i ≡ Some x → P x
 all-at P xs i x all is = subst P (get_or_from_slice_get xs i x x is) (all i x (slice_get_within xs i x is))
-
--- two numbers that differ
-pub apart : (a b : ℕ) → (a == b) ≡ false → a ≡ b → ⊥
-apart a b differ same = elim (eqb_tells a b) [ inl e ↦ (let clash : true ≡ false = sym e.0 ∙ differ in cc) | inr e ↦ e.1 same ]
