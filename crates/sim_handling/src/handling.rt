@@ -22,10 +22,9 @@ ghost use Rattle.world_state_laws.specs.Coming.{code_world, MayComeTo};
 ghost use Rattle.sim_mote.specs.Standing.{IsMoteOf};
 ghost use Rattle.sim_handling.specs.Handling.{IsFitEvent, IsOpenExchange, IsPaced, Handled, DoesBy, IsFragmentOf, receivers_below};
 
-use mate_journal::{Air, Programs};
+use mate_journal::Programs;
 use mate_num::{HandlerId, NoMemory, Payload, Stamp};
 use packet_codec::{Packet, decode};
-use radio_sim::wire::copy_of;
 use radio_sim::{Event, SharedPacket};
 use sim_mote::{Effect, Mote};
 use vm_desc::{Description, HandlerKind};
@@ -119,9 +118,7 @@ fn follow(
         What::Show => mote.show(at),
         What::Reset => mote.reset(at, effect),
         What::Noise { bytes } => {
-            effect.first = Some(Air::Noise {
-                bytes: copy_of(bytes),
-            });
+            effect.first.noise(bytes);
             Ok(())
         }
     }
@@ -187,10 +184,7 @@ fn get(
     ensures right { OnOk result (All (IsRightPacket (length desc.now.handlers.items)) effect.new.sends.items) }
 {
     hear(mote, desc, packet, at, effect)?;
-    effect.first = Some(Air::Got {
-        number,
-        from: link.from,
-    });
+    effect.first.got(number, link.from);
     Ok(())
 }
 
