@@ -91,6 +91,7 @@ pub fn handle(
 }
 
 /// A line of the script comes to the node.
+#[inline(never)]
 fn follow(
     mote: &mut Mote,
     what: &What,
@@ -160,6 +161,7 @@ fn receive(
 }
 
 /// The packet of this number comes to the node over the link.
+#[inline(always)]
 fn get(
     mote: &mut Mote,
     desc: &Description,
@@ -226,7 +228,9 @@ fn hear(
     }
 }
 
-/// The node hears a fragment of this version, and installs the image that is whole with it.
+/// The node hears a fragment of this version, and installs the image that is whole with it. It isn't inlined, so that what comes in most
+/// events takes no room for an image.
+#[inline(never)]
 fn hear_fragment(
     mote: &mut Mote,
     packet: &Packet,
@@ -255,6 +259,7 @@ fn hear_fragment(
 }
 
 /// A message is posted to the handlers that receive messages, in their order.
+#[inline(never)]
 fn post_received(
     mote: &mut Mote,
     desc: &Description,
