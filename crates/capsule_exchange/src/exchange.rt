@@ -103,6 +103,8 @@ impl Exchange {
     /// one and the target; a fragment of the target is collected; a Status marks the fragments that it asks for of
     /// the held version. `asks` gets the packets that the node sends at once: one Status for each handler of which a
     /// Vector has a greater version than the held one.
+    /// It is inlined, since each caller knows which packet it is.
+    #[inline(always)]
     pub fn hear(&mut self, packet: &Packet, asks: &mut ArrayVec<Packet, 8>) -> Heard
         requires right { IsRightPacket (length self.old.handlers) packet.now }
         requires empty { asks.old.items ≡ [] }

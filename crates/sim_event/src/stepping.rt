@@ -23,7 +23,9 @@ use world_script::World;
 use world_state_laws::states_are_sound;
 
 /// The event comes, with this stamp. What its node and the radio recorded before it is forgotten, if that is to be forgotten, and
-/// the node then has the spare room, if it may record something. It answers its node. The effect is nothing before it and after it.
+/// the node then has the spare room, if it may record something. It answers its node. The effect is nothing before it and after it. It is
+/// inlined into the loop of a run.
+#[inline(always)]
 pub fn step(
     sim: &mut Simulation,
     desc: &Description,

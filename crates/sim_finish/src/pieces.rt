@@ -19,6 +19,7 @@ use packet_codec::Packet;
 use radio_sim::wire::copy_of;
 use radio_sim::{Event, Radio};
 use sim_air::{note_first, note_interval, schedule, schedule_interval, send_all, send_messages};
+use sim_mote::{First, FirstTold};
 use trickle_timer::Trickle;
 use vm_desc::{Description, HandlerKind};
 
@@ -27,54 +28,30 @@ pub(crate) fn note_all(
     radio: &mut Radio,
     node: u8,
     at: Stamp,
-    first: &Option<Air>,
+    first: &First,
     begins: bool,
     timer: &Trickle,
 ) -> Result<(), NoMemory>
     ensures { OnOk result (AddsToAir radio.old radio.new (map (aired_at at node) (option_to_list first.now)
         ++ map (aired_at at node) (if_begins (length_of begins timer.now))) []) }
 {
-    note_copy(radio, node, at, first)?;
+    note_told(radio, node, at, first)?;
     note_interval(radio, node, at, length_begun(begins, timer))?;
     Ok(())
 }
 
-/// Records a copy of what comes first in an event, if anything does.
-fn note_copy(radio: &mut Radio, node: u8, at: Stamp, first: &Option<Air>) -> Result<(), NoMemory>
+/// Records what comes first in an event, if anything does. Each kind is written in its place at once: a short one isn't moved with the
+/// room of a long one.
+fn note_told(radio: &mut Radio, node: u8, at: Stamp, first: &First) -> Result<(), NoMemory>
     ensures { OnOk result (AddsToAir radio.old radio.new (map (aired_at at node) (option_to_list first.now)) []) }
 {
-    match first {
-        Some(air) => note_air(radio, node, at, air),
-        None => Ok(()),
-    }
-}
-
-/// Records a copy of one thing of the air. Each kind is written in its place at once: a short one isn't moved with the room of a long one.
-fn note_air(radio: &mut Radio, node: u8, at: Stamp, air: &Air) -> Result<(), NoMemory>
-    ensures { OnOk result (AddsToAir radio.old radio.new (aired_at at node air.now ∷ []) []) }
-{
-    match air {
-        Air::Interval { length } => {
-            let length = *length;
-            note_first(radio, node, at, Some(Air::Interval { length }))
-        }
-        Air::Keep => note_first(radio, node, at, Some(Air::Keep)),
-        Air::Sent { number, bytes } => {
-            let number = *number;
-            let bytes = copy_of(bytes);
-            note_first(radio, node, at, Some(Air::Sent { number, bytes }))
-        }
-        Air::Lost { number, to } => {
-            let number = *number;
-            let to = *to;
-            note_first(radio, node, at, Some(Air::Lost { number, to }))
-        }
-        Air::Got { number, from } => {
-            let number = *number;
-            let from = *from;
+    match first.told() {
+        FirstTold::Nothing => Ok(()),
+        FirstTold::Keep => note_first(radio, node, at, Some(Air::Keep)),
+        FirstTold::Got { number, from } => {
             note_first(radio, node, at, Some(Air::Got { number, from }))
         }
-        Air::Noise { bytes } => {
+        FirstTold::Noise(bytes) => {
             let bytes = copy_of(bytes);
             note_first(radio, node, at, Some(Air::Noise { bytes }))
         }

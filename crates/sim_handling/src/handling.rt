@@ -22,10 +22,9 @@ ghost use Rattle.world_state_laws.specs.Coming.{code_world, MayComeTo};
 ghost use Rattle.sim_mote.specs.Standing.{IsMoteOf};
 ghost use Rattle.sim_handling.specs.Handling.{IsFitEvent, IsOpenExchange, IsPaced, Handled, DoesBy, IsFragmentOf, receivers_below};
 
-use mate_journal::{Air, Programs};
+use mate_journal::Programs;
 use mate_num::{HandlerId, NoMemory, Payload, Stamp};
 use packet_codec::{Packet, decode};
-use radio_sim::wire::copy_of;
 use radio_sim::{Event, SharedPacket};
 use sim_mote::{Effect, Mote};
 use vm_desc::{Description, HandlerKind};
@@ -92,6 +91,7 @@ pub fn handle(
 }
 
 /// A line of the script comes to the node.
+#[inline(never)]
 fn follow(
     mote: &mut Mote,
     what: &What,
@@ -119,9 +119,7 @@ fn follow(
         What::Show => mote.show(at),
         What::Reset => mote.reset(at, effect),
         What::Noise { bytes } => {
-            effect.first = Some(Air::Noise {
-                bytes: copy_of(bytes),
-            });
+            effect.first.noise(bytes);
             Ok(())
         }
     }
@@ -163,6 +161,7 @@ fn receive(
 }
 
 /// The packet of this number comes to the node over the link.
+#[inline(always)]
 fn get(
     mote: &mut Mote,
     desc: &Description,
@@ -187,10 +186,7 @@ fn get(
     ensures right { OnOk result (All (IsRightPacket (length desc.now.handlers.items)) effect.new.sends.items) }
 {
     hear(mote, desc, packet, at, effect)?;
-    effect.first = Some(Air::Got {
-        number,
-        from: link.from,
-    });
+    effect.first.got(number, link.from);
     Ok(())
 }
 
@@ -232,7 +228,9 @@ fn hear(
     }
 }
 
-/// The node hears a fragment of this version, and installs the image that is whole with it.
+/// The node hears a fragment of this version, and installs the image that is whole with it. It isn't inlined, so that what comes in most
+/// events takes no room for an image.
+#[inline(never)]
 fn hear_fragment(
     mote: &mut Mote,
     packet: &Packet,
@@ -261,6 +259,7 @@ fn hear_fragment(
 }
 
 /// A message is posted to the handlers that receive messages, in their order.
+#[inline(never)]
 fn post_received(
     mote: &mut Mote,
     desc: &Description,

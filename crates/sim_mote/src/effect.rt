@@ -3,8 +3,8 @@
 ghost use Rattle.std.specs.Prelude.{◌≡◌};
 ghost use Rattle.sim_mote.specs.Motes.{plain_effect};
 
+use crate::first::First;
 use arrayvec::ArrayVec;
-use mate_journal::Air;
 use packet_codec::Packet;
 
 /// What an event does beyond the entries of its node. A call that has such an effect is given one that is nothing, and
@@ -12,7 +12,7 @@ use packet_codec::Packet;
 #[derive(Drop)]
 pub struct Effect {
     /// What is recorded of the air first.
-    pub first: Option<Air>,
+    pub first: First,
     /// Whether an interval of the node's timer begins.
     pub begins: bool,
     /// Whether an era begins, so that the answers that were waited for come no more.
@@ -29,7 +29,7 @@ impl Effect {
         ensures { result ≡ plain_effect }
     {
         Effect {
-            first: None,
+            first: First::nothing(),
             begins: false,
             cuts: false,
             resets: false,
@@ -41,7 +41,7 @@ impl Effect {
     pub fn clear(&mut self)
         ensures { self.new ≡ plain_effect }
     {
-        self.first = None;
+        self.first.clear();
         self.begins = false;
         self.cuts = false;
         self.resets = false;

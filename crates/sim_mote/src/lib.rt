@@ -2,7 +2,9 @@
 #![tactic(auto)]
 
 pub mod effect;
+pub mod first;
 pub mod mote;
 
 pub use effect::Effect;
+pub use first::{First, FirstTold};
 pub use mote::Mote;

@@ -18,7 +18,6 @@ ghost use Rattle.sim_mote.specs.Motes.{HearsVector, plain_effect, at_fire, timed
 
 use crate::effect::Effect;
 use capsule_exchange::Exchange;
-use mate_journal::Air;
 use mate_num::{ContextId, HandlerId, Image, NoMemory, Payload, Stamp};
 use open_node::{OpenNode, SharedMachine};
 use packet_codec::Packet;
@@ -159,7 +158,7 @@ impl Mote {
     {
         match self.timer.fire(suppress) {
             Fire::Send => effect.sends.push(self.exchange.vector()),
-            Fire::Keep => effect.first = Some(Air::Keep),
+            Fire::Keep => effect.first.keep(),
         }
     }
 
