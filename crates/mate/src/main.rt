@@ -85,12 +85,12 @@ fn words(rt: &(impl Env + AllocGlobal)) -> Result<Vec<String>, Refusal> {
     Ok(words)
 }
 
-/// Whether the words may be those of a command that reads sources: those of all others begin with `table`, `check` or
-/// `feed`, or there are none. The first word is copied to the stack, so that no heap is taken before the stack is.
+/// Whether the words may be those of a command that reads sources: those of all others begin with `table`, `check`,
+/// `feed` or `gen`, or there are none. The first word is copied to the stack, so that no heap is taken before the stack is.
 fn may_read_sources(rt: &impl Env) -> bool {
     let mut name = [0; NAME];
     match rt.arg(1, &mut name) {
-        Ok(length) => !matches!(&name[..length], b"table" | b"check" | b"feed"),
+        Ok(length) => !matches!(&name[..length], b"table" | b"check" | b"feed" | b"gen"),
         Err(FillError::TooLong) => true,
         Err(FillError::NotPresent) => false,
     }

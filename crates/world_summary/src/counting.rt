@@ -93,7 +93,6 @@ fn start_counted(
 
 /// The event comes, with this stamp, and what was recorded in it is counted. If a next one may come, it is then forgotten, and the room of
 /// the node's log is spare again.
-#[inline(never)]
 fn count_step(
     desc: &Description,
     world: &World,

@@ -116,7 +116,6 @@ pub fn write_run<S: Sink>(
 
 /// The event comes, with this stamp; it is recorded, if a record is kept, and its lines are written. If a next one may come, what
 /// was recorded is then forgotten, and the room of the node's log is spare again.
-#[inline(never)]
 fn write_step<S: Sink>(
     desc: &Description,
     world: &World,
