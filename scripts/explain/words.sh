@@ -27,9 +27,9 @@ explain_usage() {
 
 show_help() {
     echo 'usage: mate WORDS..      runs one of these commands'
-    echo '       explain WORDS..   runs the same, shows the place of a refusal, and tells what a source costs and how a run ends'
+    echo '       explain WORDS..   runs the same, shows the place of a refusal, and says what a source costs and how a run ends'
     synopsis
-    echo 'VM is the file of a machine, or `builtin`. Flags stand anywhere before `--`. What each line means: docs/GUIDE.md.'
+    echo 'VM is the file of a machine, or `builtin`. Flags may come anywhere before `--`. What each line means: docs/GUIDE.md.'
 }
 
 # Which program it is: by the sum of the texts that it was proved from, and the kit.
