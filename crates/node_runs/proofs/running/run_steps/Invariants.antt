@@ -1,7 +1,7 @@
 use Rattle.std.proofs.Common.{◌≡◌, take, length}
 use Rattle.mate_journal.specs.OpenLog.{nothing_gone}
 use Rattle.run_steps.specs.Running.{HasRun}
-use Rattle.run_steps.proofs.running.run_steps.Given as goal
+use Rattle.node_runs.proofs.running.run_steps.Given as goal
 
 abbrev pub invariant-loop-step : goal.invariant-loop-step
 invariant-loop-step l = record {

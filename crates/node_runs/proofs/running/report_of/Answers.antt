@@ -2,8 +2,8 @@ use Rattle.std.proofs.Common.{◌∷◌, [], List, ◌∙◌, ap}
 use Rattle.mate_journal.specs.Log.{Log}
 use Rattle.mate_journal.specs.declared.air.Aired.{Aired}
 use Rattle.mate_journal.specs.declared.report.Report.{Report}
-use Rattle.run_steps.proofs.RunLemmas.{set-one}
-use Rattle.run_steps.proofs.running.report_of.Goals as goal
+use Rattle.node_runs.proofs.ReportLemmas.{set-one}
+use Rattle.node_runs.proofs.running.report_of.Goals as goal
 
 pub returns-clause-is : goal.returns-clause-is
 returns-clause-is c =

@@ -1,7 +1,7 @@
 use Rattle.std.proofs.Common.{refl, ◌∙◌, inl}
 use Rattle.run_steps.specs.Running.{IsReportOf, report_with}
 use Rattle.report_summary.proofs.WritingLemmas.{given-whole, given-fault}
-use Rattle.run_steps.proofs.writing.run_steps_into.Goals as goal
+use Rattle.node_runs.proofs.writing.run_steps_into.Goals as goal
 
 pub returns-in_default-clause-gives : goal.returns-in_default-clause-gives
 returns-in_default-clause-gives g c = inl (record { report = c.nothing_run.ensures; same = refl })
