@@ -6,7 +6,7 @@ ghost use Rattle.node_programs.specs.ScriptSteps.{AreProgramsOf};
 
 use mate_journal::{Entry, Programs, Report, RunFault, Stamped};
 use mate_num::{ContextId, NoMemory};
-use run_steps::run_steps;
+use node_runs::run_steps;
 use script_reader::{Step, Steps};
 use std::alloc::{AllocError, Global};
 use vm_desc::Description;

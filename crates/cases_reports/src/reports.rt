@@ -10,8 +10,8 @@ use mate_files::SinkFault;
 use mate_journal::{Air, Aired, Airs, Entry, NodeLog, NodeLogs, Report, Stamped};
 use mate_num::{NoMemory, Stamp};
 use memory_files::MemSink;
-use report_merge::write;
-use report_text::{brief, write_end};
+use report_merge::{brief, write};
+use report_text::write_end;
 use std::alloc::{AllocError, Global};
 use vm_desc::Description;
 

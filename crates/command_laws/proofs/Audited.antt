@@ -60,9 +60,9 @@ use Rattle.vm_desc.specs.declared.description.Description.{Description}
 use Rattle.world_reader.specs.WorldLines.{WorldProgress, WorldSaid, SaysNodes, a_world_line, behind_verb, some_nodes}
 use Rattle.world_reader.specs.declared.stage.Stage.{Stage}
 use Rattle.world_reader.specs.declared.stage.Stage.TheVariants as stage
-use Rattle.world_programs.specs.Injected.{world_programs}
-use Rattle.world_programs.specs.Named.{begins_world, are_of_world, is_of_world, programs_by, programs_named}
-use Rattle.world_programs.specs.WorldFiles.{world}
+use Rattle.script_programs.specs.Injected.{world_programs}
+use Rattle.script_programs.specs.Named.{begins_world, are_of_world, is_of_world, programs_by, programs_named}
+use Rattle.script_programs.specs.WorldFiles.{world}
 use Rattle.world_reader.specs.WorldScript.{world_script_in, after_world_line, when_told, no_world, world_at_end}
 use Rattle.world_script.specs.declared.world.World.{World}
 use Rattle.world_run_laws.specs.Promise.{IsReportOfWorld}

@@ -41,8 +41,8 @@ use Rattle.script_programs.proofs.OnePrograms.{script_text_agrees, programs_agre
 use Rattle.script_programs.proofs.SameMeaning.{is_held-same, meaning-same}
 use Rattle.script_reader.specs.Steps.{NodeScript}
 use Rattle.vm_desc.specs.declared.description.Description.{Description}
-use Rattle.world_programs.specs.Injected.{installs, world_programs}
-use Rattle.world_programs.specs.Named.{is_of_world, programs_by, programs_named}
+use Rattle.script_programs.specs.Injected.{installs, world_programs}
+use Rattle.script_programs.specs.Named.{is_of_world, programs_by, programs_named}
 use Rattle.world_script.specs.declared.world.World.{World}
 
 -- ---- the programs

@@ -34,10 +34,10 @@ use Rattle.script_reader.specs.declared.fault.Cause.{Cause}
 use Rattle.ts_checked.specs.Statement.{Block}
 use Rattle.vm_desc.specs.Shapes.{shape_of}
 use Rattle.vm_desc.specs.declared.description.Description.{Description}
-use Rattle.world_programs.specs.Injected.{installs, world_programs}
-use Rattle.world_programs.specs.Made.{IsMadeOf, AreOf, AreOfVersions, IsMade, made}
-use Rattle.world_programs.specs.WorldFiles.{IsBadWorld, world_text, world}
-use Rattle.world_programs.specs.declared.made.MadeWorld.{MadeWorld}
+use Rattle.script_programs.specs.Injected.{installs, world_programs}
+use Rattle.script_programs.specs.Made.{IsMadeOf, AreOf, AreOfVersions, IsMade, made}
+use Rattle.script_programs.specs.WorldFiles.{IsBadWorld, world_text, world}
+use Rattle.script_programs.specs.declared.made.MadeWorld.{MadeWorld}
 use Rattle.world_reader.specs.WorldScript.{world_script_in}
 use Rattle.world_rules.specs.Report.{IsWorldReport}
 use Rattle.world_rules.specs.World.{world_of, World as Rules}

@@ -28,9 +28,9 @@ use Rattle.script_programs.specs.Scripts.{script}
 use Rattle.script_reader.specs.declared.steps.Step.{Step}
 use Rattle.script_reader.specs.declared.steps.Step.TheVariants as step
 use Rattle.vm_desc.specs.declared.description.Description.{Description}
-use Rattle.world_programs.specs.Injected.{installs}
-use Rattle.world_programs.specs.Named.{is_of_world, programs_by, programs_named}
-use Rattle.world_programs.specs.WorldFiles.{world}
+use Rattle.script_programs.specs.Injected.{installs}
+use Rattle.script_programs.specs.Named.{is_of_world, programs_by, programs_named}
+use Rattle.script_programs.specs.WorldFiles.{world}
 
 -- ---- steps
 

@@ -1,12 +1,12 @@
 -- Lists in order of time, by what comes at each time.
 use Rattle.std.proofs.Common.{◌≡◌, ◌≢◌, ℕ, zero, suc, ◌<◌, ◌≤◌, Bool, true, false, List, [], ◌∷◌, ◌++◌, refl, sym, ◌∙◌, ap, arith, inl, inr, append_assoc}
-use Rattle.std.specs.Prelude.{◌==◌, if◌then◌else◌, filter}
+use Rattle.std.specs.Prelude.{if◌then◌else◌, filter}
 use Rattle.std.proofs.lemmas.Bool.{cases_eq, cases_lt, le-leb, lt-leb}
 use Rattle.std.proofs.lemmas.Bool.Decides.{eqb_tells}
 use Rattle.std.proofs.lemmas.List.{append-nil, map-append}
 use Rattle.std.proofs.lemmas.List.Elements.{filter_map-append, filter-append}
 use Rattle.event_queue.specs.declared.queue.Timed.{Timed}
-use Rattle.event_queue.specs.Agenda.{Agenda, inserted, scheduled, scheduled_all, item_at, due_at}
+use Rattle.event_queue.specs.Agenda.{inserted, item_at, due_at}
 use Rattle.event_queue.specs.View.{at_time, in_order}
 
 pub in_order_cong : {T : Type 0} (f g : ℕ → List T) (n : ℕ) → ((t : ℕ) → t < n → f t ≡ g t) → in_order f n ≡ in_order g n
@@ -143,40 +143,3 @@ due_at-in_order {T} f (suc n) t low =
       | inr other ↦ ap (λ (xs : List T). xs ++ due_at t (at_time n (f n))) (due_at-in_order f n t (omega (arith, low, other)))
           ∙ ap (λ (xs : List T). f t ++ xs) (due_at-at_time_other n t (f n) other) ∙ append-nil (f t)
     ]
-
--- items more at one time
-
--- a function with an item more at one place
-with_one : {T : Type 0} → (ℕ → List T) → ℕ → T → ℕ → List T
-with_one f t x s = if s == t then f s ++ x ∷ [] else f s
-
-with_one_here : {T : Type 0} (f : ℕ → List T) (t : ℕ) (x : T) → with_one f t x t ≡ f t ++ x ∷ []
-unfolding with_one
-with_one_here f t x = elim (eqb_tells t t) [ inl e ↦ rw e.0 refl | inr e ↦ absurd (e.1 refl) ]
-
-with_one_other : {T : Type 0} (f : ℕ → List T) (t : ℕ) (x : T) (s : ℕ) → s ≢ t → with_one f t x s ≡ f s
-unfolding with_one
-with_one_other f t x s other = elim (eqb_tells s t) [ inl e ↦ absurd (other e.1) | inr e ↦ rw e.0 refl ]
-
-pub scheduled_all_in_order : {T : Type 0} (until now : ℕ) (f g : ℕ → List T) (t : ℕ) (xs : List T) → t ≤ until → g t ≡ f t ++ xs → ((s : ℕ) → s ≢ t → g s ≡ f s)
-    → record { until = until; now = now; items = in_order g (suc until) } ≡ scheduled_all (record { until = until; now = now; items = in_order f (suc until) }) t xs
-scheduled_all_in_order {T} until now f g t [] low last others =
-    let with_items : List (Timed T) → Agenda T = λ ys. record { until = until; now = now; items = ys } in
-    ap with_items (in_order_cong g f (suc until) (λ s below. elim (cases_eq s t) [ inl e ↦ ap g e ∙ last ∙ append-nil (f t) ∙ ap f (sym e) | inr other ↦ others s other ]))
-scheduled_all_in_order {T} until now f g t (x ∷ xs) low last others =
-    let mid : ℕ → List T = with_one f t x in
-    let a : Agenda T = record { until = until; now = now; items = in_order f (suc until) } in
-    let with_items : List (Timed T) → Agenda T = λ ys. record { until = until; now = now; items = ys } in
-    let choice : Bool → Agenda T = λ b. if b then with_items (inserted (record { time = t; item = x }) (in_order f (suc until))) else a in
-    let one : record { until = until; now = now; items = in_order mid (suc until) } ≡ scheduled a t x =
-    ap with_items (in_order_put f mid t x (suc until) (omega (arith, low)) (with_one_here f t x) (with_one_other f t x)) ∙ ap choice (sym (le-leb t until low)) in
-    scheduled_all_in_order until now mid g t xs low
-    (last ∙ sym (append_assoc (f t) (x ∷ []) xs) ∙ ap (λ (ys : List T). ys ++ xs) (sym (with_one_here f t x))) (λ s other. others s other ∙ sym (with_one_other f t x s other))
-    ∙ ap (λ (b : Agenda T). scheduled_all b t xs) one
-
-pub scheduled_all_late : {T : Type 0} (q : Agenda T) (t : ℕ) (xs : List T) → q.until < t → scheduled_all q t xs ≡ q
-scheduled_all_late q t [] after = refl
-scheduled_all_late {T} q t (x ∷ xs) after =
-    let choice : Bool → Agenda T = λ b. if b then record q { items = inserted (record { time = t; item = x }) q.items } else q in
-    let same : scheduled q t x ≡ q = ap choice (lt-leb t q.until after) in
-    ap (λ (b : Agenda T). scheduled_all b t xs) same ∙ scheduled_all_late q t xs after

@@ -399,12 +399,3 @@ others_seen next heads c list head view right within read all s other =
       | inr past ↦ ap (λ (h : Head). h.len) (get_or_past heads s no_head past)
     ] in
     seen next heads c s view ∙ ap (λ (n : ℕ). tabled n (place_at next heads s)) none
-
-length-tabled : (n : ℕ) (f : ℕ → ℕ) → length (tabled n f) ≡ n
-length-tabled zero f = refl
-length-tabled (suc n) f = ap suc (length-tabled n (λ p. f (suc p)))
-
-pub length_seen : (next : List ℕ) (heads : List Head) (c : Places) (list : ℕ) (head : Head) → seen_places next heads ≡ c → list < length heads → head ≡ get_or heads list head → head.len ≡ length (list_at c list)
-length_seen next heads c list head view within read =
-    let is : head ≡ head_of heads list = head_read heads list head within read in
-    ap (λ (h : Head). h.len) is ∙ sym (length-tabled (head_of heads list).len (place_at next heads list)) ∙ ap (λ (xs : List ℕ). length xs) (sym (seen next heads c list view))

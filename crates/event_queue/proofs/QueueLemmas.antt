@@ -5,11 +5,11 @@ use Rattle.std.proofs.lemmas.Bool.{cases_lt, cases_eq, le-leb, lt-leb, false≢t
 use Rattle.event_queue.specs.declared.queue.Timed.{Timed}
 use Rattle.event_queue.specs.declared.wheel.Wheel.{Wheel}
 use Rattle.event_queue.specs.Group.{is_in}
-use Rattle.event_queue.specs.Wheel.{wheel_due, IsWheel, PutsLast, PutsAll, KeepsView, TakesFirst, Turns, Cancels, SeeksNone, SeeksFirst, Seeks}
-use Rattle.event_queue.specs.Agenda.{Agenda, inserted, scheduled, scheduled_all, is_other, due_at, Adds, AddsAll, Comes}
+use Rattle.event_queue.specs.Wheel.{wheel_due, IsWheel, PutsLast, KeepsView, TakesFirst, Turns, Cancels, SeeksNone, SeeksFirst, Seeks}
+use Rattle.event_queue.specs.Agenda.{Agenda, inserted, scheduled, is_other, due_at, Adds, Comes}
 use Rattle.event_queue.specs.View.{in_order, agenda_of, IsRightQueue}
 use Rattle.event_queue.proofs.WheelLemmas.{keeps_dropped}
-use Rattle.event_queue.proofs.AgendaLemmas.{in_order_cong, in_order_none, in_order_first, in_order_put, in_order_filter, due_at-own, due_at-other, due_at-past, due_at-in_order, scheduled_all_in_order}
+use Rattle.event_queue.proofs.AgendaLemmas.{in_order_cong, in_order_none, in_order_first, in_order_put, in_order_filter, due_at-own, due_at-other, due_at-past, due_at-in_order}
 
 -- two wheels with equal dues show one agenda
 same_agenda : {T : Type 0} (group : T → Option ℕ) (until : ℕ) (w v : Wheel T) → v.at ≡ w.at → ((t : ℕ) → wheel_due group v t ≡ wheel_due group w t) → agenda_of group until v ≡ agenda_of group until w
@@ -184,41 +184,6 @@ pub adds_on_ok : {T A E : Type 0} (group : T → Option ℕ) (until : ℕ) (w v 
     → MatchResult r (λ x. PutsLast group w time item v) (λ x. KeepsView group w v) → OnOk r (Adds q time item (agenda_of group until v))
 adds_on_ok group until w v q time item (Ok x) view in_time done = adds group until w v q time item view in_time done
 adds_on_ok group until w v q time item (Err e) view in_time done = tt
-
--- items at one time
-
-pub schedules_all : {T : Type 0} (group : T → Option ℕ) (until : ℕ) (w v : Wheel T) (q : Agenda T) (time : ℕ) (items : List T) → agenda_of group until w ≡ q → time ≤ until → PutsAll group w time items v → agenda_of group until v ≡ scheduled_all q time items
-schedules_all {T} group until w v q time items view in_time put =
-    let with_now : ℕ → Agenda T = λ n. record { until = until; now = n; items = in_order (wheel_due group v) (suc until) } in
-    ap with_now put.at ∙ scheduled_all_in_order until w.at (wheel_due group w) (wheel_due group v) time items in_time put.last put.others ∙ ap (λ (b : Agenda T). scheduled_all b time items) view
-
-pub right_all : {T : Type 0} (group : T → Option ℕ) (until : ℕ) (w v : Wheel T) (time : ℕ) (items : List T) → IsRightQueue group until w → time ≤ until → PutsAll group w time items v → IsRightQueue group until v
-right_all group until w v time items right in_time put =
-    let at = put.at in let ahead = right.ahead in
-    record { right = put.right; below = right.below; ahead = omega (arith, at, ahead); none_after = λ t after. put.others t (λ same. omega (arith, same, after, in_time)) ∙ right.none_after t after }
-
-pub adds_all : {T : Type 0} (group : T → Option ℕ) (until : ℕ) (w v : Wheel T) (q : Agenda T) (time : ℕ) (items : List T) → agenda_of group until w ≡ q → time ≤ until → PutsAll group w time items v → AddsAll q time items (agenda_of group until v)
-adds_all {T} group until w v q time items view in_time put =
-    let was : (t : ℕ) → t < suc until → due_at t q.items ≡ wheel_due group w t = λ t low. ap (λ (a : Agenda T). due_at t a.items) (sym view) ∙ due_at-in_order (wheel_due group w) (suc until) t low in
-    record {
-      last = λ early. due_at-in_order (wheel_due group v) (suc until) time (omega (arith, in_time)) ∙ put.last ∙ ap (λ (xs : List T). xs ++ items) (sym (was time (omega (arith, in_time))));
-      others = λ t other. elim (cases_lt t (suc until)) [
-        | inl low ↦ due_at-in_order (wheel_due group v) (suc until) t low ∙ put.others t other ∙ sym (was t low)
-        | inr after ↦ due_at-past (wheel_due group v) (suc until) t after ∙ sym (due_at-past (wheel_due group w) (suc until) t after) ∙ ap (λ (a : Agenda T). due_at t a.items) view
-      ];
-    }
-
-pub late_adds_all : {T : Type 0} (q : Agenda T) (time : ℕ) (items : List T) → q.until < time → AddsAll q time items q
-late_adds_all q time items after = record { last = λ early. absurd (omega (arith, early, after)); others = λ t other. refl }
-
--- what was kept before shows the same
-pub puts_all_after : {T : Type 0} (group : T → Option ℕ) (u w v : Wheel T) (time : ℕ) (items : List T) → KeepsView group u w → PutsAll group w time items v → PutsAll group u time items v
-puts_all_after {T} group u w v time items kept put = record {
-  right = put.right;
-  at = put.at ∙ kept.at;
-  last = put.last ∙ ap (λ (xs : List T). xs ++ items) (kept.same time);
-  others = λ t other. put.others t other ∙ kept.same t;
-}
 
 pub put_now : {T A E : Type 0} (group : T → Option ℕ) (until : ℕ) (w v : Wheel T) (q : Agenda T) (time : ℕ) (item : T) (r : Result A E) → agenda_of group until w ≡ q
     → MatchResult r (λ x. PutsLast group w time item v) (λ x. KeepsView group w v) → v.at ≡ q.now

@@ -11,7 +11,7 @@ use Rattle.event_queue.specs.declared.wheel.Wheel.{Wheel}
 use Rattle.event_queue.specs.declared.marks.Marks.{Marks}
 use Rattle.event_queue.specs.Links.{Places, list_at, IsOutside, MovesFirst, MakesRoom}
 use Rattle.event_queue.specs.Marks.{mark_at}
-use Rattle.event_queue.specs.Wheel.{is_current, live_item, live, live_entry, timed_entry, items_at, items_timed, near, far, list_for, near_due, far_due, wheel_due, IsPastItem, IsTurning, IsWheel, PutsLast, PutsAll, KeepsView, TakesFirst, Turns}
+use Rattle.event_queue.specs.Wheel.{is_current, live_item, live, live_entry, timed_entry, items_at, items_timed, near, far, list_for, near_due, far_due, wheel_due, IsPastItem, IsTurning, IsWheel, PutsLast, KeepsView, TakesFirst, Turns}
 
 -- lists of places, by what waits there
 
@@ -640,45 +640,6 @@ starts {T} group w empty t = elim (cases_eq (t / 2048) (w.at / 2048)) [
 pub not_some : (o : Option ℕ) → false ≡ is_some o → o ≡ None
 not_some None e = refl
 not_some (Some x) e = absurd (false≢true e)
-
--- items put one after the other
-
-pub puts_none : {T : Type 0} (group : T → Option ℕ) (w : Wheel T) (time : ℕ) → IsWheel group w → PutsAll group w time [] w
-puts_none group w time right = record { right = right; at = refl; last = sym (append-nil (wheel_due group w time)); others = λ t other. refl }
-
--- as far as the items were put: so many were put, and these are left
-pub record PutsSome {T : Type 0} (group : T → Option ℕ) (old : Wheel T) (time : ℕ) (items : List T) (w : Wheel T) (rest : List T) : Type 0 where
-  pub front : List T
-  pub parts : items ≡ front ++ rest
-  pub puts : PutsAll group old time front w
-
-pub puts_start : {T : Type 0} (group : T → Option ℕ) (w : Wheel T) (time : ℕ) (items : List T) → IsWheel group w → PutsSome group w time items w items
-puts_start group w time items right = record { front = []; parts = refl; puts = puts_none group w time right }
-
-pub puts_more : {T : Type 0} (group : T → Option ℕ) (u w v : Wheel T) (time : ℕ) (items before rest : List T) (item : T) → PutsSome group u time items w before → before ≡ item ∷ rest → PutsLast group w time item v → PutsSome group u time items v rest
-puts_more {T} group u w v time items before rest item so_far first put =
-    let puts = so_far.puts in
-    record {
-      front = so_far.front ++ item ∷ [];
-      parts = so_far.parts ∙ ap (λ (xs : List T). so_far.front ++ xs) first ∙ sym (append_assoc so_far.front (item ∷ []) rest);
-      puts = record {
-        right = put.right;
-        at = put.at ∙ puts.at;
-        last = put.last ∙ ap (λ (xs : List T). xs ++ item ∷ []) puts.last ∙ append_assoc (wheel_due group u time) so_far.front (item ∷ []);
-        others = λ t other. put.others t other ∙ puts.others t other;
-      };
-    }
-
-pub puts_end : {T : Type 0} (group : T → Option ℕ) (u w : Wheel T) (time : ℕ) (items rest : List T) → PutsSome group u time items w rest → rest ≡ [] → PutsAll group u time items w
-puts_end {T} group u w time items rest so_far none_left =
-    let all : so_far.front ≡ items = sym (append-nil so_far.front) ∙ ap (λ (xs : List T). so_far.front ++ xs) (sym none_left) ∙ sym so_far.parts in
-    subst (λ (xs : List T). PutsAll group u time xs w) all so_far.puts
-
-pub shorter : (xs ys : List ℕ) (x : ℕ) → xs ≡ x ∷ ys → length xs ≡ length ys + 1
-shorter xs ys x is = let long : length xs ≡ suc (length ys) = ap (λ (zs : List ℕ). length zs) is in omega (arith, long)
-
-pub longer : (xs ys : List ℕ) (y : ℕ) → ys ≡ xs ++ y ∷ [] → length ys ≡ length xs + 1
-longer xs ys y is = ap (λ (zs : List ℕ). length zs) is ∙ length-append xs (y ∷ [])
 
 -- nothing waits where no list but that of the free places has a place
 pub idle_due : {T : Type 0} (group : T → Option ℕ) (w : Wheel T) → ((s : ℕ) → s ≢ 0 → list_at w.chains s ≡ []) → (t : ℕ) → wheel_due group w t ≡ []

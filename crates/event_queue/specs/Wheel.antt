@@ -89,13 +89,6 @@ pub record PutsLast {T : Type 0} (group : T → Option ℕ) (old : Wheel T) (tim
   pub last : wheel_due group new time ≡ wheel_due group old time ++ item ∷ []
   pub others : (t : ℕ) → t ≢ time → wheel_due group new t ≡ wheel_due group old t
 
--- a wheel has items more, last at one time
-pub record PutsAll {T : Type 0} (group : T → Option ℕ) (old : Wheel T) (time : ℕ) (items : List T) (new : Wheel T) : Type 0 where
-  pub right : IsWheel group new
-  pub at : new.at ≡ old.at
-  pub last : wheel_due group new time ≡ wheel_due group old time ++ items
-  pub others : (t : ℕ) → t ≢ time → wheel_due group new t ≡ wheel_due group old t
-
 -- nothing changed
 pub record KeepsView {T : Type 0} (group : T → Option ℕ) (old new : Wheel T) : Type 0 where
   pub right : IsWheel group new

@@ -104,14 +104,6 @@ impl Chains {
         self.next.len()
     }
 
-    /// How many places a list has.
-    pub fn len(&self, list: usize) -> usize
-        requires { list < length self.now.lists }
-        ensures { result ≡ length (list_at self.now list) }
-    {
-        self.heads[list].len as usize
-    }
-
     /// Whether the list has all places, so that the others have none.
     pub fn has_all(&self, list: usize) -> bool
         requires { list < length self.now.lists }

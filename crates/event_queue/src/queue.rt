@@ -2,14 +2,13 @@
 
 ghost use Rattle.std.specs.Prelude.{◌≡◌, ◌<◌, ◌≤◌, [], filter, MatchOption, MatchResult, OnOk, IfNone, IfOk};
 ghost use Rattle.event_queue.specs.declared.group.TheConstants.{GROUPS};
-ghost use Rattle.event_queue.specs.Agenda.{scheduled, scheduled_all, is_other, Adds, AddsAll, Comes};
+ghost use Rattle.event_queue.specs.Agenda.{scheduled, is_other, Adds, Comes};
 ghost use Rattle.event_queue.specs.Wheel.{IsWheel, Seeks};
 
 use crate::group::Grouped;
 use crate::wheel::Wheel;
 use mate_num::NoMemory;
 use std::alloc::Global;
-use std::collections::VecDeque;
 use std::marker::Model;
 
 /// An item that comes at a time, in ms.
@@ -60,23 +59,6 @@ impl<T: Grouped> Queue<T> {
             return Ok(());
         }
         self.wheel.put(time, item)
-    }
-
-    /// Schedules items at one time, in their order, and leaves none in `items`. `NoMemory` leaves both as they were.
-    pub fn schedule_all(&mut self, time: u32, items: &mut VecDeque<T>) -> Result<(), NoMemory>
-        requires { self.old.now ≤ time }
-        ensures list { MatchResult result (λ _. self.new ≡ scheduled_all self.old time items.old.items) (λ _. self.new ≡ self.old) }
-        ensures due { OnOk result (AddsAll self.old time items.old.items self.new) }
-        ensures now { self.new.now ≡ self.old.now }
-        ensures taken { MatchResult result (λ _. items.new.items ≡ []) (λ _. items.new.items ≡ items.old.items) }
-    {
-        if self.until < time {
-            items.clear();
-            return Ok(());
-        }
-        self.wheel.reserve_all(items.len())?;
-        self.wheel.put_all(time, items);
-        Ok(())
     }
 
     /// Takes out the first item with its time. None where there is no item, which changes nothing.

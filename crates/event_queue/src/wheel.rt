@@ -5,14 +5,13 @@
 ghost use Rattle.std.specs.Prelude.{◌≡◌, ◌≢◌, ◌+◌, ◌/◌, ◌%◌, ◌<◌, ◌≤◌, ℕ, [], true, length, map, IfSome, IfNone, IsTrue, MatchResult, OnOk, IfOk};
 ghost use Rattle.event_queue.specs.declared.group.TheConstants.{GROUPS};
 ghost use Rattle.event_queue.specs.Links.{list_at};
-ghost use Rattle.event_queue.specs.Wheel.{is_current, live_item, list_for, IsPast, wheel_due, near, far, IsWheel, IsTurning, PutsLast, PutsAll, KeepsView, TakesFirst, Turns, Cancels, cleared, cleared_item};
+ghost use Rattle.event_queue.specs.Wheel.{is_current, live_item, list_for, IsPast, wheel_due, near, far, IsWheel, IsTurning, PutsLast, KeepsView, TakesFirst, Turns, Cancels, cleared, cleared_item};
 
 use crate::chains::Chains;
 use crate::group::{GROUPS, Grouped};
 use crate::marks::Marks;
 use mate_num::NoMemory;
 use std::alloc::Global;
-use std::collections::VecDeque;
 
 /// How many slots a level has, and how many ms a block.
 const SLOTS: u32 = 2048;
@@ -160,27 +159,13 @@ impl<T: Grouped> Wheel<T> {
         Ok(())
     }
 
-    /// Makes sure that there are so many free places.
-    pub fn reserve_all(&mut self, count: usize) -> Result<(), NoMemory>
-        requires { IsWheel T.group_of self.old }
-        ensures keeps { KeepsView T.group_of self.old self.new }
-        ensures free { OnOk result (count ≤ length (list_at self.new.chains 0)) }
-    {
-        while self.chains.len(FREE) < count {
-            self.add_entry()?;
-            self.chains.grow(FREE)?;
-        }
-        Ok(())
-    }
-
     /// Puts an item last at a time that hasn't passed, where there is a free place.
     fn put_free(&mut self, time: u32, item: T)
         requires right { IsWheel T.group_of self.old }
         requires free { list_at self.old.chains 0 ≢ [] }
         requires ahead { self.old.at ≤ time }
         requires below { time < 4194304 }
-        ensures puts { PutsLast T.group_of self.old time item self.new }
-        ensures free { length (list_at self.old.chains 0) ≡ length (list_at self.new.chains 0) + 1 }
+        ensures { PutsLast T.group_of self.old time item self.new }
     {
         let generation = generation_of(&self.generations, item.group());
         let list = list_for(self.at, time);
@@ -203,20 +188,6 @@ impl<T: Grouped> Wheel<T> {
         self.reserve()?;
         self.put_free(time, item);
         Ok(())
-    }
-
-    /// Puts items last at a time that hasn't passed, in their order, where there are free places for all.
-    pub fn put_all(&mut self, time: u32, items: &mut VecDeque<T>)
-        requires right { IsWheel T.group_of self.old }
-        requires free { length items.old.items ≤ length (list_at self.old.chains 0) }
-        requires ahead { self.old.at ≤ time }
-        requires below { time < 4194304 }
-        ensures puts { PutsAll T.group_of self.old time items.old.items self.new }
-        ensures taken { items.new.items ≡ [] }
-    {
-        while let Some(item) = items.pop_front() {
-            self.put_free(time, item);
-        }
     }
 
     /// Empties the first place of the time at which the wheel stands.

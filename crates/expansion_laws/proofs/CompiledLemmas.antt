@@ -11,7 +11,7 @@ use Rattle.proc_names.specs.Named.{written_of}
 use Rattle.proc_names.specs.declared.named.PScript.{PScript}
 use Rattle.proc_expansion.specs.Expansion.{expansion}
 use Rattle.proc_laws.specs.FrameLaw.{RunsWithFrames}
-use Rattle.proc_reading.specs.Reading.{IsProcedureText}
+use Rattle.proc_texts.specs.Reading.{IsProcedureText}
 use Rattle.mate_steps.specs.Expansions.{expanded_bytes}
 use Rattle.mate_steps.specs.SourceCode.{compiled_tree, IsCompiledOf, MeansTree}
 use Rattle.mate_steps.specs.Sources.{compiled_bytes}

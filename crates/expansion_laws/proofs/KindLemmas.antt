@@ -28,7 +28,7 @@ use Rattle.proc_names.proofs.PlaceLemmas.{position_from-within}
 use Rattle.proc_renaming.specs.Renaming.{Hiding, nothing_hidden, parameter_name, parameter_decls, number_hiding, renamed_as, renamed, renamed_expr, renamed_args, assigned}
 use Rattle.proc_expansion.specs.InOrder.{declared_in_order}
 use Rattle.proc_expansion.specs.Expansion.{first_trees, Callee, body_called, expanded_act, expanded_acts, callee, callees, expansion}
-use Rattle.proc_reading.specs.Reading.{IsProcedureText}
+use Rattle.proc_texts.specs.Reading.{IsProcedureText}
 
 -- ---- the kinds of a source with procedures
 

@@ -8,7 +8,7 @@ use Rattle.proc_names.specs.NameFaults.{name_fault}
 use Rattle.proc_names.specs.declared.named.PScript.{PScript}
 use Rattle.proc_expansion.specs.Expansion.{expansion}
 use Rattle.proc_laws.proofs.ProgramLemmas.{runs_as_expanded, nothing_refused}
-use Rattle.proc_reading.specs.Reading.{IsProcedureText}
+use Rattle.proc_texts.specs.Reading.{IsProcedureText}
 use Rattle.expansion_laws.specs.ExpansionText.{SpellsExpansion, IsAcceptedAsExpanded, TextMeansIt}
 use Rattle.expansion_laws.proofs.DerivedLemmas.{expansion_is_derived}
 use Rattle.expansion_laws.proofs.KindLemmas.{expansion_kinds}

@@ -10,7 +10,7 @@ use Rattle.mate_code.specs.Verification.{Marks}
 use Rattle.ts_syntax.specs.Tree.{ProcedureSource, Source}
 use Rattle.ts_printer.specs.Line.{script_line}
 use Rattle.proc_laws.specs.Frames.{run_with_frames}
-use Rattle.proc_reading.specs.Reading.{IsProcedureText}
+use Rattle.proc_texts.specs.Reading.{IsProcedureText}
 use Rattle.mate_steps.specs.Expansions.{expanded_bytes}
 use Rattle.mate_steps.specs.Sources.{compiled_bytes}
 use Rattle.mate_steps.specs.declared.code.CompiledScript.{CompiledScript}

@@ -6,7 +6,7 @@ ghost use Rattle.ts_syntax.specs.Tree.{ProcedureSource};
 ghost use Rattle.proc_names.specs.Named.{written_of};
 ghost use Rattle.proc_names.specs.declared.named.PScript.{PScript};
 ghost use Rattle.proc_expansion.specs.Expansion.{expansion};
-ghost use Rattle.proc_reading.specs.Reading.{IsProcedureText};
+ghost use Rattle.proc_texts.specs.Reading.{IsProcedureText};
 ghost use Rattle.expansion_laws.specs.ExpansionText.{SpellsExpansion, IsAcceptedAsExpanded, TextMeansIt};
 ghost use Rattle.expansion_laws.specs.CompiledText.{CompilesAsSource};
 

@@ -17,10 +17,10 @@ use Rattle.node_calls.specs.declared.installing.InstallFault.TheVariants as faul
 use Rattle.slip_gateway.specs.Stream.{frames}
 use Rattle.slip_gateway.specs.declared.frames.Frame.{Frame}
 use Rattle.slip_gateway.specs.declared.frames.Frame.TheVariants.{Whole}
-use Rattle.capsule_feed.specs.Answers.{Held, if_newer, verified_answer, decoded_answer, answer_to, answers_from, answers_to, held_after}
-use Rattle.capsule_feed.specs.declared.answer.Answer.{Answer}
-use Rattle.capsule_feed.specs.declared.answer.Answer.TheVariants.{Installed, NotNewer, BadCode}
-use Rattle.capsule_feed.proofs.AnswerLemmas.{same-answer, after-same}
+use Rattle.mate_documents.specs.FeedAnswers.{Held, if_newer, verified_answer, decoded_answer, answer_to, answers_from, answers_to, held_after}
+use Rattle.mate_documents.specs.declared.answer.Answer.{Answer}
+use Rattle.mate_documents.specs.declared.answer.Answer.TheVariants.{Installed, NotNewer, BadCode}
+use Rattle.mate_documents.proofs.FrameAnswers.{same-answer, after-same}
 use Rattle.feed_laws.specs.Installing.{held_in, frame_answer, IsFrameAnswer, installs, refuses, long, broken, AreAnswered}
 use Rattle.feed_laws.proofs.NoInstalls.{same-all, installs-rest}
 

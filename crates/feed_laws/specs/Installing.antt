@@ -10,9 +10,9 @@ use Rattle.node_calls.specs.declared.installing.InstallFault.{InstallFault}
 use Rattle.node_calls.specs.declared.installing.InstallFault.TheVariants.{Capsule, Code, NotNewer as NoNewer}
 use Rattle.slip_gateway.specs.declared.frames.Frame.{Frame}
 use Rattle.slip_gateway.specs.declared.frames.Frame.TheVariants as frame
-use Rattle.capsule_feed.specs.Answers.{Held}
-use Rattle.capsule_feed.specs.declared.answer.Answer.{Answer}
-use Rattle.capsule_feed.specs.declared.answer.Answer.TheVariants.{Installed, NotNewer, NoCapsule, BadCode, Long, Broken}
+use Rattle.mate_documents.specs.FeedAnswers.{Held}
+use Rattle.mate_documents.specs.declared.answer.Answer.{Answer}
+use Rattle.mate_documents.specs.declared.answer.Answer.TheVariants.{Installed, NotNewer, NoCapsule, BadCode, Long, Broken}
 
 -- the versions that a node in this state holds
 abbrev pub held_in : NodeState → Held

@@ -5,8 +5,8 @@ ghost use Rattle.vm_desc.specs.declared.description.Description.{Description};
 ghost use Rattle.mate_journal.specs.Journal.{first_state};
 ghost use Rattle.node_invariant.specs.Meaning.{machine_in};
 ghost use Rattle.slip_gateway.specs.Stream.{frames};
-ghost use Rattle.capsule_feed.specs.Answers.{answers_to};
-ghost use Rattle.capsule_feed.specs.declared.answer.Answer.{Answer};
+ghost use Rattle.mate_documents.specs.FeedAnswers.{answers_to};
+ghost use Rattle.mate_documents.specs.declared.answer.Answer.{Answer};
 ghost use Rattle.feed_laws.specs.Installing.{AreAnswered};
 
 /// The answers of a new node's `install` to the frames of a stream, called on one after another, are the stream's answers.

@@ -3,7 +3,7 @@
 ghost use Rattle.std.specs.Prelude.{◌≡◌, ◌⊎◌, ◌≤◌, length, MatchResult};
 ghost use Rattle.mate_files.specs.declared.files.TheConstants.{FILE_MAX};
 ghost use Rattle.proc_names.specs.declared.fault.ProcFault.TheVariants.{TooDeep, NoMemory};
-ghost use Rattle.proc_reading.specs.Reading.{IsDeepAt};
+ghost use Rattle.proc_texts.specs.Reading.{IsDeepAt};
 
 use std::alloc::Global;
 use ts_procs::{PScript, ProcFault, read, reading_law};

@@ -13,7 +13,7 @@ use Rattle.mate_steps.specs.Parts.{Folder, file, machine}
 use Rattle.mate_steps.specs.Steps.{judged, ◌▸◌}
 use Rattle.report_reading.specs.Reads.{ReadsReport, IsBadLine}
 use Rattle.vm_desc.specs.declared.description.Description.{Description}
-use Rattle.world_programs.specs.Named.{programs_named}
+use Rattle.script_programs.specs.Named.{programs_named}
 
 -- the report in the bytes; or the first line that fits no report
 abbrev pub report_in : Description → List ℕ → Result Report Refusal → Type 0

@@ -8,9 +8,9 @@ use Rattle.mate_refusals.specs.declared.refusal.Refusal.{Refusal}
 use Rattle.mate_steps.specs.Parts.{Folder, machine}
 use Rattle.mate_steps.specs.Steps.{◌▸◌}
 use Rattle.vm_desc.specs.declared.description.Description.{Description}
-use Rattle.world_programs.specs.Injected.{world_programs}
-use Rattle.world_programs.specs.Made.{made}
-use Rattle.world_programs.specs.WorldFiles.{world}
+use Rattle.script_programs.specs.Injected.{world_programs}
+use Rattle.script_programs.specs.Made.{made}
+use Rattle.script_programs.specs.WorldFiles.{world}
 use Rattle.world_script.specs.declared.world.World.{World}
 use Rattle.world_run_laws.specs.Promise.{IsReportOfWorld}
 

@@ -18,7 +18,7 @@ use report_audit::Verdict;
 use report_reading::TextFault;
 use std::alloc::Global;
 use vm_desc::Description;
-use world_programs::programs_named;
+use script_programs::programs_named;
 
 /// The document that says that the report shows serial behaviour of what the script runs; or why it doesn't.
 #[inline(never)]

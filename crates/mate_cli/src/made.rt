@@ -12,7 +12,7 @@ use mate_documents::{BoxedMachine, Output};
 use mate_files::Files;
 use mate_refusals::Refusal;
 use std::alloc::Global;
-use world_programs::made_world;
+use script_programs::made_world;
 
 /// The report of the run of a number's world, or its summary.
 #[inline(never)]

@@ -11,7 +11,7 @@ use mate_documents::{BoxedMachine, Output};
 use mate_files::Files;
 use mate_refusals::Refusal;
 use std::alloc::Global;
-use world_programs::{programs_of_world, world_of};
+use script_programs::{programs_of_world, world_of};
 
 /// The report of the run of a script's world, or its summary.
 #[inline(never)]

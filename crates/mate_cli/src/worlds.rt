@@ -11,7 +11,7 @@ use mate_journal::Programs;
 use mate_refusals::Refusal;
 use std::alloc::Global;
 use world_script::World;
-use world_summary::sum_world;
+use world_writing::sum_world;
 
 /// The run of a world with these programs, or the summary of its report.
 #[inline(never)]

@@ -1,6 +1,6 @@
 -- The command `feed`: what a new node answers to the frames of the stream of bytes in a file, which come from a serial line.
 use Rattle.std.specs.Prelude.{◌≡◌, ◌≢◌, ◌+◌, ℕ, List, [], length, Result, ⊤}
-use Rattle.capsule_feed.specs.Lines.{feed_text}
+use Rattle.mate_documents.specs.FeedLines.{feed_text}
 use Rattle.mate_documents.specs.Owed.{Owed, writes}
 use Rattle.mate_refusals.specs.declared.refusal.Refusal.{Refusal}
 use Rattle.mate_refusals.specs.declared.refusal.Refusal.TheVariants.{BadStream}

@@ -6,3 +6,6 @@ pub mod Compile
 pub mod Check
 pub mod Expand
 pub mod Feed
+pub mod FeedAnswers
+pub mod FeedLines
+pub mod FeedReading

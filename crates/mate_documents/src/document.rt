@@ -5,13 +5,13 @@ ghost use Rattle.hex.specs.Hex.{encode_lower};
 ghost use Rattle.mate_files.specs.Sink.{Puts};
 
 use crate::boxed_machine::BoxedMachine;
-use capsule_feed::write_answers;
+use crate::stream_answers::write_answers;
 use capsule_listing::print_capsule;
 use mate_files::{Pen, Sink, SinkFault};
 use mate_num::Image;
 use mate_steps::VerifiedCapsule;
 use proc_names::PScript;
-use proc_writing::write_expansion;
+use proc_texts::write_expansion;
 use std::alloc::Global;
 
 /// What the text of a document is made of. Large parts are boxed.

@@ -7,8 +7,8 @@ use Rattle.proc_names.specs.Named.{written_of}
 use Rattle.proc_names.specs.declared.fault.ProcFault.{ProcFault}
 use Rattle.proc_names.specs.declared.fault.ProcFault.TheVariants.{BadByte, BigLiteral, Unexpected, TooDeep, NoProc, Params, Again, Reserved, TooLarge, TooNested, NoMemory}
 use Rattle.proc_names.specs.declared.named.PScript.{PScript}
-use Rattle.proc_reading.specs.Reading.{ReadsProcedures}
-use Rattle.proc_reading.proofs.ReadingLemmas.{one_script, one_refusal, not_both}
+use Rattle.proc_texts.specs.Reading.{ReadsProcedures}
+use Rattle.proc_texts.proofs.ReadingLemmas.{one_script, one_refusal, not_both}
 use Rattle.ts_syntax.specs.Tree.{ProcedureSource, Source}
 use Rattle.mate_files.specs.Files.{Names}
 use Rattle.mate_refusals.specs.ExpansionCauses.{expansion_fault}

@@ -5,7 +5,7 @@ use Rattle.proc_expansion.specs.Expansion.{expansion}
 use Rattle.proc_names.specs.Named.{written_of}
 use Rattle.proc_names.specs.declared.fault.ProcFault.{ProcFault}
 use Rattle.proc_names.specs.declared.named.PScript.{PScript}
-use Rattle.proc_reading.specs.Reading.{ReadsProcedures}
+use Rattle.proc_texts.specs.Reading.{ReadsProcedures}
 use Rattle.ts_syntax.specs.Tree.{ProcedureSource, Source}
 use Rattle.mate_refusals.specs.ExpansionCauses.{expansion_fault}
 use Rattle.mate_refusals.specs.declared.cause.Cause.TheVariants as cause

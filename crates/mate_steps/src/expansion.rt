@@ -10,7 +10,7 @@ use crate::parts::read_file;
 use mate_files::Files;
 use mate_refusals::{Cause, ExpansionCause, Refusal, in_file};
 use proc_expansion::within_limits;
-use proc_reading::{PScript, ProcFault, read};
+use proc_texts::{PScript, ProcFault, read};
 use std::alloc::Global;
 use std::mem;
 

@@ -14,7 +14,7 @@ ghost use Rattle.node_callers.specs.Runs.{MakesThere, IsSeenLast};
 
 use mate_files::Sink;
 use mate_journal::{IntoFault, Programs, Report, RunFault};
-use run_steps::{run_steps, run_steps_into};
+use node_runs::{run_steps, run_steps_into};
 use script_reader::Steps;
 use std::alloc::Global;
 use vm_desc::Description;

@@ -2,12 +2,21 @@
 #![tactic(auto)]
 
 pub mod auditing;
+pub mod ending;
 pub mod granting;
 pub mod images;
+pub mod replay;
+pub mod rerun;
 pub mod runs;
+pub mod same;
+pub mod showing;
+pub mod stores;
 pub mod waiting;
 
 pub use audit_rules::{Law, Verdict};
 pub use auditing::audit;
 pub use granting::{is_granted, start_of};
+pub use replay::{run_at, zero_store};
+pub use rerun::all_so_far;
+pub use stores::shows_right;
 pub use waiting::all_held_back;

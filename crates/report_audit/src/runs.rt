@@ -12,9 +12,8 @@ ghost use Rattle.audit_rules.specs.Views.{roll_in};
 ghost use Rattle.mate_journal.specs.declared.law.Law.TheVariants as law;
 ghost use Rattle.audit_rules.specs.Tests.{conflict_of, failed_by};
 
-use crate::{all_held_back, is_granted, start_of};
+use crate::{all_held_back, all_so_far, is_granted, run_at, shows_right, start_of, zero_store};
 use audit_programs::{ReadyRoll, Trial};
-use audit_replay::{all_so_far, run_at, shows_right, zero_store};
 use audit_rules::Law;
 use mate_journal::Entry;
 use mate_num::{NoMemory, Store};

@@ -7,7 +7,8 @@ ghost use Rattle.report_callers.specs.Reports.{main_alone, a_halt, a_first_post,
 
 use mate_files::{Sink, SinkFault};
 use mate_journal::{NodeLog, Report};
-use report_text::{brief, write_end, write_event};
+use report_merge::brief;
+use report_text::{write_end, write_event};
 use vm_desc::Description;
 
 pub fn a_piece_has_the_entries_from_its_position_on<S: Sink>(

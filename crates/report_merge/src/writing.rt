@@ -4,11 +4,12 @@ ghost use Rattle.mate_files.specs.Sink.{Puts};
 ghost use Rattle.report_text.specs.Text.{text};
 ghost use Rattle.report_text.specs.Tidy.{IsTidy};
 
+use crate::counts::count_records;
 use crate::merge::records;
 use mate_files::{Pen, Sink, SinkFault};
 use mate_journal::Report;
 use mate_num::NODES_MAX;
-use report_text::text::{count_records, end_line};
+use report_text::text::end_line;
 use vm_desc::Description;
 
 /// Writes the text of a tidy report: a line per record, in the order of events, and the last line.

@@ -11,9 +11,9 @@ use Rattle.mate_journal.specs.declared.report.Report.{Report}
 use Rattle.report_text.specs.Words.{number, word, handler_name}
 use Rattle.report_text.specs.Text.{records, end_word}
 use Rattle.report_text.specs.Brief.{is_entry, versions, last, text_of_counts, brief, air_of, entries_of as entries_of_logs, newest as newest_of_logs, holders as holders_of_logs, newest_line as line_of_logs, count_lines as lines_of_report}
-use Rattle.report_text.specs.declared.summary.EntryKind.{EntryKind}
-use Rattle.report_text.specs.declared.summary.EntryKind.TheVariants as entry_kind
-use Rattle.report_text.specs.declared.summary.AirKind.TheVariants as air_kind
+use Rattle.report_text.specs.declared.kinds.EntryKind.{EntryKind}
+use Rattle.report_text.specs.declared.kinds.EntryKind.TheVariants as entry_kind
+use Rattle.report_text.specs.declared.kinds.AirKind.TheVariants as air_kind
 use Rattle.report_text.proofs.EventLemmas.{flat_map-below_next}
 use Rattle.report_summary.specs.Tally.{entries_counted, versions_at, IsUpTo, IsLogTally, AreLogTallies}
 use Rattle.report_summary.specs.Summary.{SumsReport, AreSmall, IsSmall, IsOfNode, entries_summed, newest_counted, holders_counted, newest_line_counted, counted_lines, summary_text}

@@ -12,17 +12,16 @@ use Rattle.mate_journal.specs.declared.entry.Entry.{Entry}
 use Rattle.mate_journal.specs.declared.entry.Entry.TheVariants as entry
 use Rattle.mate_journal.specs.declared.entry.Stamped.{Stamped}
 use Rattle.mate_journal.specs.OpenLog.{OpenView, IsKept, entry_behind, stamped_behind}
-use Rattle.report_text.specs.Brief.{is_entry, is_air, installed}
-use Rattle.report_text.specs.declared.summary.AirKind.{AirKind}
-use Rattle.report_text.specs.declared.summary.EntryKind.{EntryKind}
-use Rattle.report_text.specs.declared.summary.EntryKind.TheVariants as entry_kind
+use Rattle.report_text.specs.Brief.{is_entry, is_air, installed, one_if}
+use Rattle.report_text.specs.declared.kinds.AirKind.{AirKind}
+use Rattle.report_text.specs.declared.kinds.EntryKind.{EntryKind}
+use Rattle.report_text.specs.declared.kinds.EntryKind.TheVariants as entry_kind
 use Rattle.report_summary.specs.declared.tally.EntryCounts.{EntryCounts}
 use Rattle.report_summary.specs.declared.tally.Versions.{Versions}
 use Rattle.report_summary.specs.declared.tally.Installed.{Installed}
 use Rattle.report_summary.specs.declared.tally.LogTally.{LogTally}
 use Rattle.report_summary.specs.declared.tally.AirTally.{AirTally}
 use Rattle.report_summary.specs.Tally.{entries_counted, air_counted, versions_counted, versions_of, versions_none, versions_at, install_told, with_version, with_version_if, IsUpTo, IsAirTallyUpTo, IsLogTally, IsAirTally, AddsEntry, AddsAir}
-use Rattle.report_text.specs.Counts.{one_if}
 
 -- ---- one entry
 

@@ -8,8 +8,8 @@ use Rattle.mate_journal.specs.declared.report.Report.{Report}
 use Rattle.report_text.specs.Words.{number, word, handler_name}
 use Rattle.report_text.specs.Text.{end_word}
 use Rattle.report_text.specs.Brief.{text_of_counts}
-use Rattle.report_text.specs.declared.summary.EntryKind.{EntryKind}
-use Rattle.report_text.specs.declared.summary.EntryKind.TheVariants as entry_kind
+use Rattle.report_text.specs.declared.kinds.EntryKind.{EntryKind}
+use Rattle.report_text.specs.declared.kinds.EntryKind.TheVariants as entry_kind
 use Rattle.report_summary.specs.Tally.{entries_counted, versions_at, IsUpTo, IsLogTally, AreLogTallies, IsAirTally}
 use Rattle.report_summary.specs.declared.tally.LogTally.{LogTally}
 use Rattle.report_summary.specs.declared.summary.RunTally.{RunTally}

@@ -7,12 +7,11 @@ use Rattle.mate_journal.specs.declared.air.Aired.{Aired}
 use Rattle.mate_journal.specs.declared.entry.Entry.{Entry}
 use Rattle.mate_journal.specs.declared.entry.Entry.TheVariants as entry
 use Rattle.mate_journal.specs.declared.entry.Stamped.{Stamped}
-use Rattle.report_text.specs.Brief.{is_entry, is_air, air_of, installed}
-use Rattle.report_text.specs.Counts.{one_if}
-use Rattle.report_text.specs.declared.summary.EntryKind.{EntryKind}
-use Rattle.report_text.specs.declared.summary.EntryKind.TheVariants as entry_kind
-use Rattle.report_text.specs.declared.summary.AirKind.{AirKind}
-use Rattle.report_text.specs.declared.summary.AirKind.TheVariants as air_kind
+use Rattle.report_text.specs.Brief.{is_entry, is_air, air_of, installed, one_if}
+use Rattle.report_text.specs.declared.kinds.EntryKind.{EntryKind}
+use Rattle.report_text.specs.declared.kinds.EntryKind.TheVariants as entry_kind
+use Rattle.report_text.specs.declared.kinds.AirKind.{AirKind}
+use Rattle.report_text.specs.declared.kinds.AirKind.TheVariants as air_kind
 use Rattle.report_summary.specs.declared.tally.EntryCounts.{EntryCounts}
 use Rattle.report_summary.specs.declared.tally.Versions.{Versions}
 use Rattle.report_summary.specs.declared.tally.Installed.{Installed}

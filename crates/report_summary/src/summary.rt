@@ -13,7 +13,7 @@ use crate::tally::{AirTally, LogTally, one_if};
 use mate_files::{Pen, Sink, SinkFault};
 use mate_num::{HandlerId, NoMemory};
 use report_text::entry_line::handler_name;
-use report_text::summary::EntryKind;
+use report_text::kinds::EntryKind;
 use report_text::text::end_word;
 use report_text::words::{number, word};
 use std::alloc::Global;

@@ -3,16 +3,15 @@
 ghost use Rattle.std.specs.Prelude.{◌≡◌, ◌+◌, ◌++◌, ◌≤◌, ◌<◌, ◌^◌, ℕ, List, [], length, IfOk, slice_index_or, if◌then◌else◌, ◌==◌};
 ghost use Rattle.mate_journal.specs.declared.air.Aired.{Aired as AirRecord};
 ghost use Rattle.mate_journal.specs.declared.entry.Stamped.{Stamped as StampedEntry};
-ghost use Rattle.report_text.specs.Brief.{is_entry, is_air};
-ghost use Rattle.report_text.specs.declared.summary.AirKind.TheVariants as air_kinds;
-ghost use Rattle.report_text.specs.declared.summary.EntryKind.TheVariants as kinds;
+ghost use Rattle.report_text.specs.Brief.{is_entry, is_air, one_if};
+ghost use Rattle.report_text.specs.declared.kinds.AirKind.TheVariants as air_kinds;
+ghost use Rattle.report_text.specs.declared.kinds.EntryKind.TheVariants as kinds;
 ghost use Rattle.report_summary.specs.Tally.{entries_counted, install_told, with_version, versions_none, versions_at, CountsUpTo, IsUpTo};
 ghost use Rattle.report_summary.specs.Tally.{IsLogTally, InstallsVersion, Notes, AddsEntry, IsAirTally, IsAirTallyUpTo, AddsAir};
-ghost use Rattle.report_text.specs.Counts.{one_if};
 
 use mate_journal::{Air, Aired, Entry, Stamped};
 use mate_num::{HandlerId, NoMemory};
-use report_text::summary::{AirKind, EntryKind};
+use report_text::kinds::{AirKind, EntryKind};
 use std::alloc::Global;
 
 /// How many entries of each kind there are.

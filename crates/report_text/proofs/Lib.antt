@@ -1,5 +1,4 @@
 pub mod ChunkLemmas
-pub mod PrintLemmas
 pub mod EventLemmas
 pub mod TextLemmas
 pub mod MergeLemmas
@@ -7,4 +6,3 @@ pub mod QuietReport
 pub mod PieceLemmas
 pub mod NodeLemmas
 pub mod BriefLemmas
-pub mod CountLemmas

@@ -12,10 +12,15 @@ use Rattle.mate_journal.specs.declared.report.Report.{Report}
 use Rattle.report_text.specs.Words.{number, word, handler_name}
 use Rattle.mate_journal.specs.Tidy.{below}
 use Rattle.report_text.specs.Text.{records, end_word}
-use Rattle.report_text.specs.declared.summary.EntryKind.{EntryKind}
-use Rattle.report_text.specs.declared.summary.EntryKind.TheVariants as entry_kind
-use Rattle.report_text.specs.declared.summary.AirKind.{AirKind}
-use Rattle.report_text.specs.declared.summary.AirKind.TheVariants as air_kind
+use Rattle.report_text.specs.declared.kinds.EntryKind.{EntryKind}
+use Rattle.report_text.specs.declared.kinds.EntryKind.TheVariants as entry_kind
+use Rattle.report_text.specs.declared.kinds.AirKind.{AirKind}
+use Rattle.report_text.specs.declared.kinds.AirKind.TheVariants as air_kind
+
+-- one if it is so, and else none
+abbrev pub one_if : Bool → ℕ
+one_if true = 1
+one_if false = 0
 
 -- whether an entry is of a kind
 abbrev pub is_entry : EntryKind → Entry → Bool

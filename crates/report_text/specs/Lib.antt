@@ -5,4 +5,3 @@ pub mod Progress
 pub mod Pieces
 pub mod Chunk
 pub mod Brief
-pub mod Counts

@@ -1,10 +1,9 @@
 //! The pieces of a report's text: the lines of an event, and the last line.
 
-ghost use Rattle.std.specs.Prelude.{◌≡◌, ◌≤◌, ◌++◌, ◌*◌, ◌^◌, length, [], drop, flat_map, sum_by, IsTrue};
-ghost use Rattle.mate_num.specs.declared.bounds.TheConstants.{NODES_MAX};
+ghost use Rattle.std.specs.Prelude.{◌≡◌, ◌≤◌, ◌++◌, length, flat_map};
 ghost use Rattle.mate_files.specs.Pen.{Prints};
 ghost use Rattle.mate_files.specs.Sink.{Puts};
-ghost use Rattle.report_text.specs.Text.{air_line, event_piece, lines, entry_line, end_word, end_line, records};
+ghost use Rattle.report_text.specs.Text.{air_line, event_piece, lines, entry_line, end_word, end_line};
 ghost use Rattle.report_text.specs.Pieces.{AddsPiece};
 ghost use Rattle.mate_journal.specs.declared.report.Report.{Report};
 
@@ -12,28 +11,8 @@ use crate::air_line::air_line;
 use crate::entry_line::entry_line;
 use crate::words::number;
 use mate_files::{Pen, Sink, SinkFault};
-use mate_journal::{Aired, NodeLog, Report, Stamped};
+use mate_journal::{Aired, NodeLog, Stamped};
 use vm_desc::Description;
-
-fn count_entries(logs: &[NodeLog]) -> u64
-    requires { length logs.now ≤ NODES_MAX }
-    ensures value { result ≡ sum_by (λ l. length l.entries) logs.now }
-    ensures fits { result ≤ length logs.now * 2 ^ 57 }
-{
-    let mut count = 0;
-    for log in logs {
-        count += log.entries().len() as u64;
-    }
-    count
-}
-
-/// How many records the report has: of all logs, and of the air.
-pub fn count_records(report: &Report) -> u64
-    requires { length report.now.nodes ≤ NODES_MAX }
-    ensures { result ≡ records report.now }
-{
-    report.air().len() as u64 + count_entries(report.nodes())
-}
 
 /// The lines of entries of a node's log.
 fn entry_lines<S: Sink>(

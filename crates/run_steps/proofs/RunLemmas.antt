@@ -1,6 +1,6 @@
 -- The run of a node script grows by an event, and ends.
 use Rattle.std.proofs.Common.{◌≡◌, ◌<◌, ◌≤◌, ◌+◌, ◌^◌, ℕ, suc, lit<, List, [], ◌∷◌, ◌++◌, false, Result, Ok, Err, refl, sym, ◌∙◌, ap, subst, arith, length, map, take, drop, append-nil, length-append, length-drop, length-take-le, ◌-◌, zero}
-use Rattle.std.specs.Prelude.{slice_index_or, slice_set, is_err, OnOk}
+use Rattle.std.specs.Prelude.{slice_index_or, is_err, OnOk}
 use Rattle.std.proofs.lemmas.List.Elements.{All-nil, All-cons}
 use Rattle.mate_num.specs.declared.no_memory.NoMemory.{NoMemory}
 use Rattle.std.proofs.lemmas.List.{length-map, take-append-drop, take_all}
@@ -303,10 +303,3 @@ keeps-by d v is keeps = subst (λ (x : Description). KeepsJournal x (machine_in 
 pub ok-room : (r : Result (Unit {0}) NoMemory) (P : Type 0) → is_err r ≡ false → OnOk r P → P
 ok-room (Ok x) P is holds = holds
 ok-room (Err x) P is holds = cc
-
--- ---- one log among one
-
-pub set-one : (logs : List Log) (l : Log) → length logs ≡ 1 → slice_set logs 0 l ≡ l ∷ []
-set-one [] l count = cc
-set-one (x ∷ []) l count = refl
-set-one (x ∷ (y ∷ logs)) l count = absurd (omega (arith, count))

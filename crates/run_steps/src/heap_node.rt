@@ -34,14 +34,14 @@ use vm_desc::Description;
 
 /// What becomes of entries when their lines are written.
 #[derive(Clone, Copy)]
-pub(crate) enum Written {
+pub enum Written {
     Kept,
     Forgotten,
 }
 
 /// A node on the heap: it is too large to be moved about on the stack. Contracts see the node.
 #[derive(Drop)]
-pub(crate) struct HeapNode {
+pub struct HeapNode {
     node: Box<OpenNode>,
 }
 
@@ -56,7 +56,7 @@ impl Model for HeapNode {
 impl HeapNode {
     /// A node as `OpenNode::new` makes it.
     #[inline(never)]
-    pub(crate) fn new(alloc: Global, desc: &Description) -> Result<HeapNode, NoMemory>
+    pub fn new(alloc: Global, desc: &Description) -> Result<HeapNode, NoMemory>
         ensures { IfOk result (IsNewNode desc.now) }
     {
         match OpenNode::new(alloc, desc) {
@@ -69,7 +69,7 @@ impl HeapNode {
     }
 
     /// Makes room for n more entries.
-    pub(crate) fn reserve(&mut self, n: usize) -> Result<(), NoMemory>
+    pub fn reserve(&mut self, n: usize) -> Result<(), NoMemory>
         ensures same { IsSameNode self.old self.new }
         ensures pace { (p : Pace) → HasPace self.old p → HasPace self.new p }
         ensures room { OnOk result (n ≤ self.new.log.spare) }
@@ -79,7 +79,7 @@ impl HeapNode {
     }
 
     /// Makes the step, as one event with this stamp.
-    pub(crate) fn make(&mut self, step: &Step, programs: &Programs, at: Stamp)
+    pub fn make(&mut self, step: &Step, programs: &Programs, at: Stamp)
         requires ready { IsReadyFor self.old at }
         requires right { IsRightStep self.old.description (length programs.now) step.now }
         requires programs { AreRightPrograms self.old.description programs.now }
@@ -96,7 +96,7 @@ impl HeapNode {
     }
 
     /// Records the shared variables and buffers as they are.
-    pub(crate) fn seen(&mut self, at: Stamp)
+    pub fn seen(&mut self, at: Stamp)
         requires timely { IsTimely at self.old.log }
         requires few { length self.old.log.entries < 4000000000 }
         requires room { 1 ≤ self.old.log.spare }
@@ -111,7 +111,7 @@ impl HeapNode {
     }
 
     /// Forgets the entries that were made, if they are to be forgotten, and makes room for n more.
-    pub(crate) fn make_room(&mut self, written: Written, n: usize) -> Result<(), NoMemory>
+    pub fn make_room(&mut self, written: Written, n: usize) -> Result<(), NoMemory>
         requires { length self.old.log.entries < 4000000000 }
         ensures same { IsSameNode (record self.old { gone = self.new.gone }) self.new }
         ensures pace { (p : Pace) → HasPace self.old p → HasPace self.new p }
@@ -138,7 +138,7 @@ impl HeapNode {
     }
 
     /// Counts the entries at hand, forgets them, and makes room for n more.
-    pub(crate) fn count(&mut self, tally: &mut LogTally, n: usize) -> Result<(), NoMemory>
+    pub fn count(&mut self, tally: &mut LogTally, n: usize) -> Result<(), NoMemory>
         requires few { length self.old.log.entries < 4000000000 }
         requires up { IsUpTo (2 ^ 56) tally.old }
         ensures same { IsSameNode (record self.old { gone = gone_of self.old.log }) self.new }
@@ -154,7 +154,7 @@ impl HeapNode {
     }
 
     /// Counts the entries at hand.
-    pub(crate) fn count_kept(&self, tally: &mut LogTally)
+    pub fn count_kept(&self, tally: &mut LogTally)
         requires { IsUpTo (2 ^ 63) tally.old }
         ensures tallies { (handlers : ℕ) → IsLogTally handlers tally.old (take self.now.gone.entries self.now.log.entries)
             → IsLogTally handlers tally.new self.now.log.entries }
@@ -174,7 +174,7 @@ impl HeapNode {
     }
 
     /// How many entries were made.
-    pub(crate) fn told(&self) -> usize
+    pub fn told(&self) -> usize
         ensures count { result ≡ length self.now.log.entries }
         ensures keeps { KeepsJournal self.now.description (machine_in self.now.description) self.now.log }
     {
@@ -183,7 +183,7 @@ impl HeapNode {
     }
 
     /// The log of the entries that were made since the last ones were forgotten.
-    pub(crate) fn kept(&self) -> &NodeLog
+    pub fn kept(&self) -> &NodeLog
         ensures kept { IsKept (record { all = self.now.log; gone = self.now.gone }) result.now }
         ensures keeps { KeepsJournal self.now.description (machine_in self.now.description) self.now.log }
     {
@@ -192,7 +192,7 @@ impl HeapNode {
 
     /// The whole log, handed out, if nothing was forgotten.
     #[inline(never)]
-    pub(crate) fn into_log(self) -> NodeLog
+    pub fn into_log(self) -> NodeLog
         requires { self.gone ≡ nothing_gone }
         ensures same { result ≡ self.log }
         ensures keeps { KeepsJournal self.description (machine_in self.description) self.log }

@@ -9,16 +9,16 @@ ghost use Rattle.node_programs.specs.ScriptSteps.{AreProgramsOf};
 ghost use Rattle.run_steps.specs.Running.{IsReportOf, report_with};
 ghost use Rattle.run_steps.specs.Keeping.{IsNewNode, StaysAsToldTo};
 ghost use Rattle.run_steps.specs.Writing.{PassWrites};
-ghost use Rattle.report_summary.specs.Writing.{PutsLastLine, RunsInto, WritesRun};
+ghost use Rattle.report_summary.specs.Writing.{PutsLastLine, WritesRun};
 ghost use Rattle.report_summary.specs.declared.write_fault.WriteFault.TheVariants.{NoMemory as OutOfMemory};
 
 use crate::heap_node::{HeapNode, Written};
-use crate::running::{is_full, report_of};
+use crate::running::is_full;
 use mate_files::{Sink, SinkFault};
-use mate_journal::{IntoFault, NodeLogs, Programs, Report};
+use mate_journal::Programs;
 use mate_num::Stamp;
 use open_node::SETTLING_ENTRIES;
-use report_summary::{Pass, WriteFault, ended, nothing_run, stopped};
+use report_summary::{Pass, WriteFault, ended, stopped};
 use report_text::{write_end, write_event};
 use script_reader::Steps;
 use std::alloc::Global;
@@ -75,7 +75,7 @@ fn write_last<S: Sink>(node: &HeapNode, events: u64, whole: bool, out: &mut S) -
 
 /// Runs the steps of a script on a new node, and writes each event's lines when it ends, and then the last line. After a fault
 /// of the sink no further event is begun.
-fn write_run<S: Sink>(
+pub fn write_run<S: Sink>(
     desc: &Description,
     steps: &Steps,
     programs: &Programs,
@@ -134,36 +134,9 @@ fn write_run<S: Sink>(
     write_last(node, events, true, out)
 }
 
-/// Runs the steps of a script as `run_steps` does, and writes each event's lines when it ends, and then the last line. After
-/// a fault of the sink no further event is begun; the report then has the events that ended.
-pub fn run_steps_into<S: Sink>(
-    alloc: Global,
-    desc: &Description,
-    steps: &Steps,
-    programs: &Programs,
-    out: &mut S,
-) -> Result<Report, IntoFault>
-    requires { AreProgramsOf desc.now steps.now programs.now }
-    ensures gives { RunsInto desc.now (IsReportOf desc.now steps.now programs.now) (S.written out.old) (S.written out.new)
-        (S.faults out.old) (S.faults out.new) result }
-    ensures later { S.faults out.old ≤ S.faults out.new }
-{
-    let Ok(mut node) = HeapNode::new(alloc, desc) else {
-        return Err(IntoFault::NoMemory(nothing_run(alloc)));
-    };
-    let Ok(logs) = NodeLogs::empty(alloc, 1) else {
-        return Err(IntoFault::NoMemory(nothing_run(alloc)));
-    };
-    let pass = write_run(desc, steps, programs, &mut node, Written::Kept, out);
-    let report = report_of(alloc, logs, node, pass.events, pass.whole);
-    match pass.result {
-        Ok(()) => Ok(report),
-        Err(fault) => Err(fault.with_report(report)),
-    }
-}
-
-/// The same text, without a report: an event's entries are forgotten once their lines are written, so that a long run takes no
-/// more memory than its longest event.
+/// Runs the steps of a script on a node of this machine, with the programs of its files: the k-th step is event k, at time 0, and
+/// at the end the store is recorded. Each event's lines are written when it ends, and then the last line. Its entries are forgotten
+/// once their lines are written, so that a long run takes no more memory than its longest event.
 pub fn write_steps<S: Sink>(
     alloc: Global,
     desc: &Description,

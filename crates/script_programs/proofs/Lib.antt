@@ -7,3 +7,8 @@ pub mod GivenLemmas
 pub mod OnePrograms
 pub mod SameMeaning
 pub mod KnownLemmas
+pub mod WorldOrderLemmas
+pub mod WorldReadLemmas
+pub mod NamedLemmas
+pub mod InstallLemmas
+pub mod MadeLemmas

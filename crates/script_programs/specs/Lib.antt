@@ -3,3 +3,7 @@ pub mod Numbers
 pub mod Known
 pub mod Programs
 pub mod SamePrograms
+pub mod WorldFiles
+pub mod Injected
+pub mod Made
+pub mod Named

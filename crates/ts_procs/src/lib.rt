@@ -9,4 +9,4 @@ mod statements;
 
 pub use expanding::expand;
 pub use proc_names::{PScript, ProcFault};
-pub use proc_reading::{read, reading_law};
+pub use proc_texts::{read, reading_law};

@@ -15,7 +15,7 @@ use Rattle.mate_journal.specs.declared.entry.Stamped.{Stamped}
 use Rattle.mate_journal.specs.Tidy.{NumbersInOrder, below}
 use Rattle.mate_files.specs.Sink.{Puts}
 use Rattle.mate_files.specs.declared.sink.SinkFault.{SinkFault}
-use Rattle.run_record.specs.declared.record.Record.{Record}
+use Rattle.world_pieces.specs.declared.record.Record.{Record}
 use Rattle.report_summary.specs.Writing.{HasWritten, PutsLastLine, WritesReport, lines_before, last_line, write_fault_of}
 use Rattle.report_summary.specs.declared.pass.Pass.{Pass}
 use Rattle.report_summary.specs.declared.write_fault.WriteFault.{WriteFault}

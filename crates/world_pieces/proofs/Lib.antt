@@ -1,3 +1,6 @@
+mod CopyLemmas
+pub mod RecordLemmas
+pub mod KeptLemmas
 pub mod RecordingLemmas
 pub mod WritingLemmas
 pub mod EndingLemmas

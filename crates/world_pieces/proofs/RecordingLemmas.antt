@@ -22,11 +22,11 @@ use Rattle.mate_journal.specs.declared.entry.Entry.{Entry}
 use Rattle.mate_journal.specs.declared.entry.Entry.TheVariants as entry
 use Rattle.mate_journal.specs.declared.entry.Stamped.{Stamped}
 use Rattle.radio_sim.specs.Radio.{Ether}
-use Rattle.run_record.specs.Records.{HasLog, IsEmptyRecord, IsSameRecord, MayAdd, HasAdded, HaveRoom, HasRoomFor, OthersStay}
-use Rattle.run_record.specs.declared.record.Record.{Record}
+use Rattle.world_pieces.specs.Records.{HasLog, IsEmptyRecord, IsSameRecord, MayAdd, HasAdded, HaveRoom, HasRoomFor, OthersStay}
+use Rattle.world_pieces.specs.declared.record.Record.{Record}
 use Rattle.open_node.proofs.KeptLemmas.{count-kept}
-use Rattle.run_record.proofs.KeptLemmas.{may-add, adds-whole, joined-whole}
-use Rattle.run_record.proofs.RecordLemmas.{same-self, same-then, all-self, all-then, all-long, all-set_one, all-at, one-log, joined-as}
+use Rattle.world_pieces.proofs.KeptLemmas.{may-add, adds-whole, joined-whole}
+use Rattle.world_pieces.proofs.RecordLemmas.{same-self, same-then, all-self, all-then, all-long, all-set_one, all-at, one-log, joined-as}
 use Rattle.world_rules.specs.World.{World}
 use Rattle.world_rules.specs.State.{Moment}
 use Rattle.world_rules.specs.Run.{journal}

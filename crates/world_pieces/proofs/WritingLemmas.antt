@@ -9,7 +9,7 @@ use Rattle.mate_journal.specs.NodeScript.{RunEnd, Full, Cut}
 use Rattle.mate_journal.specs.Tidy.{below}
 use Rattle.mate_files.specs.Sink.{Puts}
 use Rattle.mate_files.specs.declared.sink.SinkFault.{SinkFault}
-use Rattle.run_record.specs.declared.record.Record.{Record}
+use Rattle.world_pieces.specs.declared.record.Record.{Record}
 use Rattle.report_summary.specs.Writing.{OfRun, PutsLastLine, lines_before, write_fault_of}
 use Rattle.report_summary.specs.declared.pass.Pass.{Pass}
 use Rattle.report_summary.specs.declared.write_fault.WriteFault.{WriteFault}

@@ -5,8 +5,8 @@ use Rattle.mate_journal.specs.Log.{Log, IsSameLog, GoesOn}
 use Rattle.mate_journal.specs.OpenLog.{gone_of}
 use Rattle.mate_journal.specs.Tidy.{NumbersInOrder}
 use Rattle.mate_journal.specs.declared.air.Aired.{Aired}
-use Rattle.run_record.specs.Records.{HasLog, IsSameRecord}
-use Rattle.run_record.specs.declared.record.Record.{Record}
+use Rattle.world_pieces.specs.Records.{HasLog, IsSameRecord}
+use Rattle.world_pieces.specs.declared.record.Record.{Record}
 use Rattle.sim_mote.specs.declared.mote.Mote.{Mote}
 use Rattle.sim_run.specs.Reporting.{mote_logs}
 use Rattle.sim_run.specs.declared.simulation.Simulation.{Simulation}

@@ -3,7 +3,7 @@ use Rattle.std.specs.Prelude.{◌≡◌, ℕ, ◌<◌, List, length, slice_get, 
 use Rattle.mate_journal.specs.NodeScript.{RunEnd}
 use Rattle.mate_journal.specs.Ranges.{HasReportRanges}
 use Rattle.report_text.specs.Text.{lines}
-use Rattle.run_record.specs.declared.record.Record.{Record}
+use Rattle.world_pieces.specs.declared.record.Record.{Record}
 use Rattle.report_summary.specs.Writing.{OfRun, HasWritten, WritesReport}
 use Rattle.report_summary.specs.declared.pass.Pass.{Pass}
 use Rattle.report_summary.specs.declared.write_fault.WriteFault.{WriteFault}

@@ -2,13 +2,13 @@
 
 ghost use Rattle.std.specs.Prelude.{◌≡◌, ◌<◌, ◌≤◌, length, MatchResult};
 ghost use Rattle.mate_num.specs.declared.bounds.TheConstants.{NODES_MAX};
-ghost use Rattle.run_record.specs.Records.{IsSameRecord};
+ghost use Rattle.world_pieces.specs.Records.{IsSameRecord};
 ghost use Rattle.sim_run.specs.Reporting.{mote_logs};
 ghost use Rattle.world_pieces.specs.Recording.{IsRecordOf, IsRecordBefore, HaveStoresBehind, IsRecorded, IsRecordedBefore, AreStoresBefore};
 ghost use Rattle.world_pieces.specs.Recording.{StaysRecorded, has_record};
 
+use crate::record::Record;
 use mate_num::NoMemory;
-use run_record::Record;
 use sim_mote::Mote;
 use sim_run::Simulation;
 
@@ -46,7 +46,7 @@ pub(crate) fn record_stores(records: &mut Option<Record>, sim: &Simulation) -> R
 }
 
 /// Appends what a node and the radio have at hand. `NoMemory` leaves the record as it was, but for its room.
-pub(crate) fn add_event(records: &mut Record, sim: &Simulation, node: u8) -> Result<(), NoMemory>
+pub fn add_event(records: &mut Record, sim: &Simulation, node: u8) -> Result<(), NoMemory>
     requires node { node < length sim.now.motes.items }
     requires before { IsRecordBefore records.old sim.now node }
     ensures { MatchResult result (λ _. IsRecordOf records.new (mote_logs sim.now.motes.items) sim.now.radio.air)

@@ -1,6 +1,6 @@
 //! The parts of a run of a world whose lines are written as its events end: its start, one event's lines, and its end.
 
-ghost use Rattle.std.specs.Prelude.{◌≡◌, ◌≤◌, ◌<◌, ◌+◌, length, drop, sum_by, slice_get, All, Some, IfOk, IfSome, Err, false};
+ghost use Rattle.std.specs.Prelude.{◌≡◌, ◌≤◌, ◌<◌, ◌+◌, length, drop, sum_by, slice_get, All, Some, IfSome, Err, false};
 ghost use Rattle.mate_num.specs.declared.bounds.TheConstants.{NODES_MAX};
 ghost use Rattle.mate_files.specs.Sink.{Puts};
 ghost use Rattle.mate_journal.specs.NodeScript.{Whole};
@@ -15,38 +15,21 @@ ghost use Rattle.sim_run.specs.Reporting.{mote_logs, told_report};
 ghost use Rattle.sim_run.specs.Running.{StandsAfter};
 ghost use Rattle.sim_run.specs.Telling.{LogsAreKept};
 ghost use Rattle.world_pieces.specs.Recording.{IsRecorded, has_record};
-ghost use Rattle.world_pieces.specs.Writing.{EndsSo, IsStartWritten, StandsAtEnd, StartsRecorded};
+ghost use Rattle.world_pieces.specs.Writing.{EndsSo, IsStartWritten, StandsAtEnd};
 ghost use Rattle.world_laws.specs.EventText.{store_lines};
 
-use crate::recording::{add_event, record_stores};
+use crate::record::Record;
+use crate::recording::record_stores;
 use mate_files::{Sink, SinkFault};
 use mate_journal::Programs;
 use mate_num::{NoMemory, Stamp};
 use report_summary::{Pass, WriteFault, ended, stopped};
 use report_text::{write_end, write_event};
-use run_record::Record;
 use sim_mote::Mote;
 use sim_run::{Simulation, forget_all, see_stores};
-use std::alloc::Global;
 use vm_desc::Description;
 use world_laws::text_grows_by_events;
 use world_script::World;
-
-/// The world before its first event, and the record of its start.
-pub fn start_recorded(
-    alloc: Global,
-    desc: &Description,
-    world: &World,
-    programs: &Programs,
-) -> Result<(Simulation, Record), NoMemory>
-    requires { AreProgramsOfWorld desc.now world.now programs.now }
-    ensures { IfOk result (λ made. StartsRecorded (code_world desc.now world.now programs.now) made.0 made.1) }
-{
-    let mut record = Record::new(alloc, world.nodes)?;
-    let sim = Simulation::start(alloc, desc, world, programs)?;
-    add_event(&mut record, &sim, 0)?;
-    Ok((sim, record))
-}
 
 /// The run stopped behind so many events, and was cut.
 pub fn stopped_at(events: u64, fault: WriteFault) -> Pass

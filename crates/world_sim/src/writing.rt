@@ -1,19 +1,39 @@
 //! The run of a world whose lines are written as its events end, and whose report may be handed out.
 
-ghost use Rattle.std.specs.Prelude.{◌≤◌, ◌<◌, Some, Err};
+ghost use Rattle.std.specs.Prelude.{◌≤◌, ◌<◌, Some, IfOk, Err};
 ghost use Rattle.report_summary.specs.Writing.{RunsInto};
 ghost use Rattle.node_programs.specs.WorldPrograms.{AreProgramsOfWorld};
+ghost use Rattle.world_pieces.specs.Writing.{StartsRecorded};
 ghost use Rattle.world_run_laws.specs.Promise.{IsReportOfWorld};
+ghost use Rattle.world_state_laws.specs.Coming.{code_world};
 
 use mate_files::Sink;
 use mate_journal::{IntoFault, Programs, Report};
+use mate_num::NoMemory;
 use report_summary::nothing_run;
+use sim_run::Simulation;
 use std::alloc::Global;
 use vm_desc::Description;
-use world_pieces::start_recorded;
+use world_pieces::{Record, add_event};
 use world_run_laws::reports_keep_the_promise;
 use world_script::World;
 use world_writing::write_run;
+
+/// The world before its first event, and the record of its start.
+fn start_recorded(
+    alloc: Global,
+    desc: &Description,
+    world: &World,
+    programs: &Programs,
+) -> Result<(Simulation, Record), NoMemory>
+    requires { AreProgramsOfWorld desc.now world.now programs.now }
+    ensures { IfOk result (λ made. StartsRecorded (code_world desc.now world.now programs.now) made.0 made.1) }
+{
+    let mut record = Record::new(alloc, world.nodes)?;
+    let sim = Simulation::start(alloc, desc, world, programs)?;
+    add_event(&mut record, &sim, 0)?;
+    Ok((sim, record))
+}
 
 /// Runs a world as `run` does, and writes each event's lines when it ends, and then the last line. After a fault of the sink no
 /// further event is begun; the report then has the events that ended.

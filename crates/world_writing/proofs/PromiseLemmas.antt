@@ -4,10 +4,10 @@ use Rattle.mate_journal.specs.NodeScript.{RunEnd}
 use Rattle.mate_journal.specs.Ranges.{HasReportRanges}
 use Rattle.mate_journal.specs.declared.report.Report.{Report}
 use Rattle.report_reading.specs.Parts.{IsSameReport}
-use Rattle.run_record.proofs.RecordLemmas.{all-self}
+use Rattle.world_pieces.proofs.RecordLemmas.{all-self}
 use Rattle.mate_journal.specs.declared.program.Program.{Program}
 use Rattle.node_programs.specs.WorldPrograms.{AreProgramsOfWorld}
-use Rattle.run_record.specs.declared.record.Record.{Record}
+use Rattle.world_pieces.specs.declared.record.Record.{Record}
 use Rattle.report_summary.specs.declared.pass.Pass.{Pass}
 use Rattle.world_run_laws.specs.Promise.{IsReportOfWorld}
 use Rattle.world_script.specs.declared.world.World.{World as Script}

@@ -21,13 +21,14 @@ use mate_journal::{NodeLog, Programs, RECORDS_MAX};
 use mate_num::Stamp;
 use radio_sim::Event;
 use report_summary::{Pass, WriteFault, stopped};
-use run_record::Record;
 use sim_event::step;
 use sim_mote::Effect;
 use sim_run::{Simulation, Written};
 use std::alloc::Global;
 use vm_desc::Description;
-use world_pieces::{record_event, stopped_at, write_ending, write_last, write_piece, write_start};
+use world_pieces::{
+    Record, record_event, stopped_at, write_ending, write_last, write_piece, write_start,
+};
 use world_run_laws::reports_keep_the_promise;
 use world_script::World;
 use world_state_laws::states_are_sound;

@@ -3,7 +3,7 @@ use Rattle.std.specs.Prelude.{MatchResult}
 use Rattle.proc_names.specs.declared.fault.ProcFault.{ProcFault}
 use Rattle.proc_names.specs.declared.fault.ProcFault.TheVariants.{TooDeep, NoMemory}
 use Rattle.proc_names.specs.declared.named.PScript.{PScript}
-use Rattle.proc_reading.specs.Reading.{ReadsProcedures, IsDeepAt}
+use Rattle.proc_texts.specs.Reading.{ReadsProcedures, IsDeepAt}
 use Rattle.grammar_callers.proofs.procedures.a_source_that_is_too_deep_is_told_so.Goals as goal
 
 abbrev OneRefusal : Type 0

@@ -3,7 +3,7 @@ use Rattle.vm_desc.specs.declared.description.Description.{Description}
 use Rattle.mate_steps.specs.Steps.{goes_on}
 use Rattle.mate_documents.proofs.OwedLemmas.{owed-stops}
 use Rattle.std.proofs.lemmas.Result.{IfOk-from_err}
-use Rattle.world_programs.specs.Made.{made}
+use Rattle.script_programs.specs.Made.{made}
 use Rattle.node_programs.specs.WorldPrograms.{AreProgramsOfWorld}
 use Rattle.mate_cli.proofs.made.run_of_number.Goals as goal
 

@@ -1,6 +1,6 @@
 use Rattle.std.proofs.Common.{Ok, Err, subst}
-use Rattle.world_programs.specs.Injected.{world_programs}
-use Rattle.world_programs.specs.WorldFiles.{world}
+use Rattle.script_programs.specs.Injected.{world_programs}
+use Rattle.script_programs.specs.WorldFiles.{world}
 use Rattle.vm_desc.specs.declared.description.Description.{Description}
 use Rattle.mate_steps.specs.Parts.{Folder}
 use Rattle.mate_steps.specs.Steps.{goes_on}

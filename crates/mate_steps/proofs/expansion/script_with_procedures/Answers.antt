@@ -1,5 +1,5 @@
 use Rattle.std.proofs.Common.{Err}
-use Rattle.proc_reading.specs.Reading.{ReadsProcedures}
+use Rattle.proc_texts.specs.Reading.{ReadsProcedures}
 use Rattle.mate_steps.proofs.ExpansionLemmas.{told_as}
 use Rattle.mate_steps.proofs.expansion.script_with_procedures.Goals as goal
 

@@ -3,7 +3,7 @@ use Rattle.std.specs.Prelude.{flat_map}
 use Rattle.mate_files.proofs.PenLemmas.{Prints-by}
 use Rattle.report_text.specs.Text.{air_line}
 use Rattle.report_text.specs.Progress.{air_event}
-use Rattle.report_text.proofs.PrintLemmas.{Prints-push, Prints-none}
+use Rattle.report_merge.proofs.PrintLemmas.{Prints-push, Prints-none}
 use Rattle.report_text.proofs.EventLemmas.{Runs-start, Runs-next, at_event-start, at_event-next, at_event-cut, at_event-end, IsCut-stop, IsCut-end}
 use Rattle.report_merge.proofs.merge.air_of_event.Goals as goal
 

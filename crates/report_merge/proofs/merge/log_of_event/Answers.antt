@@ -4,7 +4,7 @@ use Rattle.std.specs.Prelude.{flat_map}
 use Rattle.mate_files.proofs.PenLemmas.{Prints-by}
 use Rattle.report_text.specs.Text.{entry_line}
 use Rattle.mate_journal.specs.Tidy.{entry_event}
-use Rattle.report_text.proofs.PrintLemmas.{Prints-push, Prints-none}
+use Rattle.report_merge.proofs.PrintLemmas.{Prints-push, Prints-none}
 use Rattle.report_text.proofs.EventLemmas.{Runs-start, Runs-next, at_event-start, at_event-next, at_event-cut, at_event-end, IsCut-stop, IsCut-end, within-same, item-same, behind-same}
 use Rattle.report_merge.proofs.merge.log_of_event.Goals as goal
 

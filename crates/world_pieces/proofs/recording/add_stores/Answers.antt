@@ -3,7 +3,7 @@ use Rattle.std.specs.Prelude.{Some, slice_get}
 use Rattle.std.proofs.lemmas.Option.{slice_get-get_or}
 use Rattle.std.proofs.lemmas.Result.{MatchResult-from_err}
 use Rattle.mate_journal.specs.declared.air.Aired.{Aired}
-use Rattle.run_record.specs.Records.{MayAdd, HasAdded, HasRoomFor, OthersStay}
+use Rattle.world_pieces.specs.Records.{MayAdd, HasAdded, HasRoomFor, OthersStay}
 use Rattle.sim_run.specs.Reporting.{mote_logs}
 use Rattle.sim_mote.specs.declared.mote.Mote.{Mote}
 use Rattle.world_pieces.specs.Recording.{IsRecordOf}

@@ -1,5 +1,5 @@
 use Rattle.std.proofs.Common.{refl, subst, inl, Option}
-use Rattle.run_record.specs.declared.record.Record.{Record}
+use Rattle.world_pieces.specs.declared.record.Record.{Record}
 use Rattle.report_summary.proofs.WritingLemmas.{given-whole, given-fault}
 use Rattle.world_run_laws.specs.Promise.{IsReportOfWorld}
 use Rattle.world_rules.specs.Report.{IsWorldReport}

@@ -1,7 +1,7 @@
 use Rattle.std.proofs.Common.{length, sum_by, ap, sym, subst, ◌+◌, ◌∙◌, codes, arith}
 use Rattle.mate_files.proofs.PenLemmas.{◌⟫◌, Prints-by}
 use Rattle.report_text.specs.Brief.{count_line}
-use Rattle.report_text.specs.declared.summary.EntryKind.TheVariants as entry_kind
+use Rattle.report_text.specs.declared.kinds.EntryKind.TheVariants as entry_kind
 use Rattle.report_summary.specs.Summary.{entries_summed, AreSmall}
 use Rattle.report_summary.specs.declared.tally.LogTally.{LogTally}
 use Rattle.report_summary.proofs.summary.Summary.count_lines.Goals as goal

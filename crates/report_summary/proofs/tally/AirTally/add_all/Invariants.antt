@@ -1,6 +1,6 @@
 use Rattle.std.proofs.Common.{◌≡◌, ◌≤◌, ◌+◌, ◌++◌, List, take}
 use Rattle.mate_journal.specs.declared.air.Aired.{Aired}
-use Rattle.report_text.specs.declared.summary.AirKind.{AirKind}
+use Rattle.report_text.specs.declared.kinds.AirKind.{AirKind}
 use Rattle.report_summary.specs.Tally.{air_counted, IsAirTally}
 use Rattle.report_summary.proofs.tally.AirTally.add_all.Given as goal
 

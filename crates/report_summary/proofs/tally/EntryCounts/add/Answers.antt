@@ -1,5 +1,5 @@
 use Rattle.std.proofs.Common.{arith}
-use Rattle.report_text.specs.declared.summary.EntryKind.TheVariants as kinds
+use Rattle.report_text.specs.declared.kinds.EntryKind.TheVariants as kinds
 use Rattle.report_summary.proofs.tally.EntryCounts.add.Goals as goal
 
 pub overflow_add-self : goal.overflow_add-self

@@ -1,6 +1,6 @@
 use Rattle.std.proofs.Common.{◌≡◌, ◌≤◌, ◌+◌, ◌++◌, ℕ, List, take}
 use Rattle.mate_journal.specs.declared.entry.Stamped.{Stamped}
-use Rattle.report_text.specs.declared.summary.EntryKind.{EntryKind}
+use Rattle.report_text.specs.declared.kinds.EntryKind.{EntryKind}
 use Rattle.report_summary.specs.Tally.{entries_counted, IsLogTally}
 use Rattle.report_summary.proofs.tally.LogTally.add_all.Given as goal
 

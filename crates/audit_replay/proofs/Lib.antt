@@ -1,3 +1,0 @@
-pub mod SameLoops
-pub mod EndLemmas
-pub mod ShownLemmas

@@ -1,2 +1,0 @@
-pub mod FewLemmas
-pub mod ReadingLemmas

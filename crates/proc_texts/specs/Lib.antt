@@ -1,0 +1,4 @@
+pub mod Hidings
+pub mod Rest
+pub mod Size
+pub mod Reading

@@ -1,6 +1,0 @@
-pub mod StackLemmas
-pub mod HidingLemmas
-pub mod ProgressLemmas
-pub mod TokenLemmas
-pub mod CallLemmas
-pub mod TextLemmas

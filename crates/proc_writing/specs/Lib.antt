@@ -1,3 +1,0 @@
-pub mod Hidings
-pub mod Rest
-pub mod Size

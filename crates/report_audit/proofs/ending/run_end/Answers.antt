@@ -1,0 +1,50 @@
+use Rattle.std.proofs.Common.{◌≡◌, ℕ, false, Option, Some, refl, sym, ◌∙◌, ◌+◌, subst}
+use Rattle.mate_num.specs.declared.store.Store.{Store}
+use Rattle.audit_rules.specs.Rerun.{ends_right, run_on}
+use Rattle.audit_rules.specs.Tests.{conflict_of}
+use Rattle.audit_rules.specs.Views.{seat_in, roll_in}
+use Rattle.audit_programs.specs.Trials.{machine_for}
+use Rattle.audit_programs.proofs.LoopLemmas.{shown, all-fails}
+use Rattle.report_audit.proofs.EndLemmas.{HasEnded, ended-here, ended-other}
+use Rattle.report_audit.proofs.ending.run_end.Goals as goal
+use Rattle.report_audit.proofs.ending.run_end.Goals.{then-seat-number+in_ok-right+else-not-right, else-seat-number}
+
+pub returns-then-not-right : goal.returns-then-not-right
+returns-then-not-right c =
+    let t = c.args.trial.now in
+    let m = machine_for t in
+    let conflict = conflict_of t.desc.now in
+    let images = t.log.now.images in
+    let x = roll_in images c.args.roll.now.roll in
+    let z = seat_in images c.seat-item.result in
+    let seats = c.args.roll.now.roll.seats.items in
+    let i = c.loop-seat.seat-index in
+    let r = shown seats c.as_slice-seat-items.result.now i c.seat-item.result c.as_slice-seat-items.ensures.value c.loop-seat-test.true c.seat-item.is in (
+      sym (all-fails (seat_in images) (ends_right m conflict x c.args.store.now c.args.number c.args.how.now) seats i c.seat-item.result r.0 r.1
+          (subst (λ (k : ℕ). ends_right m conflict x c.args.store.now k c.args.how.now z ≡ false) c.if-seat-number.true (sym c.in_ok-right.ensures.0 ∙ c.if-not-right.true))),
+      λ never. absurd (cc),
+    )
+
+pub loop-seat-preserved : goal.loop-seat-preserved
+loop-seat-preserved c =
+    let t = c.args.trial.now in
+    let m = machine_for t in
+    let conflict = conflict_of t.desc.now in
+    let images = t.log.now.images in
+    let roll = c.args.roll.now.roll in
+    let store = c.args.store.now in
+    let after = (run_on m store (seat_in images c.seat-item.result).invocation).store in
+    let i = c.loop-seat.seat-index in
+    let r = shown roll.seats.items c.as_slice-seat-items.result.now i c.seat-item.result c.as_slice-seat-items.ensures.value c.loop-seat-test.true c.seat-item.is in
+    let before : HasEnded m conflict images roll store c.args.number c.args.how.now i c.loop-seat.left = record { all = c.loop-seat.invariant.all; left_is = c.loop-seat.invariant.left; lengths = c.loop-seat.invariant.lengths } in
+    let E : Option Store → Type 0 = λ left. HasEnded m conflict images roll store c.args.number c.args.how.now (i + 1) left in
+    let now : E c.if-seat-number.left = elim c.if-seat-number.branch [
+      | then-seat-number+in_ok-right+else-not-right w ↦
+          let left = w.in_ok-right.ensures.1 w.if-not-right.false in
+          subst E (sym (w.left-is ∙ left.0))
+          (ended-here m conflict images roll store c.args.number c.args.how.now i c.loop-seat.left before c.seat-item.result r.0 r.1 (Some after) after
+          (sym w.in_ok-right.ensures.0 ∙ w.if-not-right.false, refl, left.1) refl w.if-seat-number.true)
+      | else-seat-number w ↦ subst E (sym w.left-is)
+          (ended-other m conflict images roll store c.args.number c.args.how.now i c.loop-seat.left before c.seat-item.result r.0 r.1 w.if-seat-number.false)
+    ] in
+    record { all = now.all; left = now.left_is; lengths = now.lengths }

@@ -1,0 +1,146 @@
+-- Lemmas on `specs/Counts.antt`.
+use Rattle.std.proofs.Common.{◌≡◌, ℕ, ◌+◌, ◌*◌, ◌^◌, ◌<◌, ◌≤◌, ◌==◌, ◌≢◌, true≢false, append-nil, max, Bool, true, false, cond, List, ◌++◌, ◌∷◌, [], length, take, get_or, refl, ap, sym, ◌∙◌, arith}
+use Rattle.std.specs.Prelude.{fold, flat_map, count_by, if◌then◌else◌}
+use Rattle.std.proofs.lemmas.Bool.Decides.{Decides-eqb}
+use Rattle.std.proofs.lemmas.Grind.{flat_map-append}
+use Rattle.std.proofs.lemmas.List.{take_more}
+use Rattle.std.proofs.lemmas.List.Sums.{fold-append, sum_by_more, sum_by-cons, count_by_more_yes, count_by_more_no, count_by-le-length}
+use Rattle.mate_journal.specs.Log.{Log}
+use Rattle.mate_journal.specs.declared.air.Air.{Air}
+use Rattle.mate_journal.specs.declared.entry.Entry.{Entry}
+use Rattle.mate_journal.specs.declared.entry.Stamped.{Stamped}
+use Rattle.report_text.specs.Brief.{is_entry, is_air, entries_of, one_if, versions, newest, last}
+use Rattle.report_merge.specs.Counts.{entries_in, air_in, holders_after}
+use Rattle.report_text.specs.declared.kinds.EntryKind.{EntryKind}
+use Rattle.report_text.specs.declared.kinds.EntryKind.TheVariants as entry_kind
+use Rattle.report_text.specs.declared.kinds.AirKind.{AirKind}
+use Rattle.report_text.specs.declared.kinds.AirKind.TheVariants as air_kind
+use Rattle.report_merge.specs.declared.counts.EntryCounts.{EntryCounts}
+use Rattle.report_merge.specs.declared.counts.AirCounts.{AirCounts}
+use Rattle.report_text.proofs.EventLemmas.{fold-max_start}
+
+-- ---- one item more
+
+count-at : {A : Type 0} (p : A → Bool) (xs : List A) (i : ℕ) (x : A) → i < length xs → x ≡ get_or xs i x → (b : Bool) → p x ≡ b
+    → count_by p (take (i + 1) xs) ≡ count_by p (take i xs) + one_if (p x)
+count-at p xs i x h is true e = omega (arith, count_by_more_yes p xs i x h (ap p (sym is) ∙ e), ap one_if e)
+count-at p xs i x h is false e = omega (arith, count_by_more_no p xs i x h (ap p (sym is) ∙ e), ap one_if e)
+
+pub count-next : {A : Type 0} (p : A → Bool) (xs : List A) (i : ℕ) (x : A) → i < length xs → x ≡ get_or xs i x
+    → count_by p (take (i + 1) xs) ≡ count_by p (take i xs) + one_if (p x)
+count-next p xs i x h is = count-at p xs i x h is (p x) refl
+
+-- ---- counts of entries
+
+pub no-entries : (k : EntryKind) → entries_in k (record { posts = 0; drops = 0; halts = 0; faults = 0; installs = 0 }) ≡ 0
+no-entries entry_kind.Post = refl
+no-entries _ = refl
+
+pub one-entry : (k : EntryKind) (old new : EntryCounts) (e : Entry)
+    → new.posts ≡ old.posts + one_if (is_entry entry_kind.Post e) → new.drops ≡ old.drops + one_if (is_entry entry_kind.Drop e)
+    → new.halts ≡ old.halts + one_if (is_entry entry_kind.Halt e) → new.faults ≡ old.faults + one_if (is_entry entry_kind.Fault e)
+    → new.installs ≡ old.installs + one_if (is_entry entry_kind.Install e) → entries_in k new ≡ entries_in k old + one_if (is_entry k e)
+one-entry entry_kind.Post old new e posts drops halts faults installs = posts
+one-entry entry_kind.Drop old new e posts drops halts faults installs = drops
+one-entry entry_kind.Halt old new e posts drops halts faults installs = halts
+one-entry entry_kind.Fault old new e posts drops halts faults installs = faults
+one-entry entry_kind.Install old new e posts drops halts faults installs = installs
+
+one_if-most : (b : Bool) → one_if b ≤ 1
+one_if-most true = omega arith
+one_if-most false = omega arith
+
+-- what was counted of the items before a place, and of one more
+pub record AreCounted {A : Type 0} (p : A → Bool) (xs : List A) (i before now : ℕ) : Type 0 where
+  pub value : now ≡ before + count_by p (take i xs)
+  pub most : now ≤ before + i
+
+pub counted-start : {A : Type 0} (p : A → Bool) (xs : List A) (n : ℕ) → AreCounted p xs 0 n n
+counted-start p xs n = record { value = omega arith; most = omega arith }
+
+pub counted-next : {A : Type 0} (p : A → Bool) (xs : List A) (i before now after : ℕ) (x : A) → i < length xs → x ≡ get_or xs i x → after ≡ now + one_if (p x)
+    → AreCounted p xs i before now → AreCounted p xs (i + 1) before after
+counted-next p xs i before now after x h is step c = record {
+  value = omega (arith, count-next p xs i x h is, step, c.value);
+  most = omega (arith, one_if-most (p x), step, c.most);
+}
+
+-- the entries of one log more
+pub entries-next : (k : EntryKind) (logs : List Log) (i : ℕ) (log : Log) (before after : ℕ) → i < length logs → log ≡ get_or logs i log
+    → before ≡ entries_of k (take i logs) → after ≡ before + count_by (λ (e : Stamped). is_entry k e.entry) log.entries → after ≡ entries_of k (take (i + 1) logs)
+entries-next k logs i log before after h is sofar adds =
+    let of_log = λ (l : Log). count_by (λ (e : Stamped). is_entry k e.entry) l.entries in
+    omega (arith, sum_by_more of_log logs i log h, ap of_log is, sofar, adds)
+
+pub entries-most : (k : EntryKind) (log : Log) (i before after : ℕ) → length log.entries ≤ 2 ^ 57 → before ≤ i * 2 ^ 57
+    → after ≡ before + count_by (λ (e : Stamped). is_entry k e.entry) log.entries → after ≤ (i + 1) * 2 ^ 57
+entries-most k log i before after size sofar adds = omega (arith, count_by-le-length (λ (e : Stamped). is_entry k e.entry) log.entries, size, sofar, adds)
+
+-- ---- counts of the air
+
+pub no-air : (k : AirKind) → air_in k (record { sent = 0; got = 0; lost = 0 }) ≡ 0
+no-air air_kind.Sent = refl
+no-air _ = refl
+
+pub one-air : (k : AirKind) (old new : AirCounts) (a : Air)
+    → new.sent ≡ old.sent + one_if (is_air air_kind.Sent a) → new.got ≡ old.got + one_if (is_air air_kind.Got a) → new.lost ≡ old.lost + one_if (is_air air_kind.Lost a)
+    → air_in k new ≡ air_in k old + one_if (is_air k a)
+one-air air_kind.Sent old new a sent got lost = sent
+one-air air_kind.Got old new a sent got lost = got
+one-air air_kind.Lost old new a sent got lost = lost
+
+-- ---- the newest version
+
+pub newest-next : (h : ℕ) (logs : List Log) (i : ℕ) (log : Log) (before after : ℕ) → i < length logs → log ≡ get_or logs i log → before ≡ newest h (take i logs)
+    → after ≡ fold max before (versions h log) → after ≡ newest h (take (i + 1) logs)
+newest-next h logs i log before after p is sofar step =
+    step ∙ ap (λ (n : ℕ). fold max n (versions h log)) sofar
+    ∙ sym (ap (newest h) (take_more logs i log p ∙ ap (λ (l : Log). take i logs ++ l ∷ []) (sym is))
+    ∙ ap (fold max 0) (flat_map-append (versions h) (take i logs) (log ∷ []))
+    ∙ fold-append max 0 (flat_map (versions h) (take i logs)) (flat_map (versions h) (log ∷ []))
+    ∙ ap (fold max (newest h (take i logs))) (append-nil (versions h log)))
+
+-- the last of some versions is no greater than the greatest
+last-max : (a b : ℕ) (vs : List ℕ) → a ≤ b → fold (λ (before version : ℕ). version) a vs ≤ fold max b vs
+last-max a b [] h = h
+last-max a b (v ∷ vs) h = last-max v (max b v) vs (omega arith)
+
+is-below : (x n : ℕ) (b : Bool) → (x == n) ≡ b → x < n → b ≡ false
+is-below x n true e p = let same : x ≡ n = (Decides-eqb x n).0 e in absurd (omega (arith, same, p))
+is-below x n false e p = refl
+
+-- no node has a version as its last one that is greater than all
+holders-none : (h n a : ℕ) (logs : List Log) → fold max a (flat_map (versions h) logs) < n → count_by (λ (l : Log). last h l == n) logs ≡ 0
+holders-none h n a [] p = refl
+holders-none h n a (log ∷ logs) p =
+    let b = fold max a (versions h log) in
+    let rest : fold max b (flat_map (versions h) logs) < n = omega (arith, p, fold-append max a (versions h log) (flat_map (versions h) logs)) in
+    let low : last h log ≤ b = last-max 0 a (versions h log) (omega arith) in
+    let above = fold-max_start b (flat_map (versions h) logs) in
+    let here : (last h log == n) ≡ false = is-below (last h log) n (last h log == n) refl (omega (arith, low, above, rest)) in
+    omega (arith, sum_by-cons (λ (l : Log). cond (last h l == n) 1 0) log logs, ap {B = ℕ} (λ (b : Bool). cond b 1 0) here, holders-none h n b logs rest)
+
+holders-kept : (h before now : ℕ) (logs : List Log) (b : Bool) → (now == before) ≡ b → before ≡ newest h logs → before ≤ now
+    → count_by (λ (l : Log). last h l == now) logs ≡ (if now == before then count_by (λ (l : Log). last h l == before) logs else 0)
+holders-kept h before now logs true e new le =
+    let same : now ≡ before = (Decides-eqb now before).0 e in
+    ap (λ (n : ℕ). count_by (λ (l : Log). last h l == n) logs) same
+    ∙ sym (ap (λ (b : Bool). if b then count_by (λ (l : Log). last h l == before) logs else 0) e)
+holders-kept h before now logs false e new le =
+    let differ : now ≢ before = λ s. true≢false (sym ((Decides-eqb now before).1 s) ∙ e) in
+    let more : before < now = omega (arith, le, differ) in
+    holders-none h now 0 logs (omega (arith, more, new))
+    ∙ sym (ap (λ (b : Bool). if b then count_by (λ (l : Log). last h l == before) logs else 0) e)
+
+-- the holders with a node more
+pub holders-next : (h : ℕ) (logs : List Log) (i : ℕ) (log : Log) (before now held after : ℕ) → i < length logs → log ≡ get_or logs i log
+    → before ≡ newest h (take i logs) → now ≡ fold max before (versions h log) → held ≡ count_by (λ (l : Log). last h l == newest h (take i logs)) (take i logs)
+    → after ≡ holders_after before held now (last h log) → after ≡ count_by (λ (l : Log). last h l == newest h (take (i + 1) logs)) (take (i + 1) logs)
+holders-next h logs i log before now held after p is new step holding so =
+    let le : before ≤ now = omega (arith, step, fold-max_start before (versions h log)) in
+    let kept = holders-kept h before now (take i logs) (now == before) refl new le in
+    let all = holding ∙ ap (λ (n : ℕ). count_by (λ (l : Log). last h l == n) (take i logs)) (sym new) in
+    so ∙ ap (λ (n : ℕ). (if now == before then n else 0) + one_if (last h log == now)) all
+    ∙ ap (λ (n : ℕ). n + one_if (last h log == now)) (sym kept)
+    ∙ sym (count-next (λ (l : Log). last h l == now) logs i log p is)
+    ∙ ap (λ (n : ℕ). count_by (λ (l : Log). last h l == n) (take (i + 1) logs)) (newest-next h logs i log before now p is new step)

@@ -1,3 +1,0 @@
-mod CopyLemmas
-pub mod RecordLemmas
-pub mod KeptLemmas
