@@ -92,6 +92,11 @@ impl Handlers {
         }
     }
 
+    /// Whether the handler's program is one of the node's own. It is a matter of speed alone: such a program can be changed in place.
+    pub fn is_own(&self, handler: HandlerId) -> bool {
+        own_at(&self.own, usize::from(handler.0)).is_some()
+    }
+
     /// Installs the program in place of the one that was.
     pub fn install(&mut self, handler: HandlerId, held: Held)
         requires { handler.0 < length self.old.programs }
