@@ -369,6 +369,18 @@ fn install_beside(
     }
 }
 
+/// Whether the capsule's handler holds the capsule's code, where a version and an image can be written in place. A shared program can't be
+/// changed; but such a one is ready, and so the new one may be.
+fn renews(parts: &Parts, ready: &[ReadyCapsule], capsule: &CapsuleRef<'_>) -> bool
+    ensures { IsTrue result → HoldsCode (held_at parts.now.handlers.programs capsule.now.handler) capsule.now.code.now }
+{
+    if ready.is_empty() || parts.handlers.is_own(capsule.handler) {
+        holds_code(parts, capsule)
+    } else {
+        false
+    }
+}
+
 /// Installs the capsule that the bytes are, as `install_in` does, where capsules are ready, in their order.
 pub fn install_shared(
     description: &Description,
@@ -389,8 +401,7 @@ pub fn install_shared(
         Ok(capsule) => capsule,
         Err(fault) => return Err(InstallFault::Capsule(fault)),
     };
-    let renews = ready.is_empty() || parts.handlers.is_own(capsule.handler);
-    if renews && holds_code(parts, &capsule) {
+    if renews(parts, ready, &capsule) {
         return install_known(
             description,
             parts,
