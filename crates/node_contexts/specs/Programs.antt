@@ -42,6 +42,6 @@ renewed version image None = None
 renewed version image (Some x) = Some (record x { version = version; image = image })
 
 -- another program takes the place of what is held, if anything is
-abbrev pub replaced : Held → Option Held → Option Held
-replaced y None = None
-replaced y (Some x) = Some y
+abbrev pub written_over : Held → Option Held → Option Held
+written_over y None = None
+written_over y (Some x) = Some y

@@ -4,7 +4,7 @@ ghost use Rattle.std.specs.Prelude.{◌≡◌, ◌<◌, ◌≤◌, Some, None, l
 ghost use Rattle.std.specs.Option.{option_copied};
 ghost use Rattle.mate_num.specs.declared.bounds.TheConstants.{IMAGE_MAX};
 ghost use Rattle.mate_num.specs.declared.id.HandlerId.{HandlerId as Handler};
-ghost use Rattle.node_contexts.specs.Programs.{HaveSame, renewed, replaced};
+ghost use Rattle.node_contexts.specs.Programs.{HaveSame, renewed, written_over};
 
 use crate::shared::SharedHeld;
 use code_verifier::Verified;
@@ -238,7 +238,7 @@ fn copy_own(own: &mut Vec<Option<Held>>, place: usize, held: &Held, version: u32
     requires place { place < vec_len own.old }
     requires fits { length image.now ≤ IMAGE_MAX }
     ensures items { own.new.items ≡ slice_set own.old.items place
-        (replaced (record held.now { version = version; image = record { items = image.now } }) (slice_index_or own.old.items place None)) }
+        (written_over (record held.now { version = version; image = record { items = image.now } }) (slice_index_or own.old.items place None)) }
     ensures capacity { vec_capacity own.new ≡ vec_capacity own.old }
 {
     if let Some(own) = &mut own[place] {
