@@ -49,6 +49,18 @@ impl Verified {
         }
     }
 
+    /// Another piece of code takes the place of this one. It takes no memory, and writes no more than that code is.
+    pub fn copy_from(&mut self, other: &Verified)
+        ensures { self.new ≡ other.now }
+    {
+        self.shape = other.shape.copy();
+        self.bytes.clear();
+        let Ok(()) = self.bytes.try_extend_from_slice(other.bytes.as_slice()) else {
+            unreachable!()
+        };
+        self.instrs.copy_from(&other.instrs);
+    }
+
     /// The shape by which the code was verified.
     pub fn shape(&self) -> &Shape
         ensures value { result.now ≡ self.now.shape }

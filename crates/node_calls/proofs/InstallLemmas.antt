@@ -260,21 +260,32 @@ IsReadAs-from d bytes r c is value image =
     let image_now = subst Q is image in
     record { decoded = subst P is value; image = image_now.0; of_machine = image_now.1 }
 
--- one whose code the handler holds: what was verified of it holds of it
+-- one whose code another program has: what was verified of that one holds of it
+abbrev pub alike : CapsuleRef → List ℕ → Held → Held
+alike c bytes y = record y { version = c.version; image = record { items = bytes } }
+
+pub IsInstallable-alike : (d : Description) (bytes : List ℕ) (c : CapsuleRef) (y : Held) → IsHeld d y → IsReadAs d bytes c → y.code.bytes ≡ c.code.now → IsInstallable d bytes (record { handler = c.handler; held = alike c bytes y })
+IsInstallable-alike d bytes c y right read same =
+    let L : Code → Type 0 = λ code. AreLocksOf (shape_of d) code y.locks in
+    let of_code : IsVerificationOf (shape_of d) c.code.now y.code = record { shape_is = right.shape; bytes_are = same; is_verified = right.verified } in
+    IsInstallable-from d bytes c y.code y.locks (record { items = bytes }) read.decoded read.image read.of_machine of_code (subst L (sym right.code) right.locks_are) refl
+
+-- the bytes fit an image
+pub image-fits : (d : Description) (bytes : List ℕ) (c : CapsuleRef) → IsReadAs d bytes c → length bytes ≤ IMAGE_MAX
+image-fits d bytes c read = let long = ap length read.image in let code = c.fits in omega (arith, long, code)
+
+-- one whose code the handler holds
 pub CanRenew-known : (d : Description) (s : Parts) (bytes : List ℕ) (c : CapsuleRef) → Rests d s → IsReadAs d bytes c → HoldsCode (held_at s.handlers.programs c.handler) c.code.now → CanRenew d bytes s c.handler c.version
 CanRenew-known d s bytes c rests read known = by (held_at s.handlers.programs c.handler) refl known where
   by : (o : Option Held) → held_at s.handlers.programs c.handler ≡ o → HoldsCode o c.code.now → CanRenew d bytes s c.handler c.version
   by (Some y) is holds =
       let right : IsHeld d y = rests.order.keeps.installed.each c.handler y is in
-      let L : Code → Type 0 = λ code. AreLocksOf (shape_of d) code y.locks in
-      let of_code : IsVerificationOf (shape_of d) c.code.now y.code = record { shape_is = right.shape; bytes_are = holds; is_verified = right.verified } in
-      let image : ArrayVec ℕ = record { items = bytes } in
       record {
-        x = record y { version = c.version; image = image };
-        after = ap (λ (o : Option Held). renewed c.version image o) is;
+        x = alike c bytes y;
+        after = ap (λ (o : Option Held). renewed c.version (record { items = bytes }) o) is;
         version_is = refl;
-        fits = (let long = ap length read.image in let code = c.fits in omega (arith, long, code));
-        can = IsInstallable-from d bytes c y.code y.locks image read.decoded read.image read.of_machine of_code (subst L (sym right.code) right.locks_are) refl;
+        fits = image-fits d bytes c read;
+        can = IsInstallable-alike d bytes c y right read holds;
       }
   by None is holds = absurd holds
 

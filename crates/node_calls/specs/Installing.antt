@@ -88,6 +88,10 @@ pub record IsInstallable (d : Description) (bytes : List ℕ) (i : Incoming) : T
 abbrev pub IsReady : Description → List ℕ → ReadyCapsule → Type 0
 IsReady d bytes r = IsInstallable d bytes (record { handler = r.handler; held = r.program })
 
+-- the capsule can be installed on nodes of the machine: it is what its image says
+abbrev pub IsReadyOn : Description → ReadyCapsule → Type 0
+IsReadyOn d r = IsReady d r.program.image.items r
+
 -- ---- what an install leaves
 
 -- the entries of an install, and a node that rests; or the first refusal, and all as it was

@@ -10,7 +10,6 @@ ghost use Rattle.node_calls.specs.Calls.{RestsAgain, AtPace, IsCleared};
 use crate::showing::seen_in;
 use mate_journal::Entry;
 use mate_num::Stamp;
-use node_heap::Heap;
 use node_invariant::{Parts, tell};
 use vm_desc::Description;
 
@@ -21,7 +20,7 @@ pub(crate) fn clear(description: &Description, parts: &mut Parts)
     let shared = description.shared.len() as u8;
     let buffers = description.buffers.len() as u8;
     parts.contexts.clear();
-    parts.heap = Heap::new(shared, buffers);
+    parts.heap.restart(shared, buffers);
 }
 
 /// Records the store, and begins an era: all live invocations are cut, all shared variables are 0, and all buffers are

@@ -1,21 +1,21 @@
 //! Installs: a newer capsule replaces a handler's program, and an era begins.
 
-ghost use Rattle.std.specs.Prelude.{◌≡◌, ◌<◌, ◌≤◌, ◌∷◌, [], length, IfSome, IsTrue};
+ghost use Rattle.std.specs.Prelude.{◌≡◌, ◌<◌, ◌≤◌, ◌∷◌, [], length, All, IsTrue};
 ghost use Rattle.mate_journal.specs.Journal.{Installed};
 ghost use Rattle.vm_desc.specs.Shapes.{shape_of};
 ghost use Rattle.code_verifier.specs.Verified.{IsVerificationOf};
 ghost use Rattle.node_contexts.specs.Programs.{held_at};
-ghost use Rattle.node_invariant.specs.Fits.{program_of};
+ghost use Rattle.node_invariant.specs.Fits.{IsHeld, program_of};
 ghost use Rattle.node_invariant.specs.Keeps.{IsTimely};
 ghost use Rattle.node_invariant.specs.Meaning.{machine_in};
 ghost use Rattle.node_invariant.specs.Starting.{Rests};
 ghost use Rattle.node_calls.specs.Calls.{RestsAgain};
 ghost use Rattle.node_calls.specs.Arrivals.{Arrives, HasBegun, CanRenew, HoldsCode, Prepares};
-ghost use Rattle.node_calls.specs.Installing.{IsInstallable, IsReadAs, IsReady, InstallGives};
+ghost use Rattle.node_calls.specs.Installing.{IsInstallable, IsReadAs, IsReadyOn, InstallGives};
 
 use crate::era::clear;
 use crate::posting::post_in;
-use crate::ready::ReadyCapsule;
+use crate::ready::{ReadyCapsule, near};
 use crate::showing::seen_in;
 use capsule_codec::{CapsuleFault, CapsuleRef, decode_in_place};
 use code_verifier::{Verified, VerifyFault, verify};
@@ -71,12 +71,19 @@ pub(crate) fn new_program(
     }
 }
 
+/// Whether the program has the capsule's code.
+fn has_code(held: &Held, capsule: &CapsuleRef<'_>) -> bool
+    ensures { IsTrue result → held.now.code.bytes ≡ capsule.now.code.now }
+{
+    held.code.code().as_slice() == capsule.code
+}
+
 /// Whether the capsule's handler holds the capsule's code.
 fn holds_code(parts: &Parts, capsule: &CapsuleRef<'_>) -> bool
     ensures { IsTrue result → HoldsCode (held_at parts.now.handlers.programs capsule.now.handler) capsule.now.code.now }
 {
     match parts.handlers.get(capsule.handler) {
-        Some(held) => held.code.code().as_slice() == capsule.code,
+        Some(held) => has_code(held, capsule),
         None => false,
     }
 }
@@ -220,6 +227,35 @@ fn install_known(
     Ok(())
 }
 
+/// Installs the capsule that the bytes are, whose code another program has, if it is newer than what the node holds. What was verified
+/// of that program's code, and its locks, are right for the capsule, too.
+#[inline(never)]
+fn install_alike(
+    description: &Description,
+    parts: &mut Parts,
+    bytes: &[u8],
+    capsule: &CapsuleRef<'_>,
+    held: &Held,
+    at: Stamp,
+) -> Result<(), InstallFault>
+    requires rests { Rests description.now parts.old }
+    requires timely { IsTimely at parts.old.log.all }
+    requires room { 4 ≤ parts.old.log.all.spare }
+    requires few { length parts.old.log.all.entries < 4000000000 }
+    requires read { IsReadAs description.now bytes.now capsule.now }
+    requires right { IsHeld description.now held.now }
+    requires alike { held.now.code.bytes ≡ capsule.now.code.now }
+    ensures installs { InstallGives description.now parts.old parts.new bytes.now at result }
+    ensures gone { parts.new.log.gone ≡ parts.old.log.gone }
+{
+    let handler = capsule.handler;
+    let version = capsule.version;
+    prepare(description, parts, handler, version, at)?;
+    parts.handlers.install_copy(handler, held, version, bytes);
+    begin(description, parts, handler, at);
+    Ok(())
+}
+
 /// Installs the program of the capsule that the bytes are, if it is newer than what the node holds.
 #[inline(never)]
 fn install_code(
@@ -241,6 +277,30 @@ fn install_code(
 {
     let held = new_program(description, bytes, capsule, code);
     install_own(description, parts, bytes, capsule.handler, held, at)
+}
+
+/// Verifies the code of the capsule that the bytes are, and installs its program.
+#[inline(never)]
+fn install_new(
+    description: &Description,
+    parts: &mut Parts,
+    bytes: &[u8],
+    capsule: &CapsuleRef<'_>,
+    at: Stamp,
+) -> Result<(), InstallFault>
+    requires rests { Rests description.now parts.old }
+    requires timely { IsTimely at parts.old.log.all }
+    requires room { 4 ≤ parts.old.log.all.spare }
+    requires few { length parts.old.log.all.entries < 4000000000 }
+    requires read { IsReadAs description.now bytes.now capsule.now }
+    ensures installs { InstallGives description.now parts.old parts.new bytes.now at result }
+    ensures gone { parts.new.log.gone ≡ parts.old.log.gone }
+{
+    let table = Table::of(&shape(description));
+    match verify(&table, description, capsule.code) {
+        Ok(code) => install_code(description, parts, bytes, capsule, code, at),
+        Err(fault) => Err(InstallFault::Code(fault)),
+    }
 }
 
 /// Installs the capsule of the machine that the bytes are for its handler, if it is newer than what the node holds: the store
@@ -275,34 +335,84 @@ pub fn install_in(
             at,
         );
     }
-    let table = Table::of(&shape(description));
-    match verify(&table, description, capsule.code) {
-        Ok(code) => install_code(description, parts, bytes, &capsule, code, at),
-        Err(fault) => Err(InstallFault::Code(fault)),
-    }
+    install_new(description, parts, bytes, &capsule, at)
 }
 
-/// Installs the capsule that the bytes are, as `install_in` does. If it is ready, it needs no more than its place.
-pub fn install_shared(
+/// Installs the capsule that the bytes are beside one that is ready. If it is the same one, the node needs no more than its place; if it
+/// has the same code, that needn't be verified.
+#[inline(never)]
+fn install_beside(
     description: &Description,
     parts: &mut Parts,
     bytes: &[u8],
-    ready: Option<ReadyCapsule>,
+    capsule: &CapsuleRef<'_>,
+    ready: &ReadyCapsule,
     at: Stamp,
 ) -> Result<(), InstallFault>
     requires rests { Rests description.now parts.old }
     requires timely { IsTimely at parts.old.log.all }
     requires room { 4 ≤ parts.old.log.all.spare }
     requires few { length parts.old.log.all.entries < 4000000000 }
-    requires ready { IfSome ready (IsReady description.now bytes.now) }
+    requires read { IsReadAs description.now bytes.now capsule.now }
+    requires ready { IsReadyOn description.now ready.now }
     ensures installs { InstallGives description.now parts.old parts.new bytes.now at result }
     ensures gone { parts.new.log.gone ≡ parts.old.log.gone }
 {
-    match ready {
-        Some(ready) => {
-            let ReadyCapsule { handler, program } = ready;
-            install_one(description, parts, bytes, handler, program, at)
-        }
-        None => install_in(description, parts, bytes, at),
+    if let Some(program) = ready.shared_if(description, bytes) {
+        return install_one(description, parts, bytes, ready.handler, program, at);
+    }
+    let held = ready.program.as_held();
+    if has_code(held, capsule) {
+        install_alike(description, parts, bytes, capsule, held, at)
+    } else {
+        install_new(description, parts, bytes, capsule, at)
+    }
+}
+
+/// Whether the capsule's handler holds the capsule's code, where a version and an image can be written in place. A shared program can't be
+/// changed; but such a one is ready, and so the new one may be.
+fn renews(parts: &Parts, ready: &[ReadyCapsule], capsule: &CapsuleRef<'_>) -> bool
+    ensures { IsTrue result → HoldsCode (held_at parts.now.handlers.programs capsule.now.handler) capsule.now.code.now }
+{
+    if ready.is_empty() || parts.handlers.is_own(capsule.handler) {
+        holds_code(parts, capsule)
+    } else {
+        false
+    }
+}
+
+/// Installs the capsule that the bytes are, as `install_in` does, where capsules are ready, in their order.
+pub fn install_shared(
+    description: &Description,
+    parts: &mut Parts,
+    bytes: &[u8],
+    ready: &[ReadyCapsule],
+    at: Stamp,
+) -> Result<(), InstallFault>
+    requires rests { Rests description.now parts.old }
+    requires timely { IsTimely at parts.old.log.all }
+    requires room { 4 ≤ parts.old.log.all.spare }
+    requires few { length parts.old.log.all.entries < 4000000000 }
+    requires ready { All (IsReadyOn description.now) ready.now }
+    ensures installs { InstallGives description.now parts.old parts.new bytes.now at result }
+    ensures gone { parts.new.log.gone ≡ parts.old.log.gone }
+{
+    let capsule = match decode_in_place(description, bytes) {
+        Ok(capsule) => capsule,
+        Err(fault) => return Err(InstallFault::Capsule(fault)),
+    };
+    if renews(parts, ready, &capsule) {
+        return install_known(
+            description,
+            parts,
+            bytes,
+            capsule.handler,
+            capsule.version,
+            at,
+        );
+    }
+    match near(description, ready, bytes) {
+        Some(near) => install_beside(description, parts, bytes, &capsule, near, at),
+        None => install_new(description, parts, bytes, &capsule, at),
     }
 }

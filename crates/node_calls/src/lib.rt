@@ -17,7 +17,7 @@ pub use answering::answer_in;
 pub use era::reset_in;
 pub use installing::{InstallFault, install_in, install_shared};
 pub use posting::{PostAnswer, post_in};
-pub use ready::ReadyCapsule;
+pub use ready::{ReadyCapsule, near, place_among};
 pub use running::run_some;
 pub use showing::{seen_in, void_in};
 pub use turns::{settle, take_turn};

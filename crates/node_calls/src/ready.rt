@@ -1,13 +1,13 @@
 //! Capsules that are ready to be installed on the nodes of a machine.
 
-ghost use Rattle.std.specs.Prelude.{◌≡◌, IfOk, IfSome};
-ghost use Rattle.node_calls.specs.Installing.{IsReady};
+ghost use Rattle.std.specs.Prelude.{◌≡◌, ◌≤◌, All, length, IfOk, IfSome, IsTrue};
+ghost use Rattle.node_calls.specs.Installing.{IsInstallable, IsReady, IsReadyOn};
 
 use crate::installing::new_program;
 use capsule_codec::decode_in_place;
 use code_verifier::verify;
 use mate_code::Table;
-use mate_num::{HandlerId, NoMemory};
+use mate_num::{HandlerId, IMAGE_HEAD, NoMemory};
 use node_contexts::SharedHeld;
 use std::alloc::Global;
 use vm_desc::{Description, shape};
@@ -42,13 +42,91 @@ impl ReadyCapsule {
         }))
     }
 
-    /// The same capsule for one node more. `NoMemory` comes only if a machine word doesn't count them.
-    pub fn share(&self) -> Result<ReadyCapsule, NoMemory>
-        ensures { IfOk result (λ shared. shared ≡ self.now) }
+    /// Whether the bytes have its code.
+    fn has_code(&self, bytes: &[u8]) -> bool {
+        code_of(self.program.as_held().image.as_slice()) == code_of(bytes)
+    }
+
+    /// Whether it comes before the bytes, in the order of lengths, then of codes, and then of all bytes.
+    fn is_before(&self, bytes: &[u8]) -> bool {
+        let image = self.program.as_held().image.as_slice();
+        if image.len() != bytes.len() {
+            image.len() < bytes.len()
+        } else if self.has_code(bytes) {
+            image < bytes
+        } else {
+            code_of(image) < code_of(bytes)
+        }
+    }
+
+    /// Whether the bytes are its image.
+    pub fn is_image(&self, bytes: &[u8]) -> bool
+        ensures { IsTrue result → self.now.program.image.items ≡ bytes.now }
     {
-        Ok(ReadyCapsule {
-            handler: self.handler,
-            program: self.program.share()?,
-        })
+        self.program.as_held().image.as_slice() == bytes
+    }
+
+    /// Its program for one node more, if the bytes are its image and a machine word counts the nodes.
+    pub(crate) fn shared_if(&self, description: &Description, bytes: &[u8]) -> Option<SharedHeld>
+        requires { IsReadyOn description.now self.now }
+        ensures { IfSome result (λ program. IsInstallable description.now bytes.now (record { handler = self.now.handler; held = program })) }
+    {
+        let _description = description;
+        if !self.is_image(bytes) {
+            return None;
+        }
+        match self.program.share() {
+            Ok(program) => Some(program),
+            Err(_) => None,
+        }
+    }
+}
+
+/// The code that is in an image, or nothing if the bytes are too few.
+fn code_of(image: &[u8]) -> &[u8] {
+    if image.len() < IMAGE_HEAD {
+        return &[];
+    }
+    &image[IMAGE_HEAD..]
+}
+
+/// Before which of the capsules, which are in their order, that of the bytes comes.
+pub fn place_among(ready: &[ReadyCapsule], bytes: &[u8]) -> usize
+    ensures { result ≤ length ready.now }
+{
+    ready.partition_point(|capsule| capsule.is_before(bytes))
+}
+
+/// The capsule at a place, if the bytes have its code.
+fn with_code_at<'a>(
+    description: &Description,
+    ready: &'a [ReadyCapsule],
+    place: usize,
+    bytes: &[u8],
+) -> Option<&'a ReadyCapsule>
+    requires { All (IsReadyOn description.now) ready.now }
+    ensures { IfSome result (λ capsule. IsReadyOn description.now capsule.now) }
+{
+    let _description = description;
+    match ready.get(place) {
+        Some(capsule) if capsule.has_code(bytes) => Some(capsule),
+        _ => None,
+    }
+}
+
+/// One of the capsules, which are in their order, whose code the bytes have, if there is one: that of these bytes, if it is there.
+pub fn near<'a>(
+    description: &Description,
+    ready: &'a [ReadyCapsule],
+    bytes: &[u8],
+) -> Option<&'a ReadyCapsule>
+    requires { All (IsReadyOn description.now) ready.now }
+    ensures { IfSome result (λ capsule. IsReadyOn description.now capsule.now) }
+{
+    let place = place_among(ready, bytes);
+    match with_code_at(description, ready, place, bytes) {
+        Some(capsule) => Some(capsule),
+        None if place == 0 => None,
+        None => with_code_at(description, ready, place - 1, bytes),
     }
 }

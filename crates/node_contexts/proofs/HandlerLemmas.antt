@@ -9,7 +9,7 @@ use Rattle.std.proofs.lemmas.List.Elements.{All-get_or, All-push}
 use Rattle.arrayvec.specs.ArrayVec.{ArrayVec}
 use Rattle.mate_num.specs.declared.id.HandlerId.{HandlerId}
 use Rattle.node_contexts.specs.declared.handlers.Held.{Held}
-use Rattle.node_contexts.specs.Programs.{held_at, held_either, renewed}
+use Rattle.node_contexts.specs.Programs.{held_at, held_either, renewed, written_over}
 
 pub nothing-held : (programs : List (Option Held)) → All (λ (held : Option Held). held ≡ None) programs → (h : HandlerId) → held_at programs h ≡ None
 nothing-held programs none h = by (cases_lt h.0 (length programs)) where
@@ -87,3 +87,12 @@ either-renew (a ∷ own) [] k x version image within is = absurd (omega arith)
 either-renew (Some a ∷ own) (b ∷ shared) zero x version image within is = refl
 either-renew (None ∷ own) (b ∷ shared) zero x version image within is = let e : Some x ≡ None = is in cc
 either-renew (a ∷ own) (b ∷ shared) (suc k) x version image within is = ap (λ (l : List (Option Held)). option_or a b ∷ l) (either-renew own shared k x version image (omega arith) is)
+
+-- another program takes the place of one of its own
+pub either-replace : (own shared : List (Option Held)) (k : ℕ) (x y : Held) → length own ≤ length shared → Some x ≡ get_or own k None
+    → held_either (set own k (written_over y (get_or own k None))) shared ≡ set (held_either own shared) k (Some y)
+either-replace [] shared k x y within is = let e : Some x ≡ None = is in cc
+either-replace (a ∷ own) [] k x y within is = absurd (omega arith)
+either-replace (Some a ∷ own) (b ∷ shared) zero x y within is = refl
+either-replace (None ∷ own) (b ∷ shared) zero x y within is = let e : Some x ≡ None = is in cc
+either-replace (a ∷ own) (b ∷ shared) (suc k) x y within is = ap (λ (l : List (Option Held)). option_or a b ∷ l) (either-replace own shared k x y (omega arith) is)

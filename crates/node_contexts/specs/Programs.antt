@@ -40,3 +40,8 @@ held_version_in (Some x) = x.version
 abbrev pub renewed : ℕ → ArrayVec ℕ → Option Held → Option Held
 renewed version image None = None
 renewed version image (Some x) = Some (record x { version = version; image = image })
+
+-- another program takes the place of what is held, if anything is
+abbrev pub written_over : Held → Option Held → Option Held
+written_over y None = None
+written_over y (Some x) = Some y

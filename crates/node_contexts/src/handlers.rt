@@ -4,7 +4,7 @@ ghost use Rattle.std.specs.Prelude.{◌≡◌, ◌<◌, ◌≤◌, Some, None, l
 ghost use Rattle.std.specs.Option.{option_copied};
 ghost use Rattle.mate_num.specs.declared.bounds.TheConstants.{IMAGE_MAX};
 ghost use Rattle.mate_num.specs.declared.id.HandlerId.{HandlerId as Handler};
-ghost use Rattle.node_contexts.specs.Programs.{HaveSame, renewed};
+ghost use Rattle.node_contexts.specs.Programs.{HaveSame, renewed, written_over};
 
 use crate::shared::SharedHeld;
 use code_verifier::Verified;
@@ -92,6 +92,11 @@ impl Handlers {
         }
     }
 
+    /// Whether the handler's program is one of the node's own. It is a matter of speed alone: such a program can be changed in place.
+    pub fn is_own(&self, handler: HandlerId) -> bool {
+        own_at(&self.own, usize::from(handler.0)).is_some()
+    }
+
     /// Installs the program in place of the one that was.
     pub fn install(&mut self, handler: HandlerId, held: Held)
         requires { handler.0 < length self.old.programs }
@@ -139,6 +144,21 @@ impl Handlers {
         if let Some(held) = self.get(handler) {
             let held = renewed_copy(held, version, image);
             self.install(handler, held);
+        }
+    }
+
+    /// Installs a copy of the program in place of the one that was, with this version and the image of these bytes. If that one is
+    /// the node's own, the copy is written over it, and no more than it has.
+    pub fn install_copy(&mut self, handler: HandlerId, held: &Held, version: u32, image: &[u8])
+        requires handler { handler.0 < length self.old.programs }
+        requires fits { length image.now ≤ IMAGE_MAX }
+        ensures { self.new.programs ≡ slice_set self.old.programs handler.0
+            (Some (record held.now { version = version; image = record { items = image.now } })) }
+    {
+        let place = usize::from(handler.0);
+        match own_at(&self.own, place) {
+            Some(_) => copy_own(&mut self.own, place, held, version, image),
+            None => self.install(handler, renewed_copy(held, version, image)),
         }
     }
 
@@ -199,6 +219,30 @@ fn renew_own(own: &mut Vec<Option<Held>>, place: usize, version: u32, image: &[u
     if let Some(held) = &mut own[place] {
         held.version = version;
         write_image(&mut held.image, image);
+    }
+}
+
+/// Writes a copy of another program over this one, with this version and the image of these bytes.
+fn write_copy(own: &mut Held, held: &Held, version: u32, image: &[u8])
+    requires { length image.now ≤ IMAGE_MAX }
+    ensures { own.new ≡ record held.now { version = version; image = record { items = image.now } } }
+{
+    own.version = version;
+    write_image(&mut own.image, image);
+    own.code.copy_from(&held.code);
+    own.locks = held.locks;
+}
+
+/// Does so at the place, if a program is there.
+fn copy_own(own: &mut Vec<Option<Held>>, place: usize, held: &Held, version: u32, image: &[u8])
+    requires place { place < vec_len own.old }
+    requires fits { length image.now ≤ IMAGE_MAX }
+    ensures items { own.new.items ≡ slice_set own.old.items place
+        (written_over (record held.now { version = version; image = record { items = image.now } }) (slice_index_or own.old.items place None)) }
+    ensures capacity { vec_capacity own.new ≡ vec_capacity own.old }
+{
+    if let Some(own) = &mut own[place] {
+        write_copy(own, held, version, image);
     }
 }
 

@@ -4,7 +4,7 @@ use Rattle.std.specs.Prelude.{nat_lt, if◌then◌else◌}
 use Rattle.std.proofs.lemmas.Bool.Decides.{nat_tests}
 use Rattle.std.specs.List.{All}
 use Rattle.std.proofs.lemmas.Slice.{drop-put_mid}
-use Rattle.std.proofs.lemmas.List.{take_at, take-replicate, drop-drop, drop-set-add, drop-set-lt, length-take-le, length-drop, set-set, take-take, take_more_set, get_or-take, take-set-le}
+use Rattle.std.proofs.lemmas.List.{length-replicate, take_at, take-replicate, drop-drop, drop-set-add, drop-set-lt, length-take-le, length-drop, set-set, take-take, take_more_set, get_or-take, take-set-le}
 use Rattle.std.proofs.Math.Seq.{take-set-lt}
 use Rattle.std.proofs.lemmas.List.Elements.{All-take}
 use Rattle.arrayvec.specs.ArrayVec.{ArrayVec}
@@ -193,6 +193,16 @@ store_of-new shared buffers few_shared few_buffers =
     ap (λ (xs : List ℤ). record { shared = record { items = xs }; buffers = record { items = rows (take buffers (replicate 8 0)) zeros } }) (take-replicate shared 96 (pos 0) (omega arith))
     ∙ ap (λ (ns : List ℕ). record { shared = record { items = replicate shared (pos 0) }; buffers = record { items = rows ns zeros } }) (take-replicate buffers 8 0 few_buffers)
     ∙ ap (λ (r : List (ArrayVec ℤ)). record { shared = record { items = replicate shared (pos 0) }; buffers = record { items = r } }) (rows-empty buffers zeros)
+
+-- the store of one that begins anew in its place
+pub store_of-restarted : (shared buffers : ℕ) (xs ys : List ℤ) → xs ≡ replicate shared (pos 0) → buffers ≤ 8 → held_store record { shared = shared; buffers = buffers; values = xs ++ ys; lengths = replicate 8 0 } ≡ zero_store shared buffers
+store_of-restarted shared buffers xs ys zeros few_buffers =
+    let behind : List ℤ = drop 16 (xs ++ ys) in
+    let long = ap length zeros in
+    let count = length-replicate shared (pos 0) in
+    ap (λ (zs : List ℤ). record { shared = record { items = zs }; buffers = record { items = rows (take buffers (replicate 8 0)) behind } }) (take_at xs ys shared (omega (arith, long, count)) ∙ zeros)
+    ∙ ap (λ (ns : List ℕ). record { shared = record { items = replicate shared (pos 0) }; buffers = record { items = rows ns behind } }) (take-replicate buffers 8 0 few_buffers)
+    ∙ ap (λ (r : List (ArrayVec ℤ)). record { shared = record { items = replicate shared (pos 0) }; buffers = record { items = r } }) (rows-empty buffers behind)
 
 -- what the calls leave that change a buffer
 module _ {h : Inside} {s : Store} (o : Opened h s) (b : ℕ) (lt : b < length s.buffers.items) where

@@ -60,6 +60,18 @@ impl Heap {
         }
     }
 
+    /// The heap becomes what `new` gives for these numbers. No more of it is written than the variables and the lengths.
+    pub fn restart(&mut self, shared: u8, buffers: u8)
+        requires shared_fits { shared ≤ SHARED_MAX }
+        requires buffers_fit { buffers ≤ BUFFERS_MAX }
+        ensures { self.new ≡ zero_store shared buffers }
+    {
+        self.shared = shared;
+        self.buffers = buffers;
+        self.values[..usize::from(shared)].fill(0);
+        self.lengths = [0; BUFFERS_MAX];
+    }
+
     /// The value of a shared variable.
     pub fn get(&self, var: VarId) -> i16
         requires { var.0 < length self.now.shared.items }
@@ -177,11 +189,14 @@ impl Heap {
         let Ok(shared) = ArrayVec::try_from(self.variables()) else {
             unreachable!()
         };
-        let mut buffers: ArrayVec<Payload, BUFFERS_MAX> = ArrayVec::new();
+        let mut store = Store {
+            shared,
+            buffers: ArrayVec::new(),
+        };
         for buf in 0..self.buffer_count() {
-            buffers.push(self.payload(BufId(buf)));
+            store.buffers.push(self.payload(BufId(buf)));
         }
-        Store { shared, buffers }
+        store
     }
 
     /// How many buffers there are.

@@ -48,7 +48,7 @@ pub fn run_steps(
 {
     let _contexts = desc.contexts();
     let logs = NodeLogs::empty(alloc, 1)?;
-    let mut node = HeapNode::new(alloc, desc)?;
+    let mut node = HeapNode::new(alloc, desc, programs)?;
     let mut events = 0;
     let list = steps.steps();
     for step in list {

@@ -29,7 +29,7 @@ pub fn run_steps_into<S: Sink>(
         (S.faults out.old) (S.faults out.new) result }
     ensures later { S.faults out.old ≤ S.faults out.new }
 {
-    let Ok(mut node) = HeapNode::new(alloc, desc) else {
+    let Ok(mut node) = HeapNode::new(alloc, desc, programs) else {
         return Err(IntoFault::NoMemory(nothing_run(alloc)));
     };
     let Ok(logs) = NodeLogs::empty(alloc, 1) else {

@@ -4,9 +4,8 @@ use Rattle.std.specs.Prelude.{All, insert}
 use Rattle.std.proofs.lemmas.List.Elements.{All-append, All-cons, All-drop, All-nil, All-take}
 use Rattle.vm_desc.specs.declared.description.Description.{Description}
 use Rattle.mate_journal.specs.Machine.{HeldProgram}
-use Rattle.node_calls.specs.Installing.{IsReady}
+use Rattle.node_calls.specs.Installing.{IsReady, IsReadyOn}
 use Rattle.node_calls.specs.declared.ready.ReadyCapsule.{ReadyCapsule}
-use Rattle.open_node.specs.Machines.{IsReadyOn}
 
 -- the bytes that it is ready for are its image
 pub IsReady-on : (d : Description) (bytes : List ℕ) (r : ReadyCapsule) → IsReady d bytes r → IsReadyOn d r
@@ -14,13 +13,6 @@ IsReady-on d bytes r ready =
     let B : List ℕ → Type 0 = λ bs. IsReady d bs r in
     let same : r.program.image.items ≡ bytes = ap (λ (p : HeldProgram). p.image.items) ready.program in
     subst B (sym same) ready
-
--- it stands for its image, and so does each copy
-pub IsReady-copy : (d : Description) (bytes : List ℕ) (r copy : ReadyCapsule) → IsReadyOn d r → r.program.image.items ≡ bytes → copy ≡ r → IsReady d bytes copy
-IsReady-copy d bytes r copy ready same is =
-    let B : List ℕ → Type 0 = λ bs. IsReady d bs r in
-    let C : ReadyCapsule → Type 0 = λ x. IsReady d bytes x in
-    subst C (sym is) (subst B same ready)
 
 -- none, and one more at a place
 pub AreReady-none : (d : Description) (rs : List ReadyCapsule) → rs ≡ [] → All (IsReadyOn d) rs

@@ -66,7 +66,7 @@ impl OpenNode {
             (λ _. Tells self.old self.new at (Pacing (InstallsBytes self.old.description (heard_of self.old) bytes.now)))
             (λ fault. Refuses self.old.description (heard_of self.old) bytes.now fault × (self.new ≡ self.old)) }
     {
-        let ready = self.machine.ready(bytes);
+        let ready = self.machine.ready();
         let description = self.machine.description();
         install_shared(description, &mut self.parts, bytes, ready, at)
     }

@@ -1,12 +1,11 @@
 //! What nodes of one machine share.
 
-ghost use Rattle.std.specs.Prelude.{◌≡◌, ◌≤◌, All, length, IfOk, IfSome, IsTrue, OnOk};
-ghost use Rattle.node_calls.specs.Installing.{IsReady};
-ghost use Rattle.open_node.specs.Machines.{IsReadyOn};
+ghost use Rattle.std.specs.Prelude.{◌≡◌, All, IfOk, OnOk};
+ghost use Rattle.node_calls.specs.Installing.{IsReadyOn};
 
 use mate_journal::Programs;
 use mate_num::NoMemory;
-use node_calls::ReadyCapsule;
+use node_calls::{ReadyCapsule, near, place_among};
 use std::alloc::Global;
 use std::marker::Model;
 use std::rc::Rc;
@@ -15,7 +14,16 @@ use vm_desc::Description;
 /// How many capsules are ready at most. Each takes some 7 KB.
 const READY_MAX: usize = 64;
 
-/// A machine, and capsules that are ready to be installed on its nodes, in the order of their images.
+/// What a capsule that is ready must have in common with another one to stand for it.
+#[derive(Clone, Copy)]
+enum Alike {
+    /// The image.
+    Image,
+    /// The code.
+    Code,
+}
+
+/// A machine, and capsules that are ready to be installed on its nodes, in their order.
 #[derive(Drop)]
 struct Machine {
     description: Description,
@@ -47,7 +55,8 @@ impl SharedMachine {
         SharedMachine::of(alloc, description, Vec::new(alloc))
     }
 
-    /// The machine, with the capsules among the images of the programs: the first `READY_MAX` different ones if there are more.
+    /// The machine, with the capsules among the images of the programs: the first `READY_MAX` different ones if there are more. For
+    /// many nodes, which then hold one copy of each.
     pub fn with_programs(
         alloc: Global,
         description: &Description,
@@ -55,11 +64,21 @@ impl SharedMachine {
     ) -> Result<SharedMachine, NoMemory>
         ensures { IfOk result (λ shared. shared ≡ description.now) }
     {
-        SharedMachine::of(
-            alloc,
-            description,
-            ready_capsules(alloc, description, programs)?,
-        )
+        let ready = ready_capsules(alloc, description, programs, Alike::Image)?;
+        SharedMachine::of(alloc, description, ready)
+    }
+
+    /// The machine, with a capsule for each code of the programs: for the first `READY_MAX` different ones if there are more. For one
+    /// node, which may install each code in many versions.
+    pub fn with_codes(
+        alloc: Global,
+        description: &Description,
+        programs: &Programs,
+    ) -> Result<SharedMachine, NoMemory>
+        ensures { IfOk result (λ shared. shared ≡ description.now) }
+    {
+        let ready = ready_capsules(alloc, description, programs, Alike::Code)?;
+        SharedMachine::of(alloc, description, ready)
     }
 
     fn of(
@@ -96,99 +115,52 @@ impl SharedMachine {
         &self.machine.as_ref().description
     }
 
-    /// The ready capsule that the bytes are, if they are one.
-    pub fn ready(&self, bytes: &[u8]) -> Option<ReadyCapsule>
-        ensures { IfSome result (IsReady self.now bytes.now) }
+    /// The capsules that are ready, in their order.
+    pub fn ready(&self) -> &[ReadyCapsule]
+        ensures { All (IsReadyOn self.now) result.now }
     {
-        let machine = self.machine.as_ref();
-        ready_among(&machine.description, machine.ready.as_slice(), bytes)
+        self.machine.as_ref().ready.as_slice()
     }
 }
 
-/// Whether the bytes are the capsule's image.
-fn is_image(capsule: &ReadyCapsule, bytes: &[u8]) -> bool
-    ensures { IsTrue result → capsule.now.program.image.items ≡ bytes.now }
-{
-    capsule.program.as_held().image.as_slice() == bytes
-}
-
-/// The capsule for one owner more, if the bytes are its image.
-fn ready_if(description: &Description, capsule: &ReadyCapsule, bytes: &[u8]) -> Option<ReadyCapsule>
-    requires { IsReadyOn description.now capsule.now }
-    ensures { IfSome result (IsReady description.now bytes.now) }
-{
-    let _description = description;
-    if !is_image(capsule, bytes) {
-        return None;
-    }
-    match capsule.share() {
-        Ok(shared) => Some(shared),
-        Err(_) => None,
-    }
-}
-
-/// Whether the capsule's image comes before the bytes, in the order of their bytes.
-fn is_before(capsule: &ReadyCapsule, bytes: &[u8]) -> bool {
-    capsule.program.as_held().image.as_slice() < bytes
-}
-
-/// Before which of the capsules, which are in the order of their images, that of the bytes comes.
-fn place_of(ready: &[ReadyCapsule], bytes: &[u8]) -> usize
-    ensures { result ≤ length ready.now }
-{
-    let mut low = 0;
-    let mut high = ready.len();
-    'search: while low < high {
-        let middle = low + (high - low) / 2;
-        if is_before(&ready[middle], bytes) {
-            low = middle + 1;
-        } else {
-            high = middle;
+impl Alike {
+    /// Whether the capsule, whose code the bytes have, can stand for them.
+    fn is_enough(self, capsule: &ReadyCapsule, bytes: &[u8]) -> bool {
+        match self {
+            Alike::Image => capsule.is_image(bytes),
+            Alike::Code => true,
         }
     }
-    low
 }
 
-/// The one of the capsules, which are in the order of their images, whose image the bytes are.
-fn ready_among(
-    description: &Description,
-    ready: &[ReadyCapsule],
-    bytes: &[u8],
-) -> Option<ReadyCapsule>
+/// Whether one of the capsules can stand for the bytes.
+fn is_there(description: &Description, ready: &[ReadyCapsule], alike: Alike, bytes: &[u8]) -> bool
     requires { All (IsReadyOn description.now) ready.now }
-    ensures { IfSome result (IsReady description.now bytes.now) }
 {
-    match ready.get(place_of(ready, bytes)) {
-        Some(capsule) => ready_if(description, capsule, bytes),
-        None => None,
-    }
-}
-
-/// Whether the bytes are the image of the capsule at the place.
-fn is_image_at(ready: &[ReadyCapsule], place: usize, bytes: &[u8]) -> bool {
-    match ready.get(place) {
-        Some(capsule) => is_image(capsule, bytes),
+    match near(description, ready, bytes) {
+        Some(capsule) => alike.is_enough(capsule, bytes),
         None => false,
     }
 }
 
-/// The capsule that the bytes are comes to its place among the others, if they are one and it isn't there.
+/// The capsule that the bytes are comes to its place among the others, if they are one and none that is there can stand for it.
 fn add_ready(
     alloc: Global,
     description: &Description,
     bytes: &[u8],
+    alike: Alike,
     ready: &mut Vec<ReadyCapsule>,
 ) -> Result<(), NoMemory>
     requires { All (IsReadyOn description.now) ready.old.items }
     ensures { OnOk result (All (IsReadyOn description.now) ready.new.items) }
 {
-    let place = place_of(ready.as_slice(), bytes);
-    if is_image_at(ready.as_slice(), place, bytes) {
+    if is_there(description, ready.as_slice(), alike, bytes) {
         return Ok(());
     }
     let Some(capsule) = ReadyCapsule::of(alloc, description, bytes)? else {
         return Ok(());
     };
+    let place = place_among(ready.as_slice(), bytes);
     ready.insert(place, capsule)?;
     Ok(())
 }
@@ -198,6 +170,7 @@ fn ready_capsules(
     alloc: Global,
     description: &Description,
     programs: &Programs,
+    alike: Alike,
 ) -> Result<Vec<ReadyCapsule>, NoMemory>
     ensures { IfOk result (λ ready. All (IsReadyOn description.now) ready.items) }
 {
@@ -206,7 +179,8 @@ fn ready_capsules(
         if ready.len() >= READY_MAX {
             return Ok(ready);
         }
-        add_ready(alloc, description, program.image.as_slice(), &mut ready)?;
+        let image = program.image.as_slice();
+        add_ready(alloc, description, image, alike, &mut ready)?;
     }
     Ok(ready)
 }

@@ -46,7 +46,7 @@ pub fn sum_steps(
 {
     let _contexts = desc.contexts();
     let mut tally = LogTally::new(alloc, desc.handlers.len())?;
-    let mut node = HeapNode::new(alloc, desc)?;
+    let mut node = HeapNode::new(alloc, desc, programs)?;
     let mut events = 0;
     let list = steps.steps();
     for step in list {

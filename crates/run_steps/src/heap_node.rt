@@ -25,7 +25,7 @@ use crate::events::make_step;
 use journal_laws::{LogSize, log_is_in_range_from, stamp_is_in_range};
 use mate_journal::{NodeLog, Programs};
 use mate_num::{NoMemory, Stamp};
-use open_node::OpenNode;
+use open_node::{OpenNode, SharedMachine};
 use report_summary::LogTally;
 use script_reader::Step;
 use std::alloc::Global;
@@ -54,16 +54,18 @@ impl Model for HeapNode {
 }
 
 impl HeapNode {
-    /// A node as `OpenNode::new` makes it.
+    /// A node on which nothing happened. The codes of the programs are ready on it.
     #[inline(never)]
-    pub fn new(alloc: Global, desc: &Description) -> Result<HeapNode, NoMemory>
+    pub fn new(
+        alloc: Global,
+        desc: &Description,
+        programs: &Programs,
+    ) -> Result<HeapNode, NoMemory>
         ensures { IfOk result (IsNewNode desc.now) }
     {
-        match OpenNode::new(alloc, desc) {
-            Ok(node) => match Box::new(alloc, node) {
-                Ok(node) => Ok(HeapNode { node }),
-                Err(_) => Err(NoMemory),
-            },
+        let machine = SharedMachine::with_codes(alloc, desc, programs)?;
+        match Box::new(alloc, OpenNode::on(alloc, machine)?) {
+            Ok(node) => Ok(HeapNode { node }),
             Err(_) => Err(NoMemory),
         }
     }

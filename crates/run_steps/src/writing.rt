@@ -149,7 +149,7 @@ pub fn write_steps<S: Sink>(
         (S.faults out.old) (S.faults out.new) result }
     ensures later { S.faults out.old ≤ S.faults out.new }
 {
-    let Ok(mut node) = HeapNode::new(alloc, desc) else {
+    let Ok(mut node) = HeapNode::new(alloc, desc, programs) else {
         return Err(WriteFault::NoMemory);
     };
     write_run(desc, steps, programs, &mut node, Written::Forgotten, out).result

@@ -1,7 +1,7 @@
 -- What known sources gave.
-use Rattle.std.proofs.Common.{◌≡◌, ◌≤◌, ◌<◌, ◌++◌, ◌∷◌, [], ℕ, Bool, true, false, List, length, get_or, Option, Some, None, Result, Ok, Err, refl, inr, sym, ◌∙◌, subst}
-use Rattle.std.specs.Prelude.{All, IfOk, IsErrAnd, IsSomeAnd, slice_get, if◌then◌else◌}
-use Rattle.std.proofs.lemmas.List.Elements.{All-nil, All-cons, All-append}
+use Rattle.std.proofs.Common.{◌≡◌, ◌≤◌, ◌<◌, ◌∷◌, ℕ, Bool, true, false, List, length, drop, take, get_or, Option, Some, None, Result, Ok, Err, refl, inr, sym, ◌∙◌, subst}
+use Rattle.std.specs.Prelude.{All, IfOk, IsErrAnd, IsSomeAnd, insert, slice_get, if◌then◌else◌}
+use Rattle.std.proofs.lemmas.List.Elements.{All-cons, All-append, All-drop, All-take}
 use Rattle.std.specs.Str.{bytes_eq}
 use Rattle.std.proofs.lemmas.Option.{slice_get_read, slice_get_within}
 use Rattle.std.proofs.lemmas.Slice.Eq.{bytes_eq-Decides}
@@ -75,12 +75,15 @@ known-gives d fold k name bytes place s known at is =
     }
 
 -- one more is known, unless memory was wanting
-pub AreKnown-pushed : (d : Description) (fold : Bool) (name : List ℕ) (k new : List KnownSource) (s : KnownSource) (c : CompiledScript) (b : Bool) → All (IsKnown d fold) k
-    → compiled_bytes d fold name s.bytes.items (Ok c) → 1 ≤ length c.code.items → s.compiled ≡ c → new ≡ (if b then k ++ s ∷ [] else k) → All (IsKnown d fold) new
-AreKnown-pushed d fold name k new s c false known gives filled same is = subst (All (IsKnown d fold)) (sym is) known
-AreKnown-pushed d fold name k new s c true known gives filled same is =
+pub AreKnown-inserted : (d : Description) (fold : Bool) (name : List ℕ) (k new : List KnownSource) (place : ℕ) (s : KnownSource) (bytes : List ℕ) (c : CompiledScript) (b : Bool) → All (IsKnown d fold) k
+    → compiled_bytes d fold name bytes (Ok c) → 1 ≤ length c.code.items → s.bytes.items ≡ bytes → s.compiled ≡ c → new ≡ (if b then insert k place s else k) → All (IsKnown d fold) new
+AreKnown-inserted d fold name k new place s bytes c false known gives filled same_bytes same is = subst (All (IsKnown d fold)) (sym is) known
+AreKnown-inserted d fold name k new place s bytes c true known gives filled same_bytes same is =
+    let of_it : compiled_bytes d fold name s.bytes.items (Ok s.compiled) =
+    subst (λ (bs : List ℕ). compiled_bytes d fold name bs (Ok s.compiled)) (sym same_bytes) (subst (λ (x : CompiledScript). compiled_bytes d fold name bytes (Ok x)) (sym same) gives) in
     let one : IsKnown d fold s = record {
-      gives = λ other. gives-named d fold name other s.bytes.items s.compiled (subst (λ (x : CompiledScript). compiled_bytes d fold name s.bytes.items (Ok x)) (sym same) gives);
+      gives = λ other. gives-named d fold name other s.bytes.items s.compiled of_it;
       filled = subst (λ (x : CompiledScript). 1 ≤ length x.code.items) (sym same) filled;
     } in
-    subst (All (IsKnown d fold)) (sym is) (All-append (IsKnown d fold) k (s ∷ []) known (All-cons (IsKnown d fold) s [] one (All-nil (IsKnown d fold))))
+    let behind = All-cons (IsKnown d fold) s (drop place k) one (All-drop (IsKnown d fold) place k known) in
+    subst (All (IsKnown d fold)) (sym is) (All-append (IsKnown d fold) (take place k) (s ∷ drop place k) (All-take (IsKnown d fold) place k known) behind)

@@ -1,6 +1,6 @@
 //! Sources that were compiled, by their bytes: a script may name one file many times.
 
-ghost use Rattle.std.specs.Prelude.{◌≡◌, ◌≤◌, [], length, IfOk, IfSome, Ok};
+ghost use Rattle.std.specs.Prelude.{◌≡◌, ◌≤◌, [], length, IfOk, IfSome, IsTrue, Ok};
 ghost use Rattle.std.specs.Str.{bytes_eq};
 ghost use Rattle.mate_files.specs.declared.files.TheConstants.{FILE_MAX};
 ghost use Rattle.mate_steps.specs.Parts.{ReadsFiles};
@@ -8,14 +8,17 @@ ghost use Rattle.mate_steps.specs.Sources.{compiled_bytes, source};
 ghost use Rattle.script_programs.specs.Known.{AreKnown, IsKnownAt};
 
 use crate::shared_source::SharedSource;
-use mate_files::Files;
+use mate_files::{FILE_MAX, Files};
 use mate_refusals::Refusal;
 use mate_steps::{compiled_bytes, read_file};
 use std::alloc::Global;
 use vm_desc::Description;
 
-/// How many sources are known at most. If one more comes, the others are forgotten.
-const KNOWN_MAX: usize = 16;
+/// How many sources are known at most. Those that come first are, and each takes some 1,100 bytes beside its own.
+const KNOWN_MAX: usize = 256;
+
+/// How many bytes they have together at most.
+const BYTES_MAX: usize = 16 * FILE_MAX;
 
 /// The bytes of a source, and what they gave.
 #[derive(Drop)]
@@ -24,10 +27,14 @@ pub struct KnownSource {
     compiled: SharedSource,
 }
 
-/// Sources that were compiled for one machine, either all folded before or none.
+/// Sources that were compiled for one machine, either all folded before or none, in the order of `is_before`.
 #[derive(Drop)]
 pub struct KnownSources {
     sources: Vec<KnownSource>,
+    /// How many bytes more they may have.
+    room: usize,
+    /// Where the last one was that was found: in a script that names one file many times it is the next one, too.
+    last: usize,
 }
 
 /// The compiled script of a source with its code, folded before it is compiled if `fold` says so. The file is read;
@@ -58,6 +65,15 @@ fn has_bytes(source: &KnownSource, bytes: &[u8]) -> bool
     source.bytes.as_slice() == bytes
 }
 
+/// Whether the source comes before these bytes: short ones come before long ones.
+fn is_before(source: &KnownSource, bytes: &[u8]) -> bool {
+    if source.bytes.len() == bytes.len() {
+        source.bytes.as_slice() < bytes
+    } else {
+        source.bytes.len() < bytes.len()
+    }
+}
+
 impl KnownSources {
     /// No source is known. It takes no memory.
     pub(crate) fn new(alloc: Global) -> KnownSources
@@ -65,6 +81,8 @@ impl KnownSources {
     {
         KnownSources {
             sources: Vec::new(alloc),
+            room: BYTES_MAX,
+            last: 0,
         }
     }
 
@@ -85,7 +103,11 @@ impl KnownSources {
     {
         let _fold = fold;
         match self.place_of(bytes.as_slice()) {
-            Some(place) => self.sources[place].compiled.share(),
+            Some(place) => {
+                let shared = self.sources[place].compiled.share();
+                self.last = place;
+                shared
+            }
             None => {
                 let compiled = compiled_bytes(alloc, desc, fold, name, bytes.as_slice())?;
                 let shared = SharedSource::new(alloc, compiled)?;
@@ -99,15 +121,37 @@ impl KnownSources {
     fn place_of(&self, bytes: &[u8]) -> Option<usize>
         ensures { IfSome result (IsKnownAt self.now bytes.now) }
     {
-        for place in 0..self.sources.len() {
-            if has_bytes(&self.sources[place], bytes) {
-                return Some(place);
-            }
+        if self.is_at(self.last, bytes) {
+            return Some(self.last);
         }
-        None
+        let place = self.place_for(bytes);
+        if self.is_at(place, bytes) {
+            Some(place)
+        } else {
+            None
+        }
     }
 
-    /// Adds the bytes and what they gave to the known sources, unless memory runs out.
+    /// Whether the source with these bytes is at the place.
+    fn is_at(&self, place: usize, bytes: &[u8]) -> bool
+        ensures { IsTrue result → IsKnownAt self.now bytes.now place }
+    {
+        match self.sources.get(place) {
+            Some(source) => has_bytes(source, bytes),
+            None => false,
+        }
+    }
+
+    /// Before which of the known sources one with these bytes comes.
+    fn place_for(&self, bytes: &[u8]) -> usize
+        ensures { result ≤ length self.now.sources.items }
+    {
+        self.sources
+            .as_slice()
+            .partition_point(|source| is_before(source, bytes))
+    }
+
+    /// Adds the bytes and what they gave to the known sources, if there is room, and unless memory runs out.
     #[inline(never)]
     fn remember(
         &mut self,
@@ -125,11 +169,16 @@ impl KnownSources {
         let _desc = desc;
         let _fold = fold;
         let _name = name;
-        if self.sources.len() >= KNOWN_MAX {
-            self.sources.clear();
+        if self.sources.len() >= KNOWN_MAX || bytes.len() > self.room {
+            return;
         }
-        if let Ok(compiled) = compiled.share() {
-            let _ = self.sources.push(KnownSource { bytes, compiled });
-        }
+        let Ok(compiled) = compiled.share() else {
+            return;
+        };
+        let place = self.place_for(bytes.as_slice());
+        self.room -= bytes.len();
+        let mut bytes = bytes;
+        bytes.shrink_to_fit();
+        let _ = self.sources.insert(place, KnownSource { bytes, compiled });
     }
 }

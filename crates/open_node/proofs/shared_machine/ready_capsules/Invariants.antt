@@ -1,5 +1,5 @@
 use Rattle.std.specs.Prelude.{All}
-use Rattle.open_node.specs.Machines.{IsReadyOn}
+use Rattle.node_calls.specs.Installing.{IsReadyOn}
 use Rattle.open_node.proofs.shared_machine.ready_capsules.Given as goal
 
 abbrev pub invariant-loop-program : goal.invariant-loop-program

@@ -1,8 +1,8 @@
 -- The install, or the same node.
 use Rattle.std.proofs.Common.{sym, subst}
-use Rattle.std.specs.Prelude.{IfSome}
+use Rattle.std.specs.Prelude.{All}
 use Rattle.vm_desc.specs.declared.description.Description.{Description}
-use Rattle.node_calls.specs.Installing.{InstallsBytes, IsReady, Refuses}
+use Rattle.node_calls.specs.Installing.{InstallsBytes, IsReadyOn, Refuses}
 use Rattle.node_invariant.specs.Starting.{Rests}
 use Rattle.open_node.specs.View.{heard_of, Tells}
 use Rattle.open_node.specs.Calls.{Pacing}
@@ -15,7 +15,7 @@ install_shared-requires-clause-rests c = subst (λ (d : Description). Rests d c.
 
 pub install_shared-requires-clause-ready : goal.install_shared-requires-clause-ready
 install_shared-requires-clause-ready c =
-    let P : Description → Type 0 = λ d. IfSome c.ready-ready.result (IsReady d c.args.bytes.now) in
+    let P : Description → Type 0 = λ d. All (IsReadyOn d) c.ready-ready.result.now in
     subst P (sym c.description-description.ensures) c.ready-ready.ensures
 
 pub invariant_of-self : goal.invariant_of-self

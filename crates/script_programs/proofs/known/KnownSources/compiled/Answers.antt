@@ -10,13 +10,13 @@ pub returns-in-Some-clause-does : goal.returns-in-Some-clause-does
 returns-in-Some-clause-does c =
     let at = subst (λ (bs : List ℕ). IsKnownAt c.args.self.now bs c.in-Some.place) c.as_slice.ensures.value c.in-Some.ensures in
     let its = known-gives c.args.desc.now c.args.fold c.args.self.now c.args.name.now c.args.bytes.items c.in-Some.place c.index.result.now c.requires.known at c.index.ensures in
-    gives-obtained c.args.desc.now c.args.fold c.args.name.now c.args.bytes.items c.index.result.now.compiled c.share.result its.gives c.share.ensures
+    gives-obtained c.args.desc.now c.args.fold c.args.name.now c.args.bytes.items c.index.result.now.compiled c.share-shared.result its.gives c.share-shared.ensures
 
 pub returns-in-Some-clause-filled : goal.returns-in-Some-clause-filled
 returns-in-Some-clause-filled c =
     let at = subst (λ (bs : List ℕ). IsKnownAt c.args.self.now bs c.in-Some.place) c.as_slice.ensures.value c.in-Some.ensures in
     let its = known-gives c.args.desc.now c.args.fold c.args.self.now c.args.name.now c.args.bytes.items c.in-Some.place c.index.result.now c.requires.known at c.index.ensures in
-    filled-obtained c.index.result.now.compiled c.share.result its.filled c.share.ensures
+    filled-obtained c.index.result.now.compiled c.share-shared.result its.filled c.share-shared.ensures
 
 pub returns-in_err-compiled-in-None-clause-does : goal.returns-in_err-compiled-in-None-clause-does
 returns-in_err-compiled-in-None-clause-does c =
