@@ -4,7 +4,8 @@
 # opcode table of every machine begins with.
 know_machine() {
     local word rows
-    base_rows=28
+    # the built-in machine has no buffers and no functions
+    base_rows=$("$program" table builtin 2>/dev/null | wc -l)
     handlers=() functions=() senders=() shared=() buffers=()
     mapfile -t handlers < <("$program" node --brief -- "$1" /dev/null 2>/dev/null | sed -n 's/^newest \([^ ]*\) .*/\1/p')
     for word in $("$program" node -- "$1" /dev/null 2>/dev/null | sed -n 's/^.* seen//p'); do

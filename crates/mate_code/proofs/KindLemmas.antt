@@ -1,5 +1,5 @@
 -- A kind's row begins as those of its instructions, and an opcode gives the instruction of its kind.
-use Rattle.std.proofs.Common.{◌≡◌, ℕ, zero, suc, ◌+◌, ltb, Bool, true, false, cond, List, [], ◌∷◌, ◌++◌, length, drop, Option, None, Some, Result, Ok, Err, refl, ap, sym, ◌∙◌}
+use Rattle.std.proofs.Common.{◌≡◌, ℕ, zero, suc, ◌+◌, ltb, Bool, true, false, cond, List, [], ◌∷◌, ◌++◌, length, drop, Option, None, Some, Result, Ok, Err, refl, ap, sym, ◌∙◌, rules}
 use Rattle.std.specs.List.{slice_get}
 use Rattle.mate_code.specs.declared.kind.Kind.{Kind}
 use Rattle.mate_code.specs.declared.kind.OperandForm.{OperandForm}
@@ -52,10 +52,10 @@ both_make (i ∷ is) js [] ls all more = absurd all
 both_make (i ∷ is) js (k ∷ ks) ls all more = (all.0, both_make is js ks ls all.1 more)
 
 base_make : AllMake base_instrs base_kinds
-base_make = (λ n. refl, (λ n. refl, (λ n. refl, (λ n. refl, (λ n. refl, (λ n. refl, (λ n. refl, (λ n. refl, (λ n. refl, (λ n. refl, (λ n. refl, (λ n. refl, (λ n. refl, (λ n. refl, (λ n. refl, (λ n. refl, (λ n. refl, (λ n. refl, (λ n. refl, (λ n. refl, (λ n. refl, (λ n. refl, (λ n. refl, (λ n. refl, (λ n. refl, (λ n. refl, (λ n. refl, (λ n. refl, tt))))))))))))))))))))))))))))
+base_make = search rules
 
 group_make : (buffer : Bool) → AllMake (cond buffer buffer_instrs []) (cond buffer buffer_kinds [])
-group_make true = (λ n. refl, (λ n. refl, (λ n. refl, (λ n. refl, (λ n. refl, (λ n. refl, tt))))))
+group_make true = search rules
 group_make false = tt
 
 function_makes : (f : ℕ) (send : Bool) (n : ℕ) → function_instr f send n ≡ instr_of (function_kind f send) n

@@ -4,6 +4,7 @@ use Rattle.std.specs.List.{slice_get}
 use Rattle.std.specs.Option.{option_map}
 use Rattle.std.proofs.lemmas.Bool.{cases_lt}
 use Rattle.mate_code.specs.declared.kind.Kind.{Kind}
+use Rattle.mate_code.specs.declared.table.TheConstants.{BASE_END, BUFFERS_END}
 use Rattle.mate_code.specs.declared.kind.Kind.TheVariants.{Halt, PushW, PushB, GetS, SetS, GetP, SetP, Add, Sub, Mul, Div, Mod, Neg, Not, And, Or, Eq, Ne, Lt, Gt, Le, Ge, Jz, Jmp, Back, Drop, MsgGet, MsgSize, BGet, BSet, BAdd, BTake, BSize, BClear, Fun, FunBuf}
 use Rattle.mate_code.specs.Table.{Layout, base_kinds, buffer_kinds, function_kind, function_kinds, kind_at, first_function, opcode_of, IsInTable}
 use Rattle.mate_code.proofs.ListLemmas.{slice_get-front, slice_get-back}
@@ -27,12 +28,12 @@ at_function t f send e =
 
 -- a kind that is in the table stands at its opcode
 pub kind_at-opcode_of : (t : Layout) (k : Kind) → IsInTable t k → kind_at t (opcode_of t k) ≡ Some k
-kind_at-opcode_of t BGet h = in_group t 28 BGet h refl
-kind_at-opcode_of t BSet h = in_group t 29 BSet h refl
-kind_at-opcode_of t BAdd h = in_group t 30 BAdd h refl
-kind_at-opcode_of t BTake h = in_group t 31 BTake h refl
-kind_at-opcode_of t BSize h = in_group t 32 BSize h refl
-kind_at-opcode_of t BClear h = in_group t 33 BClear h refl
+kind_at-opcode_of t BGet h = in_group t (opcode_of t BGet) BGet h refl
+kind_at-opcode_of t BSet h = in_group t (opcode_of t BSet) BSet h refl
+kind_at-opcode_of t BAdd h = in_group t (opcode_of t BAdd) BAdd h refl
+kind_at-opcode_of t BTake h = in_group t (opcode_of t BTake) BTake h refl
+kind_at-opcode_of t BSize h = in_group t (opcode_of t BSize) BSize h refl
+kind_at-opcode_of t BClear h = in_group t (opcode_of t BClear) BClear h refl
 kind_at-opcode_of t (Fun f) h = at_function t f.0 false h
 kind_at-opcode_of t (FunBuf f) h = at_function t f.0 true h
 kind_at-opcode_of t _ h = refl
@@ -60,7 +61,7 @@ stands_at t n (x ∷ xs) (suc j) k all e =
 base_stands : (t : Layout) → StandsAt t 0 base_kinds
 base_stands t = search rules
 
-group_stands : (t : Layout) → IsTrue t.buffer → StandsAt t 28 buffer_kinds
+group_stands : (t : Layout) → IsTrue t.buffer → StandsAt t BASE_END buffer_kinds
 group_stands t h = search rules
 
 function_stands : (t : Layout) (f : ℕ) (o : Option Bool) (k : Kind) → slice_get t.sends f ≡ o → option_map (function_kind f) o ≡ Some k → Stands t (first_function t + f) k
@@ -72,23 +73,23 @@ function_stands t f (Some true) k get e =
     let same : FunBuf record { 0 = f } ≡ k = cc in
     subst (λ (y : Kind). Stands t (first_function t + f) y) same (record { opcode = refl; in_table = get })
 
-base_opcode : (t : Layout) (n : ℕ) (k : Kind) → n < 28 → kind_at t n ≡ Some k → Stands t n k
+base_opcode : (t : Layout) (n : ℕ) (k : Kind) → n < BASE_END → kind_at t n ≡ Some k → Stands t n k
 base_opcode t n k low e =
     let all : 0 + n ≡ n = omega arith in
     let there : slice_get base_kinds n ≡ Some k = sym (slice_get-front base_kinds (group_of t.buffer ++ function_kinds 0 t.sends) n low) ∙ e in
     subst (λ (m : ℕ). Stands t m k) all (stands_at t 0 base_kinds n k (base_stands t) there)
 
-group_opcode : (t : Layout) (n : ℕ) (k : Kind) → 28 ≤ n → n < first_function t → kind_at t n ≡ Some k → Stands t n k
+group_opcode : (t : Layout) (n : ℕ) (k : Kind) → BASE_END ≤ n → n < first_function t → kind_at t n ≡ Some k → Stands t n k
 group_opcode t n k low high e =
     let group = group_only t.buffer n low high in
-    let below : n < 34 = group.1 in
+    let below : n < BUFFERS_END = group.1 in
     let buffer : IsTrue t.buffer = group.0 in
-    let there : slice_get buffer_kinds (n - 28) ≡ Some k =
-    sym (slice_get-front buffer_kinds (function_kinds 0 t.sends) (n - 28) (omega arith))
-    ∙ ap (λ (g : List Kind). slice_get (g ++ function_kinds 0 t.sends) (n - 28)) (sym (group_is t.buffer buffer))
+    let there : slice_get buffer_kinds (n - BASE_END) ≡ Some k =
+    sym (slice_get-front buffer_kinds (function_kinds 0 t.sends) (n - BASE_END) (omega arith))
+    ∙ ap (λ (g : List Kind). slice_get (g ++ function_kinds 0 t.sends) (n - BASE_END)) (sym (group_is t.buffer buffer))
     ∙ sym (slice_get-back base_kinds (group_of t.buffer ++ function_kinds 0 t.sends) n low) ∙ e in
-    let all : 28 + (n - 28) ≡ n = omega arith in
-    subst (λ (m : ℕ). Stands t m k) all (stands_at t 28 buffer_kinds (n - 28) k (group_stands t buffer) there)
+    let all : BASE_END + (n - BASE_END) ≡ n = omega arith in
+    subst (λ (m : ℕ). Stands t m k) all (stands_at t BASE_END buffer_kinds (n - BASE_END) k (group_stands t buffer) there)
 
 function_opcode : (t : Layout) (n : ℕ) (k : Kind) → first_function t ≤ n → kind_at t n ≡ Some k → Stands t n k
 function_opcode t n k low e =
@@ -99,7 +100,7 @@ function_opcode t n k low e =
 -- the kind that stands at an opcode is in the table, and has this opcode
 pub opcode_of-kind_at : (t : Layout) (n : ℕ) (k : Kind) → kind_at t n ≡ Some k → Stands t n k
 opcode_of-kind_at t n k e =
-    elim (cases_lt n 28) [
+    elim (cases_lt n BASE_END) [
       | inl low ↦ base_opcode t n k low e
       | inr high ↦ elim (cases_lt n (first_function t)) [
         | inl middle ↦ group_opcode t n k high middle e

@@ -3,6 +3,7 @@
 ghost use Rattle.std.specs.Prelude.{◌≡◌, ◌+◌, ◌≤◌, length, slice_get};
 ghost use Rattle.std.specs.Option.{option_map};
 ghost use Rattle.mate_code.specs.Table.{table_of, opcode_of, kind_at, kinds_of, first_function, function_kind, IsInTable};
+ghost use Rattle.mate_code.specs.declared.table.TheConstants.{BASE_END, OPCODES_MAX};
 
 use crate::kind::Kind;
 use crate::row::Opcode;
@@ -10,8 +11,21 @@ use arrayvec::ArrayVec;
 use mate_num::{FUNCTIONS_MAX, FunId, Shape};
 use std::marker::Model;
 
+/// How many kinds every table has; the opcode of the first one behind them.
+pub const BASE_END: u8 = BASE_KINDS as u8;
+
+/// The opcode of the first kind behind those of buffers, in a table that has them.
+pub const BUFFERS_END: u8 = BASE_END + BUFFER_KINDS as u8;
+
+/// The greatest number of opcodes.
+pub const OPCODES_MAX: usize = BASE_KINDS + BUFFER_KINDS + FUNCTIONS_MAX;
+
+const BASE_KINDS: usize = 28;
+
+const BUFFER_KINDS: usize = 6;
+
 // The kinds that every table has, in the order of their opcodes.
-static BASE: [Kind; 28] = [
+static BASE: [Kind; BASE_KINDS] = [
     Kind::Halt,
     Kind::PushW,
     Kind::PushB,
@@ -43,7 +57,7 @@ static BASE: [Kind; 28] = [
 ];
 
 // The kinds that follow if the machine has a buffer.
-static BUFFER_GROUP: [Kind; 6] = [
+static BUFFER_GROUP: [Kind; BUFFER_KINDS] = [
     Kind::BGet,
     Kind::BSet,
     Kind::BAdd,
@@ -52,8 +66,8 @@ static BUFFER_GROUP: [Kind; 6] = [
     Kind::BClear,
 ];
 
-/// Which kinds of instructions a machine has, and the opcode of each: 28 that each machine has, 6 for buffers if it
-/// has one, and one for each function, in their order.
+/// Which kinds of instructions a machine has, and the opcode of each: those that each machine has, those for buffers if
+/// it has one, and one for each function, in their order.
 #[derive(Drop)]
 pub struct Table {
     // Whether the machine has a buffer.
@@ -87,10 +101,10 @@ impl Table {
         }
     }
 
-    /// How many opcodes the machine has, from 28 to 66.
+    /// How many opcodes the machine has, from `BASE_END` to `OPCODES_MAX`.
     pub fn len(&self) -> usize
         ensures value { result ≡ length (kinds_of self.now) }
-        ensures fits { result ≤ 66 }
+        ensures fits { result ≤ OPCODES_MAX }
     {
         self.first_function() as usize + self.sends.len()
     }
@@ -100,11 +114,11 @@ impl Table {
         ensures { result ≡ kind_at self.now opcode }
     {
         let first = self.first_function();
-        if opcode < 28 {
+        if opcode < BASE_END {
             return Some(BASE[opcode as usize]);
         }
         if opcode < first {
-            return Some(BUFFER_GROUP[opcode as usize - 28]);
+            return Some(BUFFER_GROUP[opcode as usize - BASE_KINDS]);
         }
         self.function_kind(opcode - first)
     }
@@ -134,10 +148,10 @@ impl Table {
     // The opcode of the first function.
     fn first_function(&self) -> u8
         ensures value { result ≡ first_function self.now }
-        ensures least { 28 ≤ result }
-        ensures most { result + length self.now.sends ≤ 66 }
+        ensures least { BASE_END ≤ result }
+        ensures most { result + length self.now.sends ≤ OPCODES_MAX }
     {
         prove!(self.sends.len() <= 32);
-        if self.buffer { 34 } else { 28 }
+        if self.buffer { BUFFERS_END } else { BASE_END }
     }
 }

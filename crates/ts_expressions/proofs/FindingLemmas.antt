@@ -5,10 +5,10 @@ use Rattle.std.specs.declared.alloc.Global.{Global}
 use Rattle.std.specs.declared.boxed.Box.{Box}
 use Rattle.ts_expressions.specs.Boxed.{boxed_tree}
 use Rattle.ts_expressions.specs.Finding.{Found, Made, Joined}
-use Rattle.ts_syntax.specs.Parsing.{Ended, reads, noted_then, Reads, Starts, Lacks, LacksOperator, Takes, StartsOperator, product_sign, sum_sign}
+use Rattle.ts_syntax.specs.Parsing.{Ended, reads, noted_then, Reads, Starts, Lacks, LacksOperator, Takes, StartsOperator}
 use Rattle.ts_syntax.specs.declared.halt.Halt.{Halt}
 use Rattle.ts_syntax.specs.declared.halt.Halt.TheVariants as halt
-use Rattle.ts_syntax.specs.Machine.{Operand, in_product, Product, first_product, in_sum, Sum, sum_due, Inverse, inverse_due, in_compare, in_and, Conjunction, first_and, in_or, in_paren, in_item, in_message, Whole, State, sized, size_opened, size_named, want, want_inverse, expr_due, give, have_product, have_sum, have_inverse, have_and, have}
+use Rattle.ts_syntax.specs.Machine.{Operand, in_product, Product, first_product, in_sum, Sum, sum_due, Inverse, inverse_due, in_compare, in_and, Conjunction, first_and, in_or, in_paren, in_item, in_message, Whole, State, sized, size_opened, size_named, want, want_inverse, expr_due, give, have_product, have_sum, have_inverse, have_and, have, product_sign, sum_sign}
 use Rattle.ts_syntax.proofs.Parts.{starts_shorter}
 use Rattle.ts_syntax.proofs.Turns.{inverse_is_next}
 use Rattle.ts_checked.specs.declared.bin_op.BinOp.{BinOp}

@@ -1,8 +1,8 @@
 //! Expressions, by recursive descent: loops for chains and arguments, recursion for nesting.
 
 ghost use Rattle.std.specs.Prelude.{◌<◌, ◌≤◌, length, IfOk};
-ghost use Rattle.ts_syntax.specs.Machine.{Operand, Product, Sum, Inverse, Conjunction, Whole, want, want_inverse, in_paren, in_item, named, message, sized, size_opened, size_named, first_product, first_and, sum_due, inverse_due, expr_due, give, have_product, have_sum, have_inverse, have_and, have};
-ghost use Rattle.ts_syntax.specs.Parsing.{Reads, Lacks, LacksOperator, product_sign, sum_sign, Caller, called_open, called};
+ghost use Rattle.ts_syntax.specs.Machine.{Operand, Product, Sum, Inverse, Conjunction, Whole, want, want_inverse, in_paren, in_item, named, message, sized, size_opened, size_named, first_product, first_and, sum_due, inverse_due, expr_due, give, have_product, have_sum, have_inverse, have_and, have, product_sign, sum_sign};
+ghost use Rattle.ts_syntax.specs.Parsing.{Reads, Lacks, LacksOperator, Caller, called_open, called};
 ghost use Rattle.ts_expressions.specs.Boxed.{boxed_tree};
 ghost use Rattle.ts_syntax.specs.Seen.{tree_of, trees_of};
 ghost use Rattle.ts_syntax.specs.declared.token.TokenKind.TheVariants as kind;

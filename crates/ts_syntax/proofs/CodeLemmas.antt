@@ -18,4 +18,4 @@ by_code (kind.Num n) h = absurd h
 by_code _ h = refl
 
 pub same_code : (a b : TokenKind) → Holds (is_sign b) → kind_code a ≡ kind_code b → a ≡ b
-same_code a b h e = sym (by_code a (subst (λ n. Holds (nat_lt n 37)) (sym e) h)) ∙ ap kind_at e ∙ by_code b h
+same_code a b h e = sym (by_code a (subst (λ n. Holds (nat_lt n (kind_code (kind.Name [])))) (sym e) h)) ∙ ap kind_at e ∙ by_code b h

@@ -1,7 +1,5 @@
 -- The tokens that lead to a state, and which states the machine comes to.
 use Rattle.std.proofs.Common.{◌≡◌, Bool, true, false, List, [], ◌∷◌, ◌++◌, refl, ◌∙◌, ap}
-use Rattle.ts_checked.specs.declared.bin_op.BinOp.{BinOp}
-use Rattle.ts_checked.specs.declared.bin_op.BinOp.TheVariants as op
 use Rattle.ts_syntax.specs.declared.word.Word.{Word}
 use Rattle.ts_syntax.specs.declared.dialect.Dialect.{Dialect}
 use Rattle.ts_syntax.specs.declared.dialect.Dialect.TheVariants as dialect
@@ -11,9 +9,8 @@ use Rattle.ts_syntax.specs.declared.token.TokenKind.{TokenKind}
 use Rattle.ts_syntax.specs.declared.token.TokenKind.TheVariants as kind
 use Rattle.ts_syntax.specs.Tree.{Trees, no_trees, tree_then, Acts, Procedure}
 use Rattle.ts_syntax.specs.Spelling.{sign, name, spelled, step_spelled, act_spelled, acts_spelled, decl_keyword, decl_start, decl_end, decls_spelled, params_spelled, procedures_spelled}
-use Rattle.ts_syntax.specs.Derived.{Derived, ArgsDerived, ActDerived, ActsDerived, DeclsDerived, ProceduresDerived}
-use Rattle.ts_syntax.specs.Parsing.{Holds}
-use Rattle.ts_syntax.proofs.Levels.{at_and, at_not, at_sum, at_product, at_sign, IsPart}
+use Rattle.ts_syntax.specs.Derived.{levels_of, Derived, ArgsDerived, ActDerived, ActsDerived, DeclsDerived, ProceduresDerived}
+use Rattle.ts_syntax.proofs.Levels.{at_and, at_not, at_compare, at_sum, at_product, at_sign, IsPart}
 use Rattle.ts_syntax.specs.Machine.{Frame, top, main, proc_part, then_part, else_part, for_part, while_part, Operand, in_negative, first_product, in_product, Product, first_sum, in_sum, Sum, first_compare, in_compare, Inverse, in_inverse, first_and, in_and, Conjunction, first_or, in_or, Whole, in_paren, in_item, in_message, in_args, in_set, in_index, in_set_item, in_append, in_call, in_if, in_from, in_to, in_while, in_do, State, decls, decl_name, decl_more, procedures, proc_word, proc_named, proc_opened, param_read, param_due, proc_ended, want, want_inverse, named, opened, sized, size_opened, size_named, message, have_product, have_sum, have_inverse, have_and, have, block, stmt_named, set_to, set_named, set_boxed, set_taken, boxed, append_to, item_indexed, call_opened, cleared, clear_opened, clear_named, closed, for_word, for_named, stepped, step_signed, nexted, if_ended, while_ended, do_word, do_named, do_opened}
 
 -- ---- the tokens
@@ -161,26 +158,6 @@ past (do_opened w a f) = past_block a f ++ (kind.Do ∷ name w ∷ kind.Open ∷
 
 -- ---- the states that the machine comes to in a dialect: their trees are derived, each at its level
 
-abbrev pub multiplies : BinOp → Bool
-multiplies op.Mul = true
-multiplies op.Div = true
-multiplies op.Rem = true
-multiplies o = false
-
-abbrev pub adds : BinOp → Bool
-adds op.Add = true
-adds op.Sub = true
-adds o = false
-
-abbrev pub compares : BinOp → Bool
-compares op.Eq = true
-compares op.Ne = true
-compares op.Lt = true
-compares op.Gt = true
-compares op.Le = true
-compares op.Ge = true
-compares o = false
-
 abbrev pub fine_procedures : Dialect → List Decl → List Procedure → Type 0
 fine_procedures d ds ps = (d ≡ dialect.Procedures) × DeclsDerived ds × ProceduresDerived ps
 
@@ -200,15 +177,15 @@ abbrev mutual
   pub fine_operand : Dialect → Operand → Type 0
   fine_operand d (in_negative k) = fine_operand d k
   fine_operand d (first_product k) = fine_product d k
-  fine_operand d (in_product o l k) = Holds (multiplies o) × IsPart at_product l × Derived l × fine_product d k
+  fine_operand d (in_product o l k) = (levels_of o ≡ (at_product, at_product, at_sign)) × IsPart at_product l × Derived l × fine_product d k
 
   pub fine_product : Dialect → Product → Type 0
   fine_product d (first_sum k) = fine_sum d k
-  fine_product d (in_sum o l k) = Holds (adds o) × IsPart at_sum l × Derived l × fine_sum d k
+  fine_product d (in_sum o l k) = (levels_of o ≡ (at_sum, at_sum, at_product)) × IsPart at_sum l × Derived l × fine_sum d k
 
   pub fine_sum : Dialect → Sum → Type 0
   fine_sum d (first_compare k) = fine_inverse d k
-  fine_sum d (in_compare o l k) = Holds (compares o) × IsPart at_sum l × Derived l × fine_inverse d k
+  fine_sum d (in_compare o l k) = (levels_of o ≡ (at_compare, at_sum, at_sum)) × IsPart at_sum l × Derived l × fine_inverse d k
 
   pub fine_inverse : Dialect → Inverse → Type 0
   fine_inverse d (in_inverse k) = fine_inverse d k

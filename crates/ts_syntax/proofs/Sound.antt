@@ -1,5 +1,5 @@
 -- What the machine reads is derived, and spells the tokens that it read.
-use Rattle.std.proofs.Common.{◌≡◌, ◌⊎◌, inl, inr, ℕ, Bool, true, false, List, [], ◌∷◌, ◌++◌, Option, Some, None, refl, sym, ◌∙◌, ap, subst, append_assoc, append-nil, arith}
+use Rattle.std.proofs.Common.{◌≡◌, ◌⊎◌, inl, inr, ℕ, ◌≤◌, Bool, true, false, List, [], ◌∷◌, ◌++◌, Option, Some, None, refl, sym, ◌∙◌, ap, subst, append_assoc, append-nil, arith}
 use Rattle.ts_checked.specs.declared.bin_op.BinOp.{BinOp}
 use Rattle.ts_checked.specs.declared.bin_op.BinOp.TheVariants as op
 use Rattle.ts_syntax.specs.declared.word.Word.{Word}
@@ -11,11 +11,10 @@ use Rattle.ts_syntax.specs.declared.token.TokenKind.{TokenKind}
 use Rattle.ts_syntax.specs.declared.token.TokenKind.TheVariants as kind
 use Rattle.ts_syntax.specs.Tree.{Tree, number, variable, item, message_item, call, negative, inverse, two, paren, Trees, no_trees, tree_then, Act, set, set_item, append, take_last, call_alone, if_then, if_else, for_next, while_do, run_procedure, Acts, no_acts, act_then, Procedure}
 use Rattle.ts_syntax.specs.Spelling.{sign, name, spelled, args_spelled, more_spelled, minus_spelled, step_spelled, act_spelled, acts_spelled, decl_keyword, decl_start, decl_end, decls_gap, decls_spelled, params_spelled, other_params_spelled, procedure_spelled, procedures_spelled}
-use Rattle.ts_syntax.specs.Derived.{Derived, ArgsDerived, ActDerived, ActsDerived, RunDerived, NamesFollow, DeclsDerived, ProceduresDerived}
-use Rattle.ts_syntax.specs.Parsing.{Holds}
-use Rattle.ts_syntax.proofs.Levels.{at_and, at_not, at_sum, at_product, at_sign, IsPart}
+use Rattle.ts_syntax.specs.Derived.{levels_of, level, Derived, ArgsDerived, ActDerived, ActsDerived, RunDerived, NamesFollow, DeclsDerived, ProceduresDerived}
+use Rattle.ts_syntax.proofs.Levels.{at_and, at_not, at_compare, at_sum, at_product, at_sign, IsPart}
 use Rattle.ts_syntax.specs.Machine.{Frame, top, main, proc_part, then_part, else_part, for_part, while_part, Operand, in_negative, first_product, in_product, Product, first_sum, in_sum, Sum, first_compare, in_compare, Inverse, in_inverse, first_and, in_and, Conjunction, first_or, in_or, Whole, in_paren, in_item, in_message, in_args, in_set, in_index, in_set_item, in_append, in_call, in_if, in_from, in_to, in_while, in_do, State, decls, decl_name, decl_more, procedures, proc_word, proc_named, proc_opened, param_read, param_due, proc_ended, want, want_inverse, named, opened, sized, size_opened, size_named, message, have_product, have_sum, have_inverse, have_and, have, block, stmt_named, set_to, set_named, set_boxed, set_taken, boxed, append_to, item_indexed, call_opened, cleared, clear_opened, clear_named, closed, for_word, for_named, stepped, step_signed, nexted, if_ended, while_ended, do_word, do_named, do_opened, with_tree, with_act, word, due, inverse_due, declared, give, dialect_of, step, step_frame, step_do, step_block, step_whole, step_have, give_and, step_and, give_inverse, step_compare, give_sum, step_sum, give_product, step_product, step_given, step_want, step_want_inverse, step_named, step_opened, step_size, step_eq, step_open, step_close, step_open_box, step_semi, step_if, step_while, step_proc, step_name, step_stmt, step_set, step_set_named, step_set_boxed, step_boxed, step_call, step_run, step_signed_by, step_stepped, step_procedures, step_declared, step_proc_opened, step_param_read, step_decls, step_decl_more}
-use Rattle.ts_syntax.proofs.Past.{past_procedures, past_frame, params_open, past_block, args_open, past_operand, past_product, past_sum, past_inverse, past_and, past_whole, names_open, decls_open, past_name, without_last, drops, past, multiplies, adds, compares, fine_procedures, fine_frame, fine_block, fine_operand, fine_product, fine_sum, fine_inverse, fine_and, fine_whole, Last, fine_name, Lacks, Fine}
+use Rattle.ts_syntax.proofs.Past.{past_procedures, past_frame, params_open, past_block, args_open, past_operand, past_product, past_sum, past_inverse, past_and, past_whole, names_open, decls_open, past_name, without_last, drops, past, fine_procedures, fine_frame, fine_block, fine_operand, fine_product, fine_sum, fine_inverse, fine_and, fine_whole, Last, fine_name, Lacks, Fine}
 
 -- the state is one that the machine comes to, by these tokens
 pub record Kept (lang : Dialect) (ms : List TokenKind) (q : State) : Type 0 where
@@ -65,32 +64,17 @@ module _ (lang : Dialect) where
 
   -- ---- operators
 
-  multiplied : (o : BinOp) (l e : Tree) → Holds (multiplies o) → IsPart at_product l → Derived l → IsPart at_sign e → Derived e → IsPart at_product (two o l e) × Derived (two o l e)
-  multiplied op.Mul l e h a b c d = (omega arith, (a, b, c, d))
-  multiplied op.Div l e h a b c d = (omega arith, (a, b, c, d))
-  multiplied op.Rem l e h a b c d = (omega arith, (a, b, c, d))
-  multiplied o l e h a b c d = absurd h
-
-  added : (o : BinOp) (l e : Tree) → Holds (adds o) → IsPart at_sum l → Derived l → IsPart at_product e → Derived e → IsPart at_sum (two o l e) × Derived (two o l e)
-  added op.Add l e h a b c d = (omega arith, (a, b, c, d))
-  added op.Sub l e h a b c d = (omega arith, (a, b, c, d))
-  added o l e h a b c d = absurd h
-
-  compared : (o : BinOp) (l e : Tree) → Holds (compares o) → IsPart at_sum l → Derived l → IsPart at_sum e → Derived e → IsPart at_not (two o l e) × Derived (two o l e)
-  compared op.Eq l e h a b c d = (omega arith, (a, b, c, d))
-  compared op.Ne l e h a b c d = (omega arith, (a, b, c, d))
-  compared op.Lt l e h a b c d = (omega arith, (a, b, c, d))
-  compared op.Gt l e h a b c d = (omega arith, (a, b, c, d))
-  compared op.Le l e h a b c d = (omega arith, (a, b, c, d))
-  compared op.Ge l e h a b c d = (omega arith, (a, b, c, d))
-  compared o l e h a b c d = absurd h
+  -- an operator of these levels, between operands that are tight enough
+  between : (o : BinOp) (n m k : ℕ) (l e : Tree) → levels_of o ≡ (n, m, k) → IsPart m l → Derived l → IsPart k e → Derived e → IsPart n (two o l e) × Derived (two o l e)
+  between o n m k l e are a b c d =
+      subst (λ (by : ℕ × ℕ × ℕ). (n ≤ by.0) × ((by.1 ≤ level l) × Derived l × (by.2 ≤ level e) × Derived e)) (sym are) (omega arith, (a, b, c, d))
 
   -- an operand that was read
   given : (k : Operand) (e : Tree) (ms : List TokenKind) → fine_operand lang k → IsPart at_sign e → Derived e → past_operand k ++ spelled e ≡ ms → Kept lang ms (give k e)
   given (in_negative k) e ms f h d p = given k (negative e) ms f (omega arith) (h, d) (sym (append_assoc (past_operand k) (kind.Minus ∷ []) (spelled e)) ∙ p)
   given (first_product k) e ms f h d p = record { fine = (omega arith, d, f); past = p }
   given (in_product o l k) e ms f h d p =
-      let m = multiplied o l e f.0 f.1 f.2 h d in
+      let m = between o at_product at_product at_sign l e f.0 f.1 f.2 h d in
       record { fine = (m.0, m.1, f.3); past = simp append_assoc at p }
 
   -- ---- each turn, from the loosest level to the tightest
@@ -226,39 +210,39 @@ module _ (lang : Dialect) where
       again (step_and (two op.And l e) k m p) (moves_and (two op.And l e) k m p (omega arith) (h.0, h.1, i, d) h.2) (chained_to (past_and k) (spelled l) (spelled e) kind.And m)
 
   -- the first comparison of a sum
-  compare_kept : (o : BinOp) (e : Tree) (k : Inverse) → Holds (compares o) → IsPart at_sum e → Derived e → fine_inverse lang k → Kept lang ((past_inverse k ++ spelled e) ++ sign o ∷ []) (want (first_product (first_sum (in_compare o e k))))
+  compare_kept : (o : BinOp) (e : Tree) (k : Inverse) → levels_of o ≡ (at_compare, at_sum, at_sum) → IsPart at_sum e → Derived e → fine_inverse lang k → Kept lang ((past_inverse k ++ spelled e) ++ sign o ∷ []) (want (first_product (first_sum (in_compare o e k))))
   compare_kept o e k c i d h = record { fine = (c, i, d, h); past = sym (append_assoc (past_inverse k) (spelled e) (sign o ∷ [])) }
 
   moves_compare : (e : Tree) (k : Inverse) (m : TokenKind) (p : ℕ) → IsPart at_sum e → Derived e → fine_inverse lang k → Keeps lang ((past_inverse k ++ spelled e) ++ m ∷ []) (step_compare e k m p)
-  moves_compare e k kind.Eq p i d h = compare_kept op.Eq e k tt i d h
-  moves_compare e k kind.Ne p i d h = compare_kept op.Ne e k tt i d h
-  moves_compare e k kind.Lt p i d h = compare_kept op.Lt e k tt i d h
-  moves_compare e k kind.Gt p i d h = compare_kept op.Gt e k tt i d h
-  moves_compare e k kind.Le p i d h = compare_kept op.Le e k tt i d h
-  moves_compare e k kind.Ge p i d h = compare_kept op.Ge e k tt i d h
+  moves_compare e k kind.Eq p i d h = compare_kept op.Eq e k refl i d h
+  moves_compare e k kind.Ne p i d h = compare_kept op.Ne e k refl i d h
+  moves_compare e k kind.Lt p i d h = compare_kept op.Lt e k refl i d h
+  moves_compare e k kind.Gt p i d h = compare_kept op.Gt e k refl i d h
+  moves_compare e k kind.Le p i d h = compare_kept op.Le e k refl i d h
+  moves_compare e k kind.Ge p i d h = compare_kept op.Ge e k refl i d h
   moves_compare e k m p i d h = moves_inverse e k m p (omega arith) d h
 
   moves_give_sum : (e : Tree) (k : Sum) (m : TokenKind) (p : ℕ) → IsPart at_sum e → Derived e → fine_sum lang k → Keeps lang ((past_sum k ++ spelled e) ++ m ∷ []) (give_sum e k m p)
   moves_give_sum e (first_compare k) m p i d h = moves_compare e k m p i d h
   moves_give_sum e (in_compare o l k) m p i d h =
-      let c = compared o l e h.0 h.1 h.2 i d in
-      again (give_inverse (two o l e) k m p) (moves_inverse (two o l e) k m p c.0 c.1 h.3) (chained_to (past_inverse k) (spelled l) (spelled e) (sign o) m)
+      let c = between o at_compare at_sum at_sum l e h.0 h.1 h.2 i d in
+      again (give_inverse (two o l e) k m p) (moves_inverse (two o l e) k m p (omega (arith, c.0)) c.1 h.3) (chained_to (past_inverse k) (spelled l) (spelled e) (sign o) m)
 
   moves_sum : (e : Tree) (k : Sum) (m : TokenKind) (p : ℕ) → IsPart at_sum e → Derived e → fine_sum lang k → Keeps lang ((past_sum k ++ spelled e) ++ m ∷ []) (step_sum e k m p)
-  moves_sum e k kind.Plus p i d h = record { fine = (tt, i, d, h); past = sym (append_assoc (past_sum k) (spelled e) (kind.Plus ∷ [])) }
-  moves_sum e k kind.Minus p i d h = record { fine = (tt, i, d, h); past = sym (append_assoc (past_sum k) (spelled e) (kind.Minus ∷ [])) }
+  moves_sum e k kind.Plus p i d h = record { fine = (refl, i, d, h); past = sym (append_assoc (past_sum k) (spelled e) (kind.Plus ∷ [])) }
+  moves_sum e k kind.Minus p i d h = record { fine = (refl, i, d, h); past = sym (append_assoc (past_sum k) (spelled e) (kind.Minus ∷ [])) }
   moves_sum e k m p i d h = moves_give_sum e k m p i d h
 
   moves_give_product : (e : Tree) (k : Product) (m : TokenKind) (p : ℕ) → IsPart at_product e → Derived e → fine_product lang k → Keeps lang ((past_product k ++ spelled e) ++ m ∷ []) (give_product e k m p)
   moves_give_product e (first_sum k) m p i d h = moves_sum e k m p (omega arith) d h
   moves_give_product e (in_sum o l k) m p i d h =
-      let c = added o l e h.0 h.1 h.2 i d in
+      let c = between o at_sum at_sum at_product l e h.0 h.1 h.2 i d in
       again (step_sum (two o l e) k m p) (moves_sum (two o l e) k m p c.0 c.1 h.3) (chained_to (past_sum k) (spelled l) (spelled e) (sign o) m)
 
   moves_product : (e : Tree) (k : Product) (m : TokenKind) (p : ℕ) → IsPart at_product e → Derived e → fine_product lang k → Keeps lang ((past_product k ++ spelled e) ++ m ∷ []) (step_product e k m p)
-  moves_product e k kind.Star p i d h = record { fine = (tt, i, d, h); past = sym (append_assoc (past_product k) (spelled e) (kind.Star ∷ [])) }
-  moves_product e k kind.Slash p i d h = record { fine = (tt, i, d, h); past = sym (append_assoc (past_product k) (spelled e) (kind.Slash ∷ [])) }
-  moves_product e k kind.Percent p i d h = record { fine = (tt, i, d, h); past = sym (append_assoc (past_product k) (spelled e) (kind.Percent ∷ [])) }
+  moves_product e k kind.Star p i d h = record { fine = (refl, i, d, h); past = sym (append_assoc (past_product k) (spelled e) (kind.Star ∷ [])) }
+  moves_product e k kind.Slash p i d h = record { fine = (refl, i, d, h); past = sym (append_assoc (past_product k) (spelled e) (kind.Slash ∷ [])) }
+  moves_product e k kind.Percent p i d h = record { fine = (refl, i, d, h); past = sym (append_assoc (past_product k) (spelled e) (kind.Percent ∷ [])) }
   moves_product e k m p i d h = moves_give_product e k m p i d h
 
   moves_given : (k : Operand) (e : Tree) (m : TokenKind) (p : ℕ) → IsPart at_sign e → Derived e → fine_operand lang k → Keeps lang ((past_operand k ++ spelled e) ++ m ∷ []) (step_given k e m p)
@@ -266,7 +250,7 @@ module _ (lang : Dialect) where
       again (step_given k (negative e) m p) (moves_given k (negative e) m p (omega arith) (i, d) h) (ap (λ z. z ++ m ∷ []) (sym (append_assoc (past_operand k) (kind.Minus ∷ []) (spelled e))))
   moves_given (first_product k) e m p i d h = moves_product e k m p (omega arith) d h
   moves_given (in_product o l k) e m p i d h =
-      let c = multiplied o l e h.0 h.1 h.2 i d in
+      let c = between o at_product at_product at_sign l e h.0 h.1 h.2 i d in
       again (step_product (two o l e) k m p) (moves_product (two o l e) k m p c.0 c.1 h.3) (chained_to (past_product k) (spelled l) (spelled e) (sign o) m)
 
   moves_want : (k : Operand) (m : TokenKind) (p : ℕ) → fine_operand lang k → Keeps lang (past_operand k ++ m ∷ []) (step_want k m p)

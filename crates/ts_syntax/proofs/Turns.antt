@@ -1,39 +1,41 @@
 -- When the machine goes from one level of an expression to a looser one, and where an expression begins.
 use Rattle.std.proofs.Common.{◌≡◌, ℕ, Bool, true, false, List, [], ◌∷◌, Option, Some, None, refl, sym, ◌∙◌, ap}
+use Rattle.ts_checked.specs.declared.bin_op.BinOp.{BinOp}
 use Rattle.ts_checked.specs.declared.bin_op.BinOp.TheVariants as op
 use Rattle.ts_syntax.specs.declared.word.Word.{Word}
 use Rattle.ts_syntax.specs.declared.token.TokenKind.{TokenKind}
 use Rattle.ts_syntax.specs.declared.token.TokenKind.TheVariants as kind
 use Rattle.ts_syntax.specs.Tree.{Tree, variable, inverse, negative, two, no_trees, Acts}
 use Rattle.ts_syntax.specs.Parsing.{Holds}
-use Rattle.ts_syntax.specs.Machine.{Frame, Operand, in_negative, first_product, in_product, Product, first_sum, in_sum, Sum, first_compare, in_compare, Inverse, in_inverse, first_and, in_and, Conjunction, first_or, in_or, in_args, in_index, in_call, in_do, State, want, want_inverse, named, opened, have_product, have_sum, have_inverse, have_and, have, boxed, call_opened, do_opened, expr_due, inverse_due, give, step_given, step, wants_size, takes, places_after, first_place, finish, Outcome, ending, going, run}
-use Rattle.std.proofs.Common.{None}
+use Rattle.ts_syntax.specs.Machine.{Frame, Operand, in_negative, first_product, in_product, Product, first_sum, in_sum, Sum, first_compare, in_compare, Inverse, in_inverse, first_and, in_and, Conjunction, first_or, in_or, in_args, in_index, in_call, in_do, State, want, want_inverse, named, opened, have_product, have_sum, have_inverse, have_and, have, boxed, call_opened, do_opened, expr_due, inverse_due, give, product_sign, sum_sign, comparison_sign, lengthened, give_inverse, step_compare, give_sum, give_product, step_given, sum_due, step, wants_size, takes, places_after, first_place, finish, Outcome, ending, going, run}
 
--- tokens that lengthen an operand, a product, a sum, an inverse and a conjunction
+-- there is no operator, and the test holds
+abbrev pub unless : Option BinOp → Bool → Bool
+unless (Some o) test = false
+unless None test = test
+
+unless_then : (o : Option BinOp) (test : Bool) → Holds (unless o test) → Holds test
+unless_then (Some o) test h = absurd h
+unless_then None test h = h
+
+unless_none : (o : Option BinOp) (test : Bool) → Holds (unless o test) → o ≡ None
+unless_none (Some o) test h = absurd h
+unless_none None test h = refl
+
+-- tokens that lengthen no operand, product, sum, inverse and conjunction
 abbrev pub after_operand : TokenKind → Bool
 after_operand kind.Open = false
 after_operand kind.OpenBox = false
 after_operand m = true
 
 abbrev pub after_product : TokenKind → Bool
-after_product kind.Star = false
-after_product kind.Slash = false
-after_product kind.Percent = false
-after_product m = after_operand m
+after_product m = unless (product_sign m) (after_operand m)
 
 abbrev pub after_sum : TokenKind → Bool
-after_sum kind.Plus = false
-after_sum kind.Minus = false
-after_sum m = after_product m
+after_sum m = unless (sum_sign m) (after_product m)
 
 abbrev pub after_inverse : TokenKind → Bool
-after_inverse kind.Eq = false
-after_inverse kind.Ne = false
-after_inverse kind.Lt = false
-after_inverse kind.Gt = false
-after_inverse kind.Le = false
-after_inverse kind.Ge = false
-after_inverse m = after_sum m
+after_inverse m = unless (comparison_sign m) (after_sum m)
 
 abbrev pub after_and : TokenKind → Bool
 after_and kind.And = false
@@ -45,24 +47,13 @@ inverse_follows_and kind.And h = tt
 inverse_follows_and m h = h
 
 pub sum_follows_inverse : (m : TokenKind) → Holds (after_inverse m) → Holds (after_sum m)
-sum_follows_inverse kind.Eq h = tt
-sum_follows_inverse kind.Ne h = tt
-sum_follows_inverse kind.Lt h = tt
-sum_follows_inverse kind.Gt h = tt
-sum_follows_inverse kind.Le h = tt
-sum_follows_inverse kind.Ge h = tt
-sum_follows_inverse m h = h
+sum_follows_inverse m h = unless_then (comparison_sign m) (after_sum m) h
 
 pub product_follows_sum : (m : TokenKind) → Holds (after_sum m) → Holds (after_product m)
-product_follows_sum kind.Plus h = tt
-product_follows_sum kind.Minus h = tt
-product_follows_sum m h = h
+product_follows_sum m h = unless_then (sum_sign m) (after_product m) h
 
 pub operand_follows_product : (m : TokenKind) → Holds (after_product m) → Holds (after_operand m)
-operand_follows_product kind.Star h = tt
-operand_follows_product kind.Slash h = tt
-operand_follows_product kind.Percent h = tt
-operand_follows_product m h = h
+operand_follows_product m h = unless_then (product_sign m) (after_operand m) h
 
 -- two states that take the next token alike read the rest alike
 takes_alike : (q r : State) → wants_size q ≡ wants_size r → (m : TokenKind) → takes q m ≡ takes r m
@@ -108,36 +99,38 @@ abbrev pub summed : Tree → Product → State
 summed e (first_sum k) = have_sum e k
 summed e (in_sum o l k) = have_sum (two o l e) k
 
-summed_step : (e : Tree) (k : Product) (m : TokenKind) → Holds (after_product m) → (p : ℕ) → step (have_product e k) m p ≡ step (summed e k) m p
-summed_step e k kind.Star h p = absurd h
-summed_step e k kind.Slash h p = absurd h
-summed_step e k kind.Percent h p = absurd h
-summed_step e (first_sum k) m h p = refl
-summed_step e (in_sum o l k) m h p = refl
+pub summed_step : (e : Tree) (k : Product) (m : TokenKind) → product_sign m ≡ None → (p : ℕ) → step (have_product e k) m p ≡ step (summed e k) m p
+summed_step e k m none p = ap (λ (s : Option BinOp). lengthened s (λ o. want (in_product o e k)) (give_product e k m p)) none ∙ given k
+  where
+    given : (k : Product) → give_product e k m p ≡ step (summed e k) m p
+    given (first_sum k) = refl
+    given (in_sum o l k) = refl
 
 pub summed_size : (e : Tree) (k : Product) → false ≡ wants_size (summed e k)
 summed_size e (first_sum k) = refl
 summed_size e (in_sum o l k) = refl
 
 pub product_is_sum : (e : Tree) (k : Product) (m : TokenKind) → Holds (after_product m) → (ms : List TokenKind) (ps : List ℕ) → run (m ∷ ms) ps (have_product e k) ≡ run (m ∷ ms) ps (summed e k)
-product_is_sum e k m h ms ps = turn_alike (have_product e k) (summed e k) m (summed_step e k m h) (summed_size e k) ms ps
+product_is_sum e k m h ms ps = turn_alike (have_product e k) (summed e k) m (summed_step e k m (unless_none (product_sign m) (after_operand m) h)) (summed_size e k) ms ps
 
 -- a whole sum is a comparison
 abbrev pub compared : Tree → Sum → State
 compared e (first_compare k) = have_inverse e k
 compared e (in_compare o l k) = have_inverse (two o l e) k
 
+-- a sum that no sign lengthens
+pub sum_step : (e : Tree) (k : Sum) (m : TokenKind) → sum_sign m ≡ None → (p : ℕ) → step (have_sum e k) m p ≡ give_sum e k m p
+sum_step e k m none p = ap (λ (s : Option BinOp). lengthened s (λ o. want (first_product (in_sum o e k))) (give_sum e k m p)) none
+
+pub compare_step : (e : Tree) (k : Inverse) (m : TokenKind) → comparison_sign m ≡ None → (p : ℕ) → step_compare e k m p ≡ give_inverse e k m p
+compare_step e k m none p = ap (λ (s : Option BinOp). lengthened s (λ o. want (sum_due (in_compare o e k))) (give_inverse e k m p)) none
+
 compared_step : (e : Tree) (k : Sum) (m : TokenKind) → Holds (after_inverse m) → (p : ℕ) → step (have_sum e k) m p ≡ step (compared e k) m p
-compared_step e k kind.Plus h p = absurd h
-compared_step e k kind.Minus h p = absurd h
-compared_step e k kind.Eq h p = absurd h
-compared_step e k kind.Ne h p = absurd h
-compared_step e k kind.Lt h p = absurd h
-compared_step e k kind.Gt h p = absurd h
-compared_step e k kind.Le h p = absurd h
-compared_step e k kind.Ge h p = absurd h
-compared_step e (first_compare k) m h p = refl
-compared_step e (in_compare o l k) m h p = refl
+compared_step e k m h p = sum_step e k m (unless_none (sum_sign m) (after_product m) (sum_follows_inverse m h)) p ∙ given k
+  where
+    given : (k : Sum) → give_sum e k m p ≡ step (compared e k) m p
+    given (first_compare k) = compare_step e k m (unless_none (comparison_sign m) (after_sum m) h) p
+    given (in_compare o l k) = refl
 
 pub compared_size : (e : Tree) (k : Sum) → false ≡ wants_size (compared e k)
 compared_size e (first_compare k) = refl

@@ -1,5 +1,5 @@
 -- Numbers for the kinds of tokens: each sign and keyword has its own.
-use Rattle.std.specs.Prelude.{ℕ, Bool, nat_lt}
+use Rattle.std.specs.Prelude.{ℕ, Bool, nat_lt, []}
 use Rattle.ts_syntax.specs.declared.token.TokenKind.{TokenKind}
 use Rattle.ts_syntax.specs.declared.token.TokenKind.TheVariants as kind
 
@@ -46,4 +46,4 @@ kind_code (kind.Num n) = 38
 
 -- a sign or a keyword
 abbrev pub is_sign : TokenKind → Bool
-is_sign k = nat_lt (kind_code k) 37
+is_sign k = nat_lt (kind_code k) (kind_code (kind.Name []))

@@ -208,6 +208,32 @@ step_whole e (in_to w s a f) m p = step_block no_acts (for_part w s e None a f) 
 step_whole e (in_while a f) m p = step_block no_acts (while_part e a f) m p
 step_whole e k m p = None
 
+-- the operators of a product, a sum and a comparison
+abbrev pub product_sign : TokenKind → Option BinOp
+product_sign kind.Star = Some op.Mul
+product_sign kind.Slash = Some op.Div
+product_sign kind.Percent = Some op.Rem
+product_sign k = None
+
+abbrev pub sum_sign : TokenKind → Option BinOp
+sum_sign kind.Plus = Some op.Add
+sum_sign kind.Minus = Some op.Sub
+sum_sign k = None
+
+abbrev pub comparison_sign : TokenKind → Option BinOp
+comparison_sign kind.Eq = Some op.Eq
+comparison_sign kind.Ne = Some op.Ne
+comparison_sign kind.Lt = Some op.Lt
+comparison_sign kind.Gt = Some op.Gt
+comparison_sign kind.Le = Some op.Le
+comparison_sign kind.Ge = Some op.Ge
+comparison_sign k = None
+
+-- an operator leads on to its right operand; where there is none, the other step is taken
+abbrev pub lengthened : Option BinOp → (BinOp → State) → Option State → Option State
+lengthened (Some o) longer other = Some (longer o)
+lengthened None longer other = other
+
 -- after each level of an expression: a sign of this level, or what follows at a looser one
 abbrev pub step_have : Tree → Whole → TokenKind → ℕ → Option State
 step_have e k kind.Or p = Some (want_inverse (first_and (in_or e k)))
@@ -227,32 +253,21 @@ give_inverse e (first_and k) m p = step_and e k m p
 give_inverse e (in_and l k) m p = step_and (two op.And l e) k m p
 
 abbrev pub step_compare : Tree → Inverse → TokenKind → ℕ → Option State
-step_compare e k kind.Eq p = Some (want (sum_due (in_compare op.Eq e k)))
-step_compare e k kind.Ne p = Some (want (sum_due (in_compare op.Ne e k)))
-step_compare e k kind.Lt p = Some (want (sum_due (in_compare op.Lt e k)))
-step_compare e k kind.Gt p = Some (want (sum_due (in_compare op.Gt e k)))
-step_compare e k kind.Le p = Some (want (sum_due (in_compare op.Le e k)))
-step_compare e k kind.Ge p = Some (want (sum_due (in_compare op.Ge e k)))
-step_compare e k m p = give_inverse e k m p
+step_compare e k m p = lengthened (comparison_sign m) (λ o. want (sum_due (in_compare o e k))) (give_inverse e k m p)
 
 abbrev pub give_sum : Tree → Sum → TokenKind → ℕ → Option State
 give_sum e (first_compare k) m p = step_compare e k m p
 give_sum e (in_compare o l k) m p = give_inverse (two o l e) k m p
 
 abbrev pub step_sum : Tree → Sum → TokenKind → ℕ → Option State
-step_sum e k kind.Plus p = Some (want (first_product (in_sum op.Add e k)))
-step_sum e k kind.Minus p = Some (want (first_product (in_sum op.Sub e k)))
-step_sum e k m p = give_sum e k m p
+step_sum e k m p = lengthened (sum_sign m) (λ o. want (first_product (in_sum o e k))) (give_sum e k m p)
 
 abbrev pub give_product : Tree → Product → TokenKind → ℕ → Option State
 give_product e (first_sum k) m p = step_sum e k m p
 give_product e (in_sum o l k) m p = step_sum (two o l e) k m p
 
 abbrev pub step_product : Tree → Product → TokenKind → ℕ → Option State
-step_product e k kind.Star p = Some (want (in_product op.Mul e k))
-step_product e k kind.Slash p = Some (want (in_product op.Div e k))
-step_product e k kind.Percent p = Some (want (in_product op.Rem e k))
-step_product e k m p = give_product e k m p
+step_product e k m p = lengthened (product_sign m) (λ o. want (in_product o e k)) (give_product e k m p)
 
 -- after an operand
 abbrev pub step_given : Operand → Tree → TokenKind → ℕ → Option State

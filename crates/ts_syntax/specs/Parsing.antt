@@ -3,7 +3,6 @@ use Rattle.std.specs.Prelude.{◌≡◌, ℕ, Bool, true, false, List, [], ◌�
 use Rattle.std.proofs.Common.{Bor}
 use Rattle.std.specs.Result.{IsErrAnd}
 use Rattle.ts_checked.specs.declared.bin_op.BinOp.{BinOp}
-use Rattle.ts_checked.specs.declared.bin_op.BinOp.TheVariants as op
 use Rattle.ts_syntax.specs.declared.word.Word.{Word}
 use Rattle.ts_syntax.specs.declared.token.Token.{Token}
 use Rattle.ts_syntax.specs.declared.token.TokenKind.{TokenKind}
@@ -91,27 +90,6 @@ abbrev pub TakesName : List Token → Result (Word × Bor (List Token)) Halt →
 TakesName tokens (Ok x) = StartsName x.0 tokens x.1.now
 TakesName tokens (Err halt.Memory) = ⊥
 TakesName tokens (Err (halt.At rest)) = (rest.now ≡ tokens) × LacksName tokens
-
--- the operators of a product, a sum and a comparison
-abbrev pub product_sign : TokenKind → Option BinOp
-product_sign kind.Star = Some op.Mul
-product_sign kind.Slash = Some op.Div
-product_sign kind.Percent = Some op.Rem
-product_sign k = None
-
-abbrev pub sum_sign : TokenKind → Option BinOp
-sum_sign kind.Plus = Some op.Add
-sum_sign kind.Minus = Some op.Sub
-sum_sign k = None
-
-abbrev pub comparison_sign : TokenKind → Option BinOp
-comparison_sign kind.Eq = Some op.Eq
-comparison_sign kind.Ne = Some op.Ne
-comparison_sign kind.Lt = Some op.Lt
-comparison_sign kind.Gt = Some op.Gt
-comparison_sign kind.Le = Some op.Le
-comparison_sign kind.Ge = Some op.Ge
-comparison_sign k = None
 
 -- the first token is an operator, by the function
 pub record StartsOperator (f : TokenKind → Option BinOp) (o : BinOp) (tokens rest : List Token) : Type 0 where

@@ -1,6 +1,7 @@
 //! One token of a kind.
 
-ghost use Rattle.ts_syntax.specs.Parsing.{Takes, Ended, Finds, TakesName, FindsOperator, product_sign, sum_sign, comparison_sign};
+ghost use Rattle.ts_syntax.specs.Parsing.{Takes, Ended, Finds, TakesName, FindsOperator};
+ghost use Rattle.ts_syntax.specs.Machine.{product_sign, sum_sign, comparison_sign};
 ghost use Rattle.std.specs.Prelude.{◌≡◌};
 
 use crate::code::code;

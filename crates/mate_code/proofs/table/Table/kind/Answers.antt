@@ -5,11 +5,11 @@ use Rattle.mate_code.specs.Table.{function_kind, kind_at}
 use Rattle.mate_code.proofs.TableLemmas.{kind_at-base, kind_at-group, kind_at-function}
 use Rattle.mate_code.proofs.table.Table.kind.Goals as goal
 
-pub returns-then-opcode-lt28 : goal.returns-then-opcode-lt28
-returns-then-opcode-lt28 c = kind_at-base c.args.self.now c.args.opcode _ c.if-opcode-lt28.true
+pub returns-then-opcode-lt-BASE_END : goal.returns-then-opcode-lt-BASE_END
+returns-then-opcode-lt-BASE_END c = kind_at-base c.args.self.now c.args.opcode _ c.if-opcode-lt-BASE_END.true
 
 pub returns-then-opcode-first : goal.returns-then-opcode-first
-returns-then-opcode-first c = kind_at-group c.args.self.now c.args.opcode _ c.if-opcode-lt28.false (omega (arith, c.first_function-first.ensures.value))
+returns-then-opcode-first c = kind_at-group c.args.self.now c.args.opcode _ c.if-opcode-lt-BASE_END.false (omega (arith, c.first_function-first.ensures.value))
 
 pub returns : goal.returns
 returns c =
