@@ -1,56 +1,24 @@
 -- What a node tells of the steps of a script keeps each law.
-use Rattle.std.proofs.Common.{◌≡◌, ◌<◌, ℕ, zero, suc, ◌+◌, List, [], ◌∷◌, ◌++◌, length, map, append-nil, refl, sym, ◌∙◌, subst, arith, inl, inr, ◌⊎◌}
-use Rattle.std.specs.Prelude.{ℤ, All, IfSome, slice_get}
-use Rattle.std.proofs.lemmas.Bool.{cases_lt}
-use Rattle.std.proofs.lemmas.List.Elements.{All-head, All-tail}
-use Rattle.arrayvec.specs.ArrayVec.{ArrayVec}
-use Rattle.mate_num.specs.declared.call.End.{End}
-use Rattle.mate_num.specs.declared.call.End.TheVariants as end
-use Rattle.mate_num.specs.declared.id.HandlerId.{HandlerId}
+use Rattle.std.proofs.Common.{◌≡◌, ◌<◌, ℕ, zero, suc, ◌+◌, List, [], ◌∷◌, ◌++◌, length, map, append-nil, sym, ◌∙◌, subst, arith, inl, inr, ◌⊎◌}
+use Rattle.std.specs.Prelude.{IfSome, slice_get}
 use Rattle.vm_desc.specs.declared.description.Description.{Description}
-use Rattle.mate_journal.specs.Journal.{JournalEntry, Posted, Dropped, Started, Asked, Answered, Ended, Installed, Reset, Seen, Void, TimedEntry, NodeState, first_state, next_state, state_after_entries, whole_run, journal_of, AtEachEntry}
+use Rattle.mate_journal.specs.Journal.{JournalEntry, TimedEntry, NodeState, first_state, next_state, state_after_entries, journal_of, AtEachEntry}
 use Rattle.mate_journal.specs.Log.{Log}
 use Rattle.mate_journal.specs.Machine.{Machine}
-use Rattle.mate_journal.specs.Grants.{IsStart}
 use Rattle.mate_journal.specs.NodeReport.{IsNodeReport}
 use Rattle.mate_journal.specs.NodeRun.{IsNodeRun}
-use Rattle.mate_journal.specs.NodeScript.{Step, Install, Post, StepIn, Run, Answer, Show, ResetNode, Occasion, Installs, IsNotNewer, AnswersCall, IsNotWaiting, Makes, made_at, HaveMade, RunEnd, Whole, Full, Cut, EndsRun, IsRunOf}
+use Rattle.mate_journal.specs.NodeScript.{Step, Install, Post, StepIn, Run, Answer, Show, ResetNode, Installs, IsNotNewer, AnswersCall, IsNotWaiting, Makes, made_at, HaveMade, RunEnd, Whole, Full, Cut, EndsRun, IsRunOf}
 use Rattle.mate_journal.specs.Pace.{Pace, no_pace}
-use Rattle.mate_journal.specs.Turns.{Turn, IsTurn, entry_at, mark_of}
 use Rattle.mate_journal.specs.declared.program.Program.{Program}
 use Rattle.mate_journal.specs.declared.report.Report.{Report}
 use Rattle.node_programs.specs.Sources.{meaning_by}
-use Rattle.world_laws.proofs.Agree.{NoInstall, NoneInstall, by_made, occasions-none, settles-none}
+use Rattle.journal_laws.proofs.Settling.{turn-of_turns, settles-of_turns}
+use Rattle.journal_laws.proofs.Plain.{turns-plain, occasion-plain, NoneInstall, plains-none}
 use Rattle.audit_rules.specs.Laws.{InstallsProgram, machine_by}
 use Rattle.audit_rules.specs.Verdicts.{LogKeepsAll, IsVerdict}
 use Rattle.mate_journal.specs.declared.law.Verdict.TheVariants.{Serial}
 use Rattle.audit_laws.specs.NodeInstalls.{IsInstallOf, InstallPrograms}
 use Rattle.audit_laws.proofs.Told.{InstallsRight, none-right, install-right, keeps-all}
-
--- ---- entries that install nothing
-
-start-none : (t : JournalEntry) → IsStart t → NoInstall t
-start-none (Installed p) is = is
-start-none _ is = tt
-
-starts-none : (ts : List JournalEntry) → All IsStart ts → NoneInstall ts
-starts-none [] all = tt
-starts-none (t ∷ ts) all = (start-none t (All-head IsStart t ts all), starts-none ts (All-tail IsStart t ts all))
-
-mark-none : (n : ℕ) (e : End) → NoInstall (entry_at n e)
-mark-none n end.Halt = tt
-mark-none n _ = tt
-
--- an occasion for one handler
-occasion-none : (m : Machine) (r : NodeState) (h : HandlerId) (payload : ArrayVec ℤ) (told : List JournalEntry) → Occasion m r h payload told → NoneInstall told
-occasion-none m r h payload told is =
-    occasions-none m payload (h ∷ []) r no_pace told (record { front = told; rest = []; made = sym (append-nil told); by_first = is; by_second = refl })
-
-turn-none : (m : Machine) (r : NodeState) (p : Pace) (instructions : ℕ) (t : Turn) → IsTurn m r p instructions t → NoneInstall t.told
-turn-none m r p instructions t turn = elim (cases_lt (p.counts t.invocation + instructions) (mark_of m r t.invocation)) [
-  | inl short ↦ by_made t.told [] (turn.short short) tt
-  | inr reached ↦ (let a = turn.reached reached in by_made t.told _ a.told_is (mark-none t.invocation (whole_run m r t.invocation).end, starts-none a.starts a.are_starts))
-]
 
 -- ---- what a step tells
 
@@ -58,17 +26,17 @@ step-right : (ps : List Program) (m : Machine) (r : NodeState) (p : Pace) (step 
 step-right ps m r p (Install x) told q is made = by made.0 where
   by : Installs m r p x told ⊎ IsNotNewer r x told → InstallsRight ps m r told
   by (inl i) = install-right ps m r p x told is i
-  by (inr n) = none-right ps m r told (by_made told _ n.made (tt, tt))
-step-right ps m r p (Post h payload) told q is made = none-right ps m r told (occasion-none m r h payload told made.0)
-step-right ps m r p (StepIn c n) told q is (inl t) = none-right ps m r told (turn-none m r p n (record { invocation = t.invocation; told = told }) t.turn)
-step-right ps m r p (StepIn c n) told q is (inr x) = none-right ps m r told (by_made told _ x.0.made (tt, tt))
-step-right ps m r p Run told q is made = none-right ps m r told (settles-none m r p told q made)
+  by (inr n) = none-right ps m r told (subst NoneInstall (sym n.made) (tt, tt))
+step-right ps m r p (Post h payload) told q is made = none-right ps m r told (plains-none told (occasion-plain m r h payload told made.0))
+step-right ps m r p (StepIn c n) told q is (inl t) = none-right ps m r told (plains-none told (turns-plain told (turn-of_turns m r p n (record { invocation = t.invocation; told = told }) t.turn)))
+step-right ps m r p (StepIn c n) told q is (inr x) = none-right ps m r told (subst NoneInstall (sym x.0.made) (tt, tt))
+step-right ps m r p Run told q is made = none-right ps m r told (plains-none told (turns-plain told (settles-of_turns m r p told q made)))
 step-right ps m r p (Answer c value) told q is made = by made.0 where
   by : AnswersCall r c value told ⊎ IsNotWaiting r c told → InstallsRight ps m r told
-  by (inl a) = none-right ps m r told (by_made told _ a.made (tt, tt))
-  by (inr n) = none-right ps m r told (by_made told _ n.made (tt, tt))
-step-right ps m r p Show told q is made = none-right ps m r told (by_made told _ made.0.made (tt, tt))
-step-right ps m r p ResetNode told q is made = none-right ps m r told (by_made told _ made.0.made (tt, (tt, tt)))
+  by (inl a) = none-right ps m r told (subst NoneInstall (sym a.made) (tt, tt))
+  by (inr n) = none-right ps m r told (subst NoneInstall (sym n.made) (tt, tt))
+step-right ps m r p Show told q is made = none-right ps m r told (subst NoneInstall (sym made.0.made) (tt, tt))
+step-right ps m r p ResetNode told q is made = none-right ps m r told (subst NoneInstall (sym made.0.made) (tt, (tt, tt)))
 
 -- ---- the run
 
@@ -81,7 +49,7 @@ step-then ps m n r es told rest is right later = subst (λ (all : List TimedEntr
   go r (t ∷ ts) right later = (right.0, go (next_state m r t) ts right.1 later)
 
 ends-right : (ps : List Program) (m : Machine) (how : RunEnd) (left : List Step) (records n : ℕ) (r : NodeState) (p : Pace) (es : List TimedEntry) → EndsRun m how left records n r p es → AtEachEntry (InstallsProgram ps) m r es
-ends-right ps m Whole left records n r p es (none, told, shows, is) = step-then ps m n r es told [] (is ∙ sym (append-nil (map (made_at n) told))) (none-right ps m r told (by_made told _ shows.made (tt, tt))) tt
+ends-right ps m Whole left records n r p es (none, told, shows, is) = step-then ps m n r es told [] (is ∙ sym (append-nil (map (made_at n) told))) (none-right ps m r told (subst NoneInstall (sym shows.made) (tt, tt))) tt
 ends-right ps m Full left records n r p es ends = subst (λ (all : List TimedEntry). AtEachEntry (InstallsProgram ps) m r all) (sym ends.2) tt
 ends-right ps m Cut left records n r p es ends = subst (λ (all : List TimedEntry). AtEachEntry (InstallsProgram ps) m r all) (sym ends) tt
 

@@ -1,5 +1,6 @@
 -- What a journal is tried against, and how far it was read.
 use Rattle.std.specs.Prelude.{◌≡◌, ◌≤◌, ℕ, true, List, length, map, drop, Option, Some, IfSome, IsSomeAnd, slice_index_or, slice_set}
+use Rattle.mate_num.specs.declared.bounds.TheConstants.{HANDLERS_MAX}
 use Rattle.mate_num.specs.declared.id.HandlerId.{HandlerId}
 use Rattle.mate_journal.specs.Journal.{JournalEntry, TimedEntry, journal_of, journal_entry}
 use Rattle.mate_journal.specs.Machine.{Machine, HeldProgram}
@@ -40,7 +41,7 @@ told_at t place = journal_entry t.log.now (slice_index_or t.log.now.entries plac
 -- the log is tidy and the programs are right; the journal keeps the laws before: its entries follow one another, and what is installed is
 -- one of the programs
 pub record IsTried (t : Trial) : Type 0 where
-  pub few : length t.desc.now.handlers.items ≤ 8
+  pub few : length t.desc.now.handlers.items ≤ HANDLERS_MAX
   pub tidy : IsTidyLog t.desc.now t.log.now
   pub programs : AreRightPrograms t.desc.now t.programs.now
   pub follow : entries_follow (machine_for t) (journal_of t.log.now) ≡ true
@@ -56,7 +57,7 @@ StayReady d programs = (h : HandlerId) → IfSome (ready_at programs h) (λ r. I
 
 -- there is a place for each handler, and what was made ready is kept
 pub record HasKept (d : Description) (x : ReadyRoll) : Type 0 where
-  pub places : length (installed_programs x.ready) ≡ 8
+  pub places : length (installed_programs x.ready) ≡ HANDLERS_MAX
   pub kept : StayReady d (installed_programs x.ready)
 
 -- one more held program was made ready

@@ -1,7 +1,7 @@
 //! The ready program of each handler.
 
 use crate::ready::ReadyProgram;
-use mate_num::{HandlerId, NoMemory};
+use mate_num::{HANDLERS_MAX, HandlerId, NoMemory};
 use std::alloc::Global;
 
 /// The program that was installed last for each of 8 handlers, made ready. Programs are large, so each is on the heap by itself.
@@ -13,14 +13,15 @@ pub struct ReadyPrograms<'a> {
 impl<'a> ReadyPrograms<'a> {
     ghost use Rattle.std.specs.Prelude.{◌≡◌, ◌<◌, Some, None, length, slice_set, replicate, IfOk, OnOk};
     ghost use Rattle.std.specs.Option.{option_copied};
+    ghost use Rattle.mate_num.specs.declared.bounds.TheConstants.{HANDLERS_MAX};
     ghost use Rattle.audit_programs.specs.Ready.{installed_programs, ready_at};
 
     /// Nothing is installed.
     pub fn new(alloc: Global) -> Result<ReadyPrograms<'a>, NoMemory>
-        ensures { IfOk result (λ t. installed_programs t ≡ replicate 8 None) }
+        ensures { IfOk result (λ t. installed_programs t ≡ replicate HANDLERS_MAX None) }
     {
-        let mut programs = Vec::with_capacity(alloc, 8)?;
-        for _place in 0..8_usize {
+        let mut programs = Vec::with_capacity(alloc, HANDLERS_MAX)?;
+        for _place in 0..HANDLERS_MAX {
             programs.push(None)?;
         }
         Ok(ReadyPrograms { programs })

@@ -12,10 +12,11 @@ use Rattle.mate_num.specs.declared.id.FunId.{FunId}
 use Rattle.mate_num.specs.declared.id.HandlerId.{HandlerId}
 use Rattle.mate_num.specs.declared.store.Store.{Store}
 use Rattle.mate_journal.specs.Machine.{Machine}
-use Rattle.mate_journal.specs.Journal.{JournalEntry, Posted, Dropped, Started, Asked, Answered, Ended, Installed, Reset, Seen, Void, TimedEntry, Phase, Queued, Ready, Waiting, Over, is_started, Invocation, NodeState, first_state, in_phase, answers_of, whole_run, next_state, AtEachEntry, AtEachPlace}
+use Rattle.mate_journal.specs.Journal.{JournalEntry, Posted, Started, Asked, Answered, Ended, Installed, Reset, TimedEntry, Phase, Queued, Ready, Waiting, Over, is_started, Invocation, NodeState, first_state, in_phase, answers_of, whole_run, next_state, AtEachEntry, AtEachPlace}
 use Rattle.mate_journal.specs.WellFormed.{MayFollow, IsWaiting, IsWellFormed}
 use Rattle.mate_journal.specs.Serial.{EndsAsRun, RunsSoFar, IsSerial}
 use Rattle.mate_journal.specs.Grants.{AreConflicting}
+use Rattle.journal_laws.proofs.Append.{AtEachPlace-first}
 use Rattle.journal_laws.proofs.Changed.{changed-here, changed-other, untrue}
 use Rattle.journal_laws.proofs.Moves.{started_live}
 use Rattle.journal_laws.proofs.Apart.{IsNumbered, live_posted, numbered-step}
@@ -195,10 +196,6 @@ ends-along m r (e ∷ es) replays = (ends-as_run m r e.told replays.0, ends-alon
 
 -- ---- and back
 
-first_place : (Fact : NodeState → Type 0) (m : Machine) (r : NodeState) (es : List TimedEntry) → AtEachPlace Fact m r es → Fact r
-first_place Fact m r [] h = h
-first_place Fact m r (e ∷ es) h = h.0
-
 runs-at : (m : Machine) (r : NodeState) (t : JournalEntry) → EndsAsRun m r t → AllRunSoFar m r → AllRunSoFar m (next_state m r t) → RunsAt m r t
 runs-at m r (Ended n how) ends before after =
     (ends.0, ends.1, λ k other started c. (before k started, after k (ap (λ (i : Invocation). is_started i.phase) (changed-other r.invocations n (in_phase Over (r.invocations n)) k other) ∙ started)))
@@ -209,7 +206,7 @@ runs-at m r _ ends before after = tt
 replays-along : (m : Machine) (r : NodeState) (es : List TimedEntry) → AtEachEntry (EndsAsRun m) m r es → AtEachPlace (RunsSoFar m) m r es → ReplaysAtEnds m r es
 replays-along m r [] ends places = of-RunsSoFar m r places
 replays-along m r (e ∷ es) ends places = (
-  runs-at m r e.told ends.0 (of-RunsSoFar m r places.0) (of-RunsSoFar m (next_state m r e.told) (first_place (RunsSoFar m) m (next_state m r e.told) es places.1)),
+  runs-at m r e.told ends.0 (of-RunsSoFar m r places.0) (of-RunsSoFar m (next_state m r e.told) (AtEachPlace-first (RunsSoFar m) m (next_state m r e.told) es places.1)),
   replays-along m (next_state m r e.told) es ends.1 places.1,
 )
 

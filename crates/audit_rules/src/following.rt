@@ -1,6 +1,7 @@
 //! Whether the entries of a journal follow one another, and stamps don't fall.
 
 ghost use Rattle.std.specs.Prelude.{◌≡◌, ◌==◌, suc, IfOk, length, List, ◌∷◌, [], ◌≤◌, ◌<◌};
+ghost use Rattle.mate_num.specs.declared.bounds.TheConstants.{HANDLERS_MAX};
 ghost use Rattle.vm_desc.specs.Contexts.{first_context};
 ghost use Rattle.mate_journal.specs.Described.{machine_of};
 ghost use Rattle.mate_journal.specs.Journal.{journal_entry, journal_of};
@@ -71,7 +72,7 @@ fn is_context_of(desc: &Description, handler: HandlerId, context: ContextId) -> 
 
 /// Whether the entry may follow those that were heard.
 fn may_follow(desc: &Description, roll: &Roll, entry: &Entry) -> bool
-    requires few { length desc.now.handlers.items ≤ 8 }
+    requires few { length desc.now.handlers.items ≤ HANDLERS_MAX }
     requires handler { HasHandlerBelow (length desc.now.handlers.items) entry.now }
     ensures { (l : Log) (meaning : Meaning)
         → result ≡ told.may_follow (machine_of desc.now meaning) (roll_in l.images roll.now) (journal_entry l entry.now) }
@@ -104,7 +105,7 @@ fn may_follow(desc: &Description, roll: &Roll, entry: &Entry) -> bool
 /// Whether the entries of a tidy log's journal follow one another, and stamps don't fall. `NoMemory` comes only if memory for live
 /// invocations and their calls is refused.
 pub fn entries_follow(alloc: Global, desc: &Description, log: &NodeLog) -> Result<bool, NoMemory>
-    requires few { length desc.now.handlers.items ≤ 8 }
+    requires few { length desc.now.handlers.items ≤ HANDLERS_MAX }
     requires tidy { IsTidyLog desc.now log.now }
     ensures { (meaning : Meaning) → IfOk result (λ b. b ≡ told.entries_follow (machine_of desc.now meaning) (journal_of log.now)) }
 {

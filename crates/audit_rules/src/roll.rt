@@ -1,6 +1,7 @@
 //! The roll: what is installed, and who is live.
 
 ghost use Rattle.std.specs.Prelude.{◌≡◌, ◌<◌, ◌++◌, ◌∷◌, [], length, filter, OnOk};
+ghost use Rattle.mate_num.specs.declared.bounds.TheConstants.{HANDLERS_MAX};
 ghost use Rattle.mate_journal.specs.Journal.{journal_entry};
 ghost use Rattle.mate_journal.specs.Log.{Log};
 ghost use Rattle.audit_rules.specs.Roll as told;
@@ -9,7 +10,7 @@ ghost use Rattle.audit_rules.specs.Views.{keeps_seat, HasHandlerBelow, roll_in};
 use crate::phase::Phase;
 use crate::seat::{Seat, answer, move_to};
 use mate_journal::Entry;
-use mate_num::{Calls, NoMemory, copy_of};
+use mate_num::{Calls, HANDLERS_MAX, NoMemory, copy_of};
 use std::alloc::Global;
 
 /// What is installed for a handler: a version, and the position of its image in the log.
@@ -23,7 +24,7 @@ pub struct InstalledImage {
 #[derive(Drop)]
 pub struct Roll {
     pub posts: u32,
-    pub installed: [Option<InstalledImage>; 8],
+    pub installed: [Option<InstalledImage>; HANDLERS_MAX],
     pub seats: Vec<Seat>,
 }
 
@@ -41,14 +42,14 @@ impl Roll {
     {
         Roll {
             posts: 0,
-            installed: [None; 8],
+            installed: [None; HANDLERS_MAX],
             seats: Vec::new(alloc),
         }
     }
 
     /// Reads one more entry.
     pub fn hear(&mut self, alloc: Global, entry: &Entry) -> Result<(), NoMemory>
-        requires { HasHandlerBelow 8 entry.now }
+        requires { HasHandlerBelow HANDLERS_MAX entry.now }
         ensures { (l : Log) → OnOk result (roll_in l.images self.new
             ≡ told.rolled (roll_in l.images self.old) (journal_entry l entry.now)) }
     {

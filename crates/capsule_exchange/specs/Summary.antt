@@ -1,6 +1,7 @@
 -- What the states of all handlers say together.
 use Rattle.std.specs.Prelude.{◌≡◌, ◌≤◌, List, length, map, is_some}
 use Rattle.std.specs.List.{find}
+use Rattle.mate_num.specs.declared.bounds.TheConstants.{HANDLERS_MAX}
 use Rattle.capsule_exchange.specs.declared.handler_state.HandlerState.{HandlerState}
 use Rattle.capsule_exchange.specs.declared.summary.Summary.{Summary}
 use Rattle.capsule_exchange.specs.Happenings.{slots_from}
@@ -14,6 +15,6 @@ pub record IsSummaryOf (states : List HandlerState) (summary : Summary) : Type 0
 
 -- the states of a machine's handlers are sound, and the summary is theirs
 pub record AreKept (states : List HandlerState) (summary : Summary) : Type 0 where
-  pub few : length states ≤ 8
+  pub few : length states ≤ HANDLERS_MAX
   pub sound : AreSound states
   pub summed : IsSummaryOf states summary

@@ -3,7 +3,7 @@
 ghost use Rattle.std.specs.Prelude.{◌≡◌, ◌*◌, ◌/◌, ◌%◌, ◌<◌, ◌≤◌, ◌↔◌, [], length, map, IsTrue, IfOk, IfSome, is_some, All};
 ghost use Rattle.std.specs.List.{list_any};
 ghost use Rattle.std.specs.Option.{option_map};
-ghost use Rattle.mate_num.specs.declared.bounds.TheConstants.{FRAGMENTS_MAX};
+ghost use Rattle.mate_num.specs.declared.bounds.TheConstants.{FRAGMENTS_MAX, HANDLERS_MAX};
 ghost use Rattle.packet_codec.specs.declared.packet.Packet.TheVariants.{Vector};
 ghost use Rattle.packet_codec.specs.Packet.{IsRightPacket};
 ghost use Rattle.capsule_exchange.specs.Happenings.{Hears, Installs, Forgets, asks_after, completed_by, held_version, held_versions, collected_image, IsOpen, is_marked_slot, slots_from, next_slot, fragment_for};
@@ -16,7 +16,7 @@ use crate::handlers::{aim_each, ask_each, forget_each, held_versions, next_slot}
 use crate::summary::Summary;
 use arrayvec::ArrayVec;
 use capsule_codec::Piece;
-use mate_num::{FRAGMENTS_MAX, HandlerId, Image, NoMemory};
+use mate_num::{FRAGMENTS_MAX, HANDLERS_MAX, HandlerId, Image, NoMemory};
 use packet_codec::Packet;
 use std::alloc::Global;
 use std::marker::Model;
@@ -68,7 +68,7 @@ impl Exchange {
     /// Nothing is held, collected or to be sent for any of the handlers. No other call takes memory.
     pub fn new(alloc: Global, handlers: u8) -> Result<Exchange, NoMemory>
         requires low { 1 ≤ handlers }
-        requires high { handlers ≤ 8 }
+        requires high { handlers ≤ HANDLERS_MAX }
         ensures { IfOk result (λ exchange. exchange ≡ knowledge handlers []) }
     {
         let mut states = Vec::with_capacity(alloc, usize::from(handlers))?;
@@ -105,7 +105,7 @@ impl Exchange {
     /// Vector has a greater version than the held one.
     /// It is inlined, since each caller knows which packet it is.
     #[inline(always)]
-    pub fn hear(&mut self, packet: &Packet, asks: &mut ArrayVec<Packet, 8>) -> Heard
+    pub fn hear(&mut self, packet: &Packet, asks: &mut ArrayVec<Packet, HANDLERS_MAX>) -> Heard
         requires right { IsRightPacket (length self.old.handlers) packet.now }
         requires empty { asks.old.items ≡ [] }
         ensures learned { Learns self.old (Hears packet.now) self.new }
@@ -149,7 +149,7 @@ impl Exchange {
     }
 
     // A Vector was received: whether its versions are those that are held, and what is asked for.
-    fn hear_vector(&mut self, versions: &ArrayVec<u32, 8>, asks: &mut ArrayVec<Packet, 8>) -> bool
+    fn hear_vector(&mut self, versions: &ArrayVec<u32, HANDLERS_MAX>, asks: &mut ArrayVec<Packet, HANDLERS_MAX>) -> bool
         requires same_len { length versions.now.items ≡ length self.old.handlers }
         requires empty { asks.old.items ≡ [] }
         ensures consistent { IsTrue result ↔ (versions.now.items ≡ map (λ s. s.held) self.old.handlers) }

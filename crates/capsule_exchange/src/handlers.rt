@@ -1,7 +1,7 @@
 //! The states of all handlers, in order.
 
 ghost use Rattle.std.specs.Prelude.{◌≡◌, ◌*◌, ◌<◌, ◌≤◌, [], length, map, slice_set, IfSome, IsTrue, find};
-ghost use Rattle.mate_num.specs.declared.bounds.TheConstants.{FRAGMENTS_MAX};
+ghost use Rattle.mate_num.specs.declared.bounds.TheConstants.{FRAGMENTS_MAX, HANDLERS_MAX};
 ghost use Rattle.capsule_exchange.specs.Happenings.{next_place, slots_from};
 ghost use Rattle.capsule_exchange.specs.Sound.{AreSound};
 ghost use Rattle.capsule_exchange.specs.Steps.{state_at, hears_status, hears_fragment, after_sending, installs, forgets, aimed_each, asks_upto, is_marked_in, next_in};
@@ -9,15 +9,15 @@ ghost use Rattle.capsule_exchange.specs.Steps.{state_at, hears_status, hears_fra
 use crate::handler_state::{Form, HandlerState};
 use arrayvec::ArrayVec;
 use capsule_codec::Piece;
-use mate_num::{FRAGMENTS_MAX, HandlerId, Image};
+use mate_num::{FRAGMENTS_MAX, HANDLERS_MAX, HandlerId, Image};
 use packet_codec::Packet;
 
 /// The versions that are held.
-pub(crate) fn held_versions(states: &[HandlerState]) -> ArrayVec<u32, 8>
-    requires { length states.now ≤ 8 }
+pub(crate) fn held_versions(states: &[HandlerState]) -> ArrayVec<u32, HANDLERS_MAX>
+    requires { length states.now ≤ HANDLERS_MAX }
     ensures { result.items ≡ map (λ s. s.held) states.now }
 {
-    let mut versions: ArrayVec<u32, 8> = ArrayVec::new();
+    let mut versions: ArrayVec<u32, HANDLERS_MAX> = ArrayVec::new();
     for state in states {
         versions.push(state.held);
     }
@@ -37,9 +37,9 @@ pub(crate) fn aim_each(states: &mut [HandlerState], versions: &[u32])
 
 /// Requests the versions that are greater than what is held.
 #[inline(never)]
-pub(crate) fn ask_each(states: &[HandlerState], versions: &[u32], asks: &mut ArrayVec<Packet, 8>)
+pub(crate) fn ask_each(states: &[HandlerState], versions: &[u32], asks: &mut ArrayVec<Packet, HANDLERS_MAX>)
     requires same_len { length versions.now ≡ length states.now }
-    requires few { length states.now ≤ 8 }
+    requires few { length states.now ≤ HANDLERS_MAX }
     requires sound { AreSound states.now }
     requires empty { asks.old.items ≡ [] }
     ensures { asks.new.items ≡ asks_upto versions.now states.now (length states.now) }
@@ -64,7 +64,7 @@ pub(crate) fn forget_each(states: &mut [HandlerState])
 /// The slot that is sent next: the first marked one after `last`, or else the first of all. None comes exactly if
 /// nothing is marked.
 pub(crate) fn next_slot(states: &[HandlerState], last: Option<u8>) -> Option<usize>
-    requires { length states.now ≤ 8 }
+    requires { length states.now ≤ HANDLERS_MAX }
     ensures value { result ≡ next_in states.now last }
     ensures marked { IfSome result (λ slot. (slot < FRAGMENTS_MAX * length states.now) × IsTrue (is_marked_in states.now slot)) }
 {
@@ -86,7 +86,7 @@ fn place_after(last: Option<u8>) -> usize
 
 /// The first marked slot from `first` on.
 pub(crate) fn first_marked(states: &[HandlerState], first: usize) -> Option<usize>
-    requires { length states.now ≤ 8 }
+    requires { length states.now ≤ HANDLERS_MAX }
     ensures value { result ≡ find (is_marked_in states.now) (slots_from (length states.now) first) }
     ensures marked { IfSome result (λ slot. (slot < FRAGMENTS_MAX * length states.now) × IsTrue (is_marked_in states.now slot)) }
 {

@@ -1,6 +1,8 @@
 -- The plain grammar derives the expansion of what the grammar with procedures derives.
-use Rattle.std.proofs.Common.{◌≡◌, ℕ, zero, suc, ◌+◌, ◌≤◌, Bool, true, false, cond, inl, inr, List, [], ◌∷◌, ◌++◌, Option, Some, None, refl, sym, subst}
-use Rattle.std.specs.Prelude.{bytes_eq}
+use Rattle.std.proofs.Common.{◌≡◌, ℕ, zero, suc, ◌+◌, ◌≤◌, inl, inr, List, [], ◌∷◌, ◌++◌, Option, Some, None, refl, sym, subst}
+use Rattle.std.specs.Prelude.{IfSome}
+use Rattle.mate_num.specs.Lists.{Each}
+use Rattle.mate_num.proofs.ListLemmas.{each-append, each-push}
 use Rattle.ts_syntax.specs.declared.dialect.Dialect.TheVariants.{Plain, Procedures}
 use Rattle.ts_syntax.specs.declared.script.Decl.{Decl}
 use Rattle.ts_syntax.specs.declared.script.DeclKind.{DeclKind}
@@ -11,6 +13,7 @@ use Rattle.ts_syntax.specs.Seen.{acts}
 use Rattle.ts_syntax.specs.Tree.{Tree, number, variable, item, size, message_item, message_size, call, negative, inverse, two, paren, Trees, no_trees, tree_then, Act, set, set_item, append, take_last, clear, call_alone, if_then, if_else, for_next, while_do, run_procedure, Acts, no_acts, act_then, Procedure, ProcedureSource}
 use Rattle.proc_names.specs.Heads.{parameter_count}
 use Rattle.proc_names.specs.Places.{declared_as}
+use Rattle.proc_names.proofs.PlaceLemmas.{each-declared}
 use Rattle.proc_renaming.specs.Renaming.{Hiding, nothing_hidden, renamed_expr, renamed_args, assigned, parameter_decls}
 use Rattle.proc_expansion.specs.InOrder.{declared_in_order}
 use Rattle.proc_expansion.specs.Expansion.{first_trees, Callee, body_called, expanded_act, expanded_acts, callee, callees, expansion}
@@ -46,16 +49,11 @@ mutual
 
 -- each statement of a list is one of a plain script
 abbrev AreDerived : List Act → Type 0
-AreDerived [] = Unit {0}
-AreDerived (a ∷ more) = ActDerived Plain a × AreDerived more
+AreDerived = Each (ActDerived Plain)
 
 block_derived : (xs : List Act) → AreDerived xs → ActsDerived Plain (acts xs)
 block_derived [] d = tt
 block_derived (a ∷ more) d = (d.0, block_derived more d.1)
-
-both_derived : (xs ys : List Act) → AreDerived xs → AreDerived ys → AreDerived (xs ++ ys)
-both_derived [] ys d e = e
-both_derived (a ∷ more) ys d e = (d.0, both_derived more ys d.1 e)
 
 -- what a `do` assigns
 assigned_derived : (h : Hiding) (place k n : ℕ) (es : Trees) → ArgsDerived es → AreDerived (assigned h place k (first_trees n es))
@@ -65,23 +63,11 @@ assigned_derived h place k (suc n) (tree_then e es) d = (tree_derived h e d.0, a
 
 -- the bodies of the procedures that are known
 abbrev BodiesDerived : List (List ℕ × Callee) → Type 0
-BodiesDerived [] = Unit {0}
-BodiesDerived (c ∷ known) = AreDerived c.1.body × BodiesDerived known
+BodiesDerived = Each (λ c. AreDerived c.1.body)
 
-abbrev BodyDerived : Option Callee → Type 0
-BodyDerived None = Unit {0}
-BodyDerived (Some p) = AreDerived p.body
-
-body_found : (known : List (List ℕ × Callee)) (name : List ℕ) → BodiesDerived known → BodyDerived (declared_as known name)
-body_found [] name d = tt
-body_found (c ∷ known) name d = by (bytes_eq name c.0) (body_found known name d.1) where
-  by : (b : Bool) → BodyDerived (declared_as known name) → BodyDerived (cond b (Some c.1) (declared_as known name))
-  by true later = d.0
-  by false later = later
-
-called_derived : (h : Hiding) (w : Word) (es : Trees) (p : Option Callee) → ArgsDerived es → BodyDerived p → AreDerived (body_called h w es p)
+called_derived : (h : Hiding) (w : Word) (es : Trees) (p : Option Callee) → ArgsDerived es → IfSome p (λ c. AreDerived c.body) → AreDerived (body_called h w es p)
 called_derived h w es None d b = tt
-called_derived h w es (Some p) d b = both_derived (assigned h w.place p.first (first_trees p.params es)) p.body (assigned_derived h w.place p.first p.params es d) b
+called_derived h w es (Some p) d b = each-append (ActDerived Plain) (assigned h w.place p.first (first_trees p.params es)) p.body (assigned_derived h w.place p.first p.params es d) b
 
 mutual
   act_derived : (known : List (List ℕ × Callee)) → BodiesDerived known → (h : Hiding) (a : Act) → ActDerived Procedures a → AreDerived (expanded_act known h a)
@@ -97,23 +83,19 @@ mutual
   act_derived known b h (for_next w f t s a v) d =
       ((tree_derived h f d.0, tree_derived h t d.1, block_derived (expanded_acts known h a) (acts_derived known b h a d.2)), tt)
   act_derived known b h (while_do e a) d = ((tree_derived h e d.0, block_derived (expanded_acts known h a) (acts_derived known b h a d.1)), tt)
-  act_derived known b h (run_procedure w es) d = called_derived h w es (declared_as known w.name) d (body_found known w.name b)
+  act_derived known b h (run_procedure w es) d = called_derived h w es (declared_as known w.name) d (each-declared (λ (c : Callee). AreDerived c.body) known w.name b)
 
   acts_derived : (known : List (List ℕ × Callee)) → BodiesDerived known → (h : Hiding) (a : Acts) → ActsDerived Procedures a → AreDerived (expanded_acts known h a)
   acts_derived known b h no_acts d = tt
   acts_derived known b h (act_then a more) d =
-      both_derived (expanded_act known h a) (expanded_acts known h more) (act_derived known b h a d.0) (acts_derived known b h more d.1)
+      each-append (ActDerived Plain) (expanded_act known h a) (expanded_acts known h more) (act_derived known b h a d.0) (acts_derived known b h more d.1)
 
 -- ---- procedures
-
-one_more : (known : List (List ℕ × Callee)) (c : List ℕ × Callee) → BodiesDerived known → AreDerived c.1.body → BodiesDerived (known ++ c ∷ [])
-one_more [] c b d = (d, tt)
-one_more (k ∷ known) c b d = (b.0, one_more known c b.1 d)
 
 bodies_derived : (known : List (List ℕ × Callee)) (ps : List Procedure) → BodiesDerived known → ProceduresDerived ps → BodiesDerived (declared_in_order callee known ps)
 bodies_derived known [] b d = b
 bodies_derived known (p ∷ ps) b d =
-    bodies_derived (known ++ (p.name.name, callee known p) ∷ []) ps (one_more known (p.name.name, callee known p) b (acts_derived known b _ p.body d.0)) d.1
+    bodies_derived (known ++ (p.name.name, callee known p) ∷ []) ps (each-push _ known (p.name.name, callee known p) b (acts_derived known b _ p.body d.0)) d.1
 
 -- ---- declarations
 

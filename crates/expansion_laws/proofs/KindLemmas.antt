@@ -1,9 +1,11 @@
 -- The tokens of an expansion are of kinds that some text is cut into, if a text spells the source with procedures.
-use Rattle.std.proofs.Common.{◌≡◌, ℕ, zero, suc, ◌+◌, ◌%◌, ◌<◌, ◌≤◌, nat_le, ◌==◌, Bool, true, false, cond, if◌then◌else◌, List, [], ◌∷◌, ◌++◌, length, map, decimal, Option, Some, None, Result, Ok, Err, refl, sym, subst, arith}
+use Rattle.std.proofs.Common.{◌≡◌, ℕ, zero, suc, ◌+◌, ◌%◌, ◌<◌, ◌≤◌, nat_le, ◌==◌, Bool, true, false, if◌then◌else◌, List, [], ◌∷◌, ◌++◌, length, map, decimal, Option, Some, None, Result, Ok, Err, refl, sym, subst, arith}
 use Rattle.std.specs.Prelude.{bytes_eq, sum_by, IfSome}
 use Rattle.std.proofs.lemmas.Bool.{and_from, le-leb, or_right}
 use Rattle.std.proofs.lemmas.Fmt.{decimal_by_steps, length-decimal-le}
 use Rattle.std.proofs.lemmas.List.Sums.{sum_by_push}
+use Rattle.mate_num.specs.Lists.{Each}
+use Rattle.mate_num.proofs.ListLemmas.{each-append, each-parts, each-push}
 use Rattle.ts_checked.specs.declared.bin_op.BinOp.{BinOp}
 use Rattle.ts_checked.specs.declared.bin_op.BinOp.TheVariants as op
 use Rattle.ts_syntax.specs.declared.dialect.Dialect.TheVariants.{Procedures}
@@ -24,7 +26,7 @@ use Rattle.ts_lexer.specs.Spans.{Passes}
 use Rattle.ts_lexer.specs.Printed.{IsNameText, IsKind, AreKinds, IsCutInto}
 use Rattle.proc_names.specs.Heads.{parameter_count}
 use Rattle.proc_names.specs.Places.{declared_as}
-use Rattle.proc_names.proofs.PlaceLemmas.{position_from-within}
+use Rattle.proc_names.proofs.PlaceLemmas.{position_from-within, each-declared}
 use Rattle.proc_renaming.specs.Renaming.{Hiding, nothing_hidden, parameter_name, parameter_decls, number_hiding, renamed_as, renamed, renamed_expr, renamed_args, assigned}
 use Rattle.proc_expansion.specs.InOrder.{declared_in_order}
 use Rattle.proc_expansion.specs.Expansion.{first_trees, Callee, body_called, expanded_act, expanded_acts, callee, callees, expansion}
@@ -38,8 +40,7 @@ IsSourceKind (kind.Num n) = n ≤ 65535
 IsSourceKind _ = Unit {0}
 
 abbrev AreSourceKinds : List TokenKind → Type 0
-AreSourceKinds [] = Unit {0}
-AreSourceKinds (k ∷ ks) = IsSourceKind k × AreSourceKinds ks
+AreSourceKinds = Each IsSourceKind
 
 source_kind : (k : TokenKind) → IsKind k → IsSourceKind (procedure_kind k)
 source_kind (kind.Name w) h = by (bytes_eq w (token_text kind.Proc)) (bytes_eq w (token_text kind.Do)) where
@@ -64,16 +65,10 @@ text_kinds law bytes ts e = by (cut bytes) refl e where
   by (Err fault) q p = cc
 
 fronts : (xs ys : List TokenKind) → AreSourceKinds (xs ++ ys) → AreSourceKinds xs
-fronts [] ys h = tt
-fronts (k ∷ xs) ys h = (h.0, fronts xs ys h.1)
+fronts xs ys h = (each-parts IsSourceKind xs ys h).0
 
 backs : (xs ys : List TokenKind) → AreSourceKinds (xs ++ ys) → AreSourceKinds ys
-backs [] ys h = h
-backs (k ∷ xs) ys h = backs xs ys h.1
-
-both : (xs ys : List TokenKind) → AreKinds xs → AreKinds ys → AreKinds (xs ++ ys)
-both [] ys h g = g
-both (k ∷ xs) ys h g = (h.0, both xs ys h.1 g)
+backs xs ys h = (each-parts IsSourceKind xs ys h).1
 
 -- ---- names of parameters
 
@@ -82,13 +77,9 @@ digit d h =
     or_right (begins_name (48 + d)) (is_digit (48 + d))
     (and_from (nat_le 48 (48 + d)) (nat_le (48 + d) 57) (le-leb 48 (48 + d) (omega arith)) (le-leb (48 + d) 57 (omega arith)))
 
-passes_push : (ds : List ℕ) (c : ℕ) → in_name c ≡ true → Passes in_name ds → Passes in_name (ds ++ c ∷ [])
-passes_push [] c h p = (h, tt)
-passes_push (d ∷ ds) c h p = (p.0, passes_push ds c h p.1)
-
 digits : (n : ℕ) → n < 4294967296 → Passes in_name (decimal n)
 digits n h =
-    decimal_by_steps (λ m ds. Passes in_name ds) (λ m small. (digit m small, tt)) (λ m ds large p. passes_push ds (48 + m % 10) (digit (m % 10) (omega arith)) p) n (omega arith)
+    decimal_by_steps (λ m ds. Passes in_name ds) (λ m small. (digit m small, tt)) (λ m ds large p. each-push _ ds (48 + m % 10) p (digit (m % 10) (omega arith))) n (omega arith)
 
 parameter_text : (k : ℕ) → k < 4294967296 → IsNameText (parameter_name k)
 unfolding word_kind
@@ -131,26 +122,26 @@ module _ (h : Hiding) (few : AreFew h) where
     tree_kinds (number n) p = (p.0, tt)
     tree_kinds (variable w) p = (renamed_text h few w p.0, tt)
     tree_kinds (item w e) p =
-        (renamed_text h few w p.0, (tt, both (spelled (renamed_expr h e)) (kind.CloseBox ∷ []) (tree_kinds e (fronts (spelled e) (kind.CloseBox ∷ []) p.1.1)) (tt, tt)))
+        (renamed_text h few w p.0, (tt, each-append IsKind (spelled (renamed_expr h e)) (kind.CloseBox ∷ []) (tree_kinds e (fronts (spelled e) (kind.CloseBox ∷ []) p.1.1)) (tt, tt)))
     tree_kinds (size w) p = (tt, (tt, (renamed_text h few w p.1.1.0, (tt, tt))))
-    tree_kinds (message_item e) p = (tt, (tt, both (spelled (renamed_expr h e)) (kind.CloseBox ∷ []) (tree_kinds e (fronts (spelled e) (kind.CloseBox ∷ []) p.1.1)) (tt, tt)))
+    tree_kinds (message_item e) p = (tt, (tt, each-append IsKind (spelled (renamed_expr h e)) (kind.CloseBox ∷ []) (tree_kinds e (fronts (spelled e) (kind.CloseBox ∷ []) p.1.1)) (tt, tt)))
     tree_kinds message_size p = (tt, (tt, (tt, (tt, tt))))
     tree_kinds (call w es) p =
-        (p.0, (tt, both (args_spelled (renamed_args h es)) (kind.Close ∷ []) (args_kinds es (each es (fronts (args_spelled es) (kind.Close ∷ []) p.1.1))) (tt, tt)))
+        (p.0, (tt, each-append IsKind (args_spelled (renamed_args h es)) (kind.Close ∷ []) (args_kinds es (each es (fronts (args_spelled es) (kind.Close ∷ []) p.1.1))) (tt, tt)))
     tree_kinds (negative e) p = (tt, tree_kinds e p.1)
     tree_kinds (inverse e) p = (tt, tree_kinds e p.1)
     tree_kinds (two o l r) p =
-        both (spelled (renamed_expr h l)) (sign o ∷ spelled (renamed_expr h r)) (tree_kinds l (fronts (spelled l) (sign o ∷ spelled r) p))
+        each-append IsKind (spelled (renamed_expr h l)) (sign o ∷ spelled (renamed_expr h r)) (tree_kinds l (fronts (spelled l) (sign o ∷ spelled r) p))
         (sign_kind o, tree_kinds r (backs (spelled l) (sign o ∷ spelled r) p).1)
-    tree_kinds (paren e) p = (tt, both (spelled (renamed_expr h e)) (kind.Close ∷ []) (tree_kinds e (fronts (spelled e) (kind.Close ∷ []) p.1)) (tt, tt))
+    tree_kinds (paren e) p = (tt, each-append IsKind (spelled (renamed_expr h e)) (kind.Close ∷ []) (tree_kinds e (fronts (spelled e) (kind.Close ∷ []) p.1)) (tt, tt))
 
     args_kinds : (es : Trees) → EachKinds es → AreKinds (args_spelled (renamed_args h es))
     args_kinds no_trees p = tt
-    args_kinds (tree_then e es) p = both (spelled (renamed_expr h e)) (more_spelled (renamed_args h es)) (tree_kinds e p.0) (more_kinds es p.1)
+    args_kinds (tree_then e es) p = each-append IsKind (spelled (renamed_expr h e)) (more_spelled (renamed_args h es)) (tree_kinds e p.0) (more_kinds es p.1)
 
     more_kinds : (es : Trees) → EachKinds es → AreKinds (more_spelled (renamed_args h es))
     more_kinds no_trees p = tt
-    more_kinds (tree_then e es) p = (tt, both (spelled (renamed_expr h e)) (more_spelled (renamed_args h es)) (tree_kinds e p.0) (more_kinds es p.1))
+    more_kinds (tree_then e es) p = (tt, each-append IsKind (spelled (renamed_expr h e)) (more_spelled (renamed_args h es)) (tree_kinds e p.0) (more_kinds es p.1))
 
 step_kinds : (s : Option Step) → AreSourceKinds (step_spelled s) → AreKinds (step_spelled s)
 step_kinds None p = tt
@@ -163,23 +154,18 @@ step_kinds (Some s) p = (tt, by s.minus p.1) where
 
 -- the tokens of each statement of a list
 abbrev AreActs : List Act → Type 0
-AreActs [] = Unit {0}
-AreActs (a ∷ more) = AreKinds (act_spelled a) × AreActs more
+AreActs = Each (λ a. AreKinds (act_spelled a))
 
 block_kinds : (xs : List Act) → AreActs xs → AreKinds (acts_spelled (acts xs))
 block_kinds [] h = tt
-block_kinds (a ∷ more) h = both (act_spelled a) (acts_spelled (acts more)) h.0 (block_kinds more h.1)
-
-both_acts : (xs ys : List Act) → AreActs xs → AreActs ys → AreActs (xs ++ ys)
-both_acts [] ys h g = g
-both_acts (a ∷ more) ys h g = (h.0, both_acts more ys h.1 g)
+block_kinds (a ∷ more) h = each-append IsKind (act_spelled a) (acts_spelled (acts more)) h.0 (block_kinds more h.1)
 
 -- what a `do` assigns
 assigned_kinds : (h : Hiding) → AreFew h → (place k n : ℕ) (es : Trees) → k + n ≤ 4294967296 → EachKinds es → AreActs (assigned h place k (first_trees n es))
 assigned_kinds h few place k zero es less p = tt
 assigned_kinds h few place k (suc n) no_trees less p = tt
 assigned_kinds h few place k (suc n) (tree_then e es) less p = (
-  (parameter_text k (omega arith), (tt, both (spelled (renamed_expr h e)) (kind.Semi ∷ []) (tree_kinds h few e p.0) (tt, tt))),
+  (parameter_text k (omega arith), (tt, each-append IsKind (spelled (renamed_expr h e)) (kind.Semi ∷ []) (tree_kinds h few e p.0) (tt, tt))),
   assigned_kinds h few place (k + 1) n es (omega arith) p.1,
 )
 
@@ -189,29 +175,17 @@ record IsFine (c : Callee) : Type 0 where
   body : AreActs c.body
 
 abbrev AreFine : List (List ℕ × Callee) → Type 0
-AreFine [] = Unit {0}
-AreFine (c ∷ known) = IsFine c.1 × AreFine known
+AreFine = Each (λ c. IsFine c.1)
 
-abbrev IsFineIf : Option Callee → Type 0
-IsFineIf None = Unit {0}
-IsFineIf (Some c) = IsFine c
-
-fine_found : (known : List (List ℕ × Callee)) (name : List ℕ) → AreFine known → IsFineIf (declared_as known name)
-fine_found [] name g = tt
-fine_found (c ∷ known) name g = by (bytes_eq name c.0) (fine_found known name g.1) where
-  by : (b : Bool) → IsFineIf (declared_as known name) → IsFineIf (cond b (Some c.1) (declared_as known name))
-  by true later = g.0
-  by false later = later
-
-called_kinds : (h : Hiding) → AreFew h → (w : Word) (es : Trees) (c : Option Callee) → EachKinds es → IsFineIf c → AreActs (body_called h w es c)
+called_kinds : (h : Hiding) → AreFew h → (w : Word) (es : Trees) (c : Option Callee) → EachKinds es → IfSome c IsFine → AreActs (body_called h w es c)
 called_kinds h few w es None p g = tt
 called_kinds h few w es (Some c) p g =
-    both_acts (assigned h w.place c.first (first_trees c.params es)) c.body (assigned_kinds h few w.place c.first c.params es g.few p) g.body
+    each-append _ (assigned h w.place c.first (first_trees c.params es)) c.body (assigned_kinds h few w.place c.first c.params es g.few p) g.body
 
 module _ (known : List (List ℕ × Callee)) (fine : AreFine known) (h : Hiding) (few : AreFew h) where
   -- a statement that ends in `;` behind an expression
   ended : (e : Tree) → AreSourceKinds (spelled e ++ kind.Semi ∷ []) → AreKinds (spelled (renamed_expr h e) ++ kind.Semi ∷ [])
-  ended e p = both (spelled (renamed_expr h e)) (kind.Semi ∷ []) (tree_kinds h few e (fronts (spelled e) (kind.Semi ∷ []) p)) (tt, tt)
+  ended e p = each-append IsKind (spelled (renamed_expr h e)) (kind.Semi ∷ []) (tree_kinds h few e (fronts (spelled e) (kind.Semi ∷ []) p)) (tt, tt)
 
   mutual
     act_kinds : (a : Act) → AreSourceKinds (act_spelled a) → AreActs (expanded_act known h a)
@@ -222,7 +196,7 @@ module _ (known : List (List ℕ × Callee)) (fine : AreFine known) (h : Hiding)
             renamed_text h few w p.0,
             (
               tt,
-              both (spelled (renamed_expr h i)) (kind.CloseBox ∷ kind.Eq ∷ spelled (renamed_expr h e) ++ kind.Semi ∷ [])
+              each-append IsKind (spelled (renamed_expr h i)) (kind.CloseBox ∷ kind.Eq ∷ spelled (renamed_expr h e) ++ kind.Semi ∷ [])
                   (tree_kinds h few i (fronts (spelled i) (kind.CloseBox ∷ kind.Eq ∷ spelled e ++ kind.Semi ∷ []) p.1.1)) (tt, (tt, ended e rest.1.1)),
             ),
           ),
@@ -236,7 +210,7 @@ module _ (known : List (List ℕ × Callee)) (fine : AreFine known) (h : Hiding)
         p.0,
         (
           tt,
-          both (args_spelled (renamed_args h es)) (kind.Close ∷ kind.Semi ∷ [])
+          each-append IsKind (args_spelled (renamed_args h es)) (kind.Close ∷ kind.Semi ∷ [])
               (args_kinds h few es (each es (fronts (args_spelled es) (kind.Close ∷ kind.Semi ∷ []) p.1.1))) (tt, (tt, tt)),
         ),
       ),
@@ -247,8 +221,8 @@ module _ (known : List (List ℕ × Callee)) (fine : AreFine known) (h : Hiding)
         let rest = backs (spelled e) (kind.Then ∷ acts_spelled a ++ close) p.1 in (
           (
             tt,
-            both (spelled (renamed_expr h e)) (kind.Then ∷ acts_spelled (acts (expanded_acts known h a)) ++ close) (tree_kinds h few e (fronts (spelled e) (kind.Then ∷ acts_spelled a ++ close) p.1))
-                (tt, both (acts_spelled (acts (expanded_acts known h a))) close (block_kinds (expanded_acts known h a) (acts_kinds a (fronts (acts_spelled a) close rest.1))) (tt, (tt, tt))),
+            each-append IsKind (spelled (renamed_expr h e)) (kind.Then ∷ acts_spelled (acts (expanded_acts known h a)) ++ close) (tree_kinds h few e (fronts (spelled e) (kind.Then ∷ acts_spelled a ++ close) p.1))
+                (tt, each-append IsKind (acts_spelled (acts (expanded_acts known h a))) close (block_kinds (expanded_acts known h a) (acts_kinds a (fronts (acts_spelled a) close rest.1))) (tt, (tt, tt))),
           ),
           tt,
         )
@@ -260,10 +234,10 @@ module _ (known : List (List ℕ × Callee)) (fine : AreFine known) (h : Hiding)
         let other' : List TokenKind = kind.Else ∷ acts_spelled (acts (expanded_acts known h b)) ++ close in (
           (
             tt,
-            both (spelled (renamed_expr h e)) (kind.Then ∷ acts_spelled (acts (expanded_acts known h a)) ++ other') (tree_kinds h few e (fronts (spelled e) (kind.Then ∷ acts_spelled a ++ other) p.1)) (
+            each-append IsKind (spelled (renamed_expr h e)) (kind.Then ∷ acts_spelled (acts (expanded_acts known h a)) ++ other') (tree_kinds h few e (fronts (spelled e) (kind.Then ∷ acts_spelled a ++ other) p.1)) (
               tt,
-              both (acts_spelled (acts (expanded_acts known h a))) other' (block_kinds (expanded_acts known h a) (acts_kinds a (fronts (acts_spelled a) other rest.1)))
-                  (tt, both (acts_spelled (acts (expanded_acts known h b))) close (block_kinds (expanded_acts known h b) (acts_kinds b (fronts (acts_spelled b) close last.1))) (tt, (tt, tt))),
+              each-append IsKind (acts_spelled (acts (expanded_acts known h a))) other' (block_kinds (expanded_acts known h a) (acts_kinds a (fronts (acts_spelled a) other rest.1)))
+                  (tt, each-append IsKind (acts_spelled (acts (expanded_acts known h b))) close (block_kinds (expanded_acts known h b) (acts_kinds b (fronts (acts_spelled b) close last.1))) (tt, (tt, tt))),
             ),
           ),
           tt,
@@ -282,12 +256,12 @@ module _ (known : List (List ℕ × Callee)) (fine : AreFine known) (h : Hiding)
               renamed_text h few w p.1.0,
               (
                 tt,
-                both (spelled (renamed_expr h f)) (kind.To ∷ spelled (renamed_expr h t) ++ (step_spelled s ++ last'))
+                each-append IsKind (spelled (renamed_expr h f)) (kind.To ∷ spelled (renamed_expr h t) ++ (step_spelled s ++ last'))
                     (tree_kinds h few f (fronts (spelled f) until p.1.1.1)) (
                       tt,
-                      both (spelled (renamed_expr h t)) (step_spelled s ++ last') (tree_kinds h few t (fronts (spelled t) (step_spelled s ++ last) rest.1))
-                          (both (step_spelled s) last' (step_kinds s (fronts (step_spelled s) last steps))
-                          (both (acts_spelled (acts (expanded_acts known h a))) (kind.Next ∷ kind.Name (renamed h v).name ∷ [])
+                      each-append IsKind (spelled (renamed_expr h t)) (step_spelled s ++ last') (tree_kinds h few t (fronts (spelled t) (step_spelled s ++ last) rest.1))
+                          (each-append IsKind (step_spelled s) last' (step_kinds s (fronts (step_spelled s) last steps))
+                          (each-append IsKind (acts_spelled (acts (expanded_acts known h a))) (kind.Next ∷ kind.Name (renamed h v).name ∷ [])
                           (block_kinds (expanded_acts known h a) (acts_kinds a (fronts (acts_spelled a) (kind.Next ∷ kind.Name v.name ∷ []) body))) (tt, (renamed_text h few v next.1.0, tt)))),
                     ),
               ),
@@ -300,27 +274,23 @@ module _ (known : List (List ℕ × Callee)) (fine : AreFine known) (h : Hiding)
         let rest = backs (spelled e) (acts_spelled a ++ close) p.1 in (
           (
             tt,
-            both (spelled (renamed_expr h e)) (acts_spelled (acts (expanded_acts known h a)) ++ close) (tree_kinds h few e (fronts (spelled e) (acts_spelled a ++ close) p.1))
-                (both (acts_spelled (acts (expanded_acts known h a))) close (block_kinds (expanded_acts known h a) (acts_kinds a (fronts (acts_spelled a) close rest))) (tt, (tt, tt))),
+            each-append IsKind (spelled (renamed_expr h e)) (acts_spelled (acts (expanded_acts known h a)) ++ close) (tree_kinds h few e (fronts (spelled e) (acts_spelled a ++ close) p.1))
+                (each-append IsKind (acts_spelled (acts (expanded_acts known h a))) close (block_kinds (expanded_acts known h a) (acts_kinds a (fronts (acts_spelled a) close rest))) (tt, (tt, tt))),
           ),
           tt,
         )
     act_kinds (run_procedure w es) p =
-        called_kinds h few w es (declared_as known w.name) (each es (fronts (args_spelled es) (kind.Close ∷ kind.Semi ∷ []) p.1.1.1)) (fine_found known w.name fine)
+        called_kinds h few w es (declared_as known w.name) (each es (fronts (args_spelled es) (kind.Close ∷ kind.Semi ∷ []) p.1.1.1)) (each-declared IsFine known w.name fine)
 
     acts_kinds : (a : Acts) → AreSourceKinds (acts_spelled a) → AreActs (expanded_acts known h a)
     acts_kinds no_acts p = tt
     acts_kinds (act_then a more) p =
-        both_acts (expanded_act known h a) (expanded_acts known h more) (act_kinds a (fronts (act_spelled a) (acts_spelled more) p)) (acts_kinds more (backs (act_spelled a) (acts_spelled more) p))
+        each-append _ (expanded_act known h a) (expanded_acts known h more) (act_kinds a (fronts (act_spelled a) (acts_spelled more) p)) (acts_kinds more (backs (act_spelled a) (acts_spelled more) p))
 
   body_kinds : (a : Acts) → AreSourceKinds (acts_spelled a) → AreKinds (acts_spelled (acts (expanded_acts known h a)))
   body_kinds a p = block_kinds (expanded_acts known h a) (acts_kinds a p)
 
 -- ---- procedures
-
-one_more : (known : List (List ℕ × Callee)) (c : List ℕ × Callee) → AreFine known → IsFine c.1 → AreFine (known ++ c ∷ [])
-one_more [] c g f = (f, tt)
-one_more (k ∷ known) c g f = (g.0, one_more known c g.1 f)
 
 -- how many parameters these have
 abbrev params_of : List (List ℕ × Callee) → ℕ
@@ -344,7 +314,7 @@ fine_callees known (q ∷ ps) g few p =
       few = here;
       body = acts_kinds known g (record { first = params_of known; params = q.params }) here q.body (procedure_body q (fronts (procedure_spelled q) (procedures_spelled ps) p));
     } in
-    fine_callees (known ++ c ∷ []) ps (one_more known c g fine) later (backs (procedure_spelled q) (procedures_spelled ps) p)
+    fine_callees (known ++ c ∷ []) ps (each-push _ known c g fine) later (backs (procedure_spelled q) (procedures_spelled ps) p)
 
 -- ---- declarations
 
@@ -367,7 +337,7 @@ decls_kinds (d ∷ ds) more p q = (
   start_kind d.first d.kind,
   (
     p.1.0,
-    both (decls_gap (ds ++ more)) (decls_spelled (ds ++ more)) (gap_kinds (ds ++ more))
+    each-append IsKind (decls_gap (ds ++ more)) (decls_spelled (ds ++ more)) (gap_kinds (ds ++ more))
         (decls_kinds ds more (backs (decls_gap ds) (decls_spelled ds) p.1.1) q),
   ),
 )
@@ -378,7 +348,7 @@ parameter_kinds k (suc n) less = (
   start_kind (k == 0) decl.Private,
   (
     parameter_text k (omega arith),
-    both (decls_gap (parameter_decls (k + 1) n)) (decls_spelled (parameter_decls (k + 1) n))
+    each-append IsKind (decls_gap (parameter_decls (k + 1) n)) (decls_spelled (parameter_decls (k + 1) n))
         (gap_kinds (parameter_decls (k + 1) n)) (parameter_kinds (k + 1) n (omega arith)),
   ),
 )
@@ -394,7 +364,7 @@ expansion_kinds law bytes s text few =
     let start : params_of [] + parameter_count s.procs ≤ 4294967296 = omega (arith, few) in
     let fine : AreFine known = fine_callees [] s.procs tt start (fronts (procedures_spelled s.procs) (acts_spelled s.body) behind) in
     let decls : List Decl = s.decls ++ parameter_decls 0 (parameter_count s.procs) in
-    both (decls_spelled decls) (acts_spelled (acts (expanded_acts known nothing_hidden s.body)))
+    each-append IsKind (decls_spelled decls) (acts_spelled (acts (expanded_acts known nothing_hidden s.body)))
     (decls_kinds s.decls (parameter_decls 0 (parameter_count s.procs)) (fronts (decls_spelled s.decls) (procedures_spelled s.procs ++ acts_spelled s.body) all)
     (parameter_kinds 0 (parameter_count s.procs) (omega (arith, few))))
     (body_kinds known fine nothing_hidden (omega arith) s.body (backs (procedures_spelled s.procs) (acts_spelled s.body) behind))

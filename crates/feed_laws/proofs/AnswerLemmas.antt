@@ -19,10 +19,10 @@ use Rattle.slip_gateway.specs.declared.frames.Frame.{Frame}
 use Rattle.slip_gateway.specs.declared.frames.Frame.TheVariants.{Whole}
 use Rattle.mate_documents.specs.FeedAnswers.{Held, if_newer, verified_answer, decoded_answer, answer_to, answers_from, answers_to, held_after}
 use Rattle.mate_documents.specs.declared.answer.Answer.{Answer}
-use Rattle.mate_documents.specs.declared.answer.Answer.TheVariants.{Installed, NotNewer, BadCode}
+use Rattle.mate_documents.specs.declared.answer.Answer.TheVariants.{Installed, NotNewer}
 use Rattle.mate_documents.proofs.FrameAnswers.{same-answer, after-same}
 use Rattle.feed_laws.specs.Installing.{held_in, frame_answer, IsFrameAnswer, installs, refuses, long, broken, AreAnswered}
-use Rattle.feed_laws.proofs.NoInstalls.{same-all, installs-rest}
+use Rattle.journal_laws.proofs.Plain.{installs-plain, plains-none, same-installed}
 
 -- ---- one answer
 
@@ -66,7 +66,7 @@ install-after d r q p told h is =
 
       found : (state_after_entries m r told).installed i ≡ (if h == p.handler.0 then Some p else r.installed i)
       found = subst (λ (xs : List JournalEntry). (state_after_entries m r xs).installed i ≡ (if h == p.handler.0 then Some p else r.installed i)) (sym is.made)
-          (ap (λ (f : HandlerId → Option HeldProgram). f i) (same-all m (next_state m (next_state m r (Seen is.seen)) (ToldInstalled p)) is.rest (installs-rest m r q p told is)))
+          (ap (λ (f : HandlerId → Option HeldProgram). f i) (same-installed m (next_state m (next_state m r (Seen is.seen)) (ToldInstalled p)) is.rest (plains-none is.rest (installs-plain m r q p told is))))
 
       by : (b : Bool) → version_in (if b then Some p else r.installed i) ≡ (if b then p.version else held_in r h)
       by true = refl

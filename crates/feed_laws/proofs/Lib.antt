@@ -1,2 +1,1 @@
-mod NoInstalls
 mod AnswerLemmas

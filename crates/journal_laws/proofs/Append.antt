@@ -1,22 +1,22 @@
 -- How a journal grows: what a rule owes at one more entry, at what was heard before it.
-use Rattle.std.proofs.Common.{◌≡◌, ◌<◌, ◌≤◌, ℕ, Bool, false, List, [], ◌∷◌, ◌++◌, length, map, refl, sym, ◌∙◌, ap, subst, arith, length-append}
+use Rattle.std.proofs.Common.{◌≡◌, ◌<◌, ℕ, Bool, false, List, [], ◌∷◌, ◌++◌, length, map, refl, sym, ◌∙◌, ap, subst, arith}
 use Rattle.std.specs.Prelude.{slice_index_or}
 use Rattle.std.proofs.Math.ListN.{get_or-append}
-use Rattle.std.proofs.Math.Seq.{get_or-append_seam}
 use Rattle.std.proofs.lemmas.List.{map-append, append-nil}
+use Rattle.std.proofs.lemmas.List.Sums.{fold-append}
 use Rattle.arrayvec.specs.ArrayVec.{ArrayVec}
 use Rattle.mate_num.specs.declared.call.Stamp.{Stamp}
-use Rattle.mate_num.specs.declared.id.HandlerId.{HandlerId}
 use Rattle.mate_num.specs.declared.store.Store.{Store}
+use Rattle.mate_num.proofs.ListLemmas.{along-push, along-parts}
 use Rattle.mate_journal.specs.Log.{Log, IsSameLog, IsEmpty}
 use Rattle.mate_journal.specs.Machine.{Machine}
-use Rattle.mate_journal.specs.Journal.{JournalEntry, Posted, Dropped, Started, Asked, Answered, Ended, Installed, Reset, Seen, Void, TimedEntry, journal_entry, journal_of, NodeState, next_state, state_after_all, AtEachEntry, AtEachPlace}
-use Rattle.mate_journal.specs.WellFormed.{MayFollow, NotBefore, IsInTime, StampsRise, IsWellFormed}
+use Rattle.mate_journal.specs.Journal.{JournalEntry, Installed, Seen, TimedEntry, journal_entry, journal_of, NodeState, next_state, state_after_all, AtEachEntry, AtEachPlace}
+use Rattle.mate_journal.specs.WellFormed.{MayFollow, NotBefore, StampsRise, IsWellFormed}
 use Rattle.mate_journal.specs.Serial.{EndsAsRun, RunsSoFar, IsSerial}
-use Rattle.mate_journal.specs.Stores.{ShowsStore, SeenBeforeEras, ShowsStores, is_seen, IsSeenBefore}
+use Rattle.mate_journal.specs.Stores.{ShowsStore, ShowsStores, is_seen, IsSeenBefore}
 use Rattle.mate_journal.specs.Grants.{AllHeldBack, IsGranted, started_number, GrantsInOrder}
 pub use Rattle.mate_journal.proofs.JournalLemmas.{heard_all-append}
-use Rattle.journal_laws.specs.Growth.{event_of, IsNamedBelow, AreNamedBelow, NamesInLog, IsPushed, AddsImage, AddsStore, last_stamp, FollowsLast, last_start, last_is_seen, BeforeEachEntry, GrantsBefore}
+use Rattle.journal_laws.specs.Growth.{event_of, IsNamedBelow, AreNamedBelow, NamesInLog, IsPushed, AddsImage, AddsStore, last_stamp, FollowsLast, last_start, last_is_seen, GrantsBefore}
 use Rattle.mate_journal.specs.declared.entry.Entry.{Entry}
 use Rattle.mate_journal.specs.declared.entry.Entry.TheVariants as entry
 use Rattle.mate_journal.specs.declared.entry.Stamped.{Stamped}
@@ -28,45 +28,23 @@ heard_all-push m r es e = heard_all-append m r es (e ∷ [])
 
 -- ---- a rule for each entry
 
-pub AtEachEntry-append : (Rule : NodeState → JournalEntry → Type 0) (m : Machine) (r : NodeState) (es fs : List TimedEntry)
-    → AtEachEntry Rule m r es → AtEachEntry Rule m (state_after_all m r es) fs → AtEachEntry Rule m r (es ++ fs)
-AtEachEntry-append Rule m r [] fs first then = then
-AtEachEntry-append Rule m r (e ∷ es) fs first then = (first.0, AtEachEntry-append Rule m (next_state m r e.told) es fs first.1 then)
-
-pub AtEachEntry-push : (Rule : NodeState → JournalEntry → Type 0) (m : Machine) (r : NodeState) (es : List TimedEntry) (e : TimedEntry)
-    → AtEachEntry Rule m r es → Rule (state_after_all m r es) e.told → AtEachEntry Rule m r (es ++ e ∷ [])
-AtEachEntry-push Rule m r es e first last = AtEachEntry-append Rule m r es (e ∷ []) first (last, tt)
-
-pub AtEachEntry-front : (Rule : NodeState → JournalEntry → Type 0) (m : Machine) (r : NodeState) (es fs : List TimedEntry) → AtEachEntry Rule m r (es ++ fs) → AtEachEntry Rule m r es
-AtEachEntry-front Rule m r [] fs all = tt
-AtEachEntry-front Rule m r (e ∷ es) fs all = (all.0, AtEachEntry-front Rule m (next_state m r e.told) es fs all.1)
-
 pub AtEachEntry-back : (Rule : NodeState → JournalEntry → Type 0) (m : Machine) (r : NodeState) (es fs : List TimedEntry) → AtEachEntry Rule m r (es ++ fs) → AtEachEntry Rule m (state_after_all m r es) fs
-AtEachEntry-back Rule m r [] fs all = all
-AtEachEntry-back Rule m r (e ∷ es) fs all = AtEachEntry-back Rule m (next_state m r e.told) es fs all.1
+AtEachEntry-back Rule m r es fs all = (along-parts _ _ r es fs all).1
 
 -- ---- a fact at each place
+
+pub AtEachPlace-first : (Fact : NodeState → Type 0) (m : Machine) (r : NodeState) (es : List TimedEntry) → AtEachPlace Fact m r es → Fact r
+AtEachPlace-first Fact m r [] all = all
+AtEachPlace-first Fact m r (e ∷ es) all = all.0
 
 pub AtEachPlace-last : (Fact : NodeState → Type 0) (m : Machine) (r : NodeState) (es : List TimedEntry) → AtEachPlace Fact m r es → Fact (state_after_all m r es)
 AtEachPlace-last Fact m r [] all = all
 AtEachPlace-last Fact m r (e ∷ es) all = AtEachPlace-last Fact m (next_state m r e.told) es all.1
 
-pub AtEachPlace-before : (Fact : NodeState → Type 0) (m : Machine) (r : NodeState) (es : List TimedEntry) → AtEachPlace Fact m r es → BeforeEachEntry Fact m r es
-AtEachPlace-before Fact m r [] all = tt
-AtEachPlace-before Fact m r (e ∷ es) all = (all.0, AtEachPlace-before Fact m (next_state m r e.told) es all.1)
-
-pub AtEachPlace-join : (Fact : NodeState → Type 0) (m : Machine) (r : NodeState) (es : List TimedEntry) → BeforeEachEntry Fact m r es → Fact (state_after_all m r es) → AtEachPlace Fact m r es
-AtEachPlace-join Fact m r [] before last = last
-AtEachPlace-join Fact m r (e ∷ es) before last = (before.0, AtEachPlace-join Fact m (next_state m r e.told) es before.1 last)
-
-pub AtEachPlace-append : (Fact : NodeState → Type 0) (m : Machine) (r : NodeState) (es fs : List TimedEntry)
-    → AtEachPlace Fact m r es → AtEachPlace Fact m (state_after_all m r es) fs → AtEachPlace Fact m r (es ++ fs)
-AtEachPlace-append Fact m r [] fs first then = then
-AtEachPlace-append Fact m r (e ∷ es) fs first then = (first.0, AtEachPlace-append Fact m (next_state m r e.told) es fs first.1 then)
-
 pub AtEachPlace-push : (Fact : NodeState → Type 0) (m : Machine) (r : NodeState) (es : List TimedEntry) (e : TimedEntry)
     → AtEachPlace Fact m r es → Fact (next_state m (state_after_all m r es) e.told) → AtEachPlace Fact m r (es ++ e ∷ [])
-AtEachPlace-push Fact m r es e first last = AtEachPlace-append Fact m r es (e ∷ []) first (AtEachPlace-last Fact m r es first, last)
+AtEachPlace-push Fact m r [] e first last = (first, last)
+AtEachPlace-push Fact m r (x ∷ es) e first last = (first.0, AtEachPlace-push Fact m (next_state m r x.told) es e first.1 last)
 
 pub AtEachPlace-back : (Fact : NodeState → Type 0) (m : Machine) (r : NodeState) (es fs : List TimedEntry) → AtEachPlace Fact m r (es ++ fs) → AtEachPlace Fact m (state_after_all m r es) fs
 AtEachPlace-back Fact m r [] fs all = all
@@ -74,19 +52,8 @@ AtEachPlace-back Fact m r (e ∷ es) fs all = AtEachPlace-back Fact m (next_stat
 
 -- ---- stamps
 
-pub IsInTime-append : (before : Stamp) (es fs : List TimedEntry) → IsInTime before es → IsInTime (last_stamp before es) fs → IsInTime before (es ++ fs)
-IsInTime-append before [] fs first then = then
-IsInTime-append before (e ∷ es) fs first then = (first.0, IsInTime-append e.stamp es fs first.1 then)
-
-pub IsInTime-push : (before : Stamp) (es : List TimedEntry) (e : TimedEntry) → IsInTime before es → NotBefore (last_stamp before es) e.stamp → IsInTime before (es ++ e ∷ [])
-IsInTime-push before es e first last = IsInTime-append before es (e ∷ []) first (last, tt)
-
 pub last_stamp-append : (before : Stamp) (es fs : List TimedEntry) → last_stamp before (es ++ fs) ≡ last_stamp (last_stamp before es) fs
-last_stamp-append before [] fs = refl
-last_stamp-append before (e ∷ es) fs = last_stamp-append e.stamp es fs
-
-pub last_stamp-push : (before : Stamp) (es : List TimedEntry) (e : TimedEntry) → last_stamp before (es ++ e ∷ []) ≡ e.stamp
-last_stamp-push before es e = last_stamp-append before es (e ∷ [])
+last_stamp-append before es fs = fold-append (λ last e. e.stamp) before es fs
 
 -- before any stamp there is event 0 at time 0
 abbrev pub start : Stamp
@@ -97,14 +64,14 @@ NotBefore-same at = record { event = omega arith; time = omega arith; same = λ 
 
 pub StampsRise-push : (es : List TimedEntry) (e : TimedEntry) → StampsRise es → FollowsLast es e.stamp → StampsRise (es ++ e ∷ [])
 StampsRise-push [] e rise last = tt
-StampsRise-push (x ∷ es) e rise last = IsInTime-push x.stamp es e rise last
+StampsRise-push (x ∷ es) e rise last = along-push _ _ x.stamp es e rise last
 
 -- the last one's own stamp may come again
 pub FollowsLast-push : (es : List TimedEntry) (e : TimedEntry) → FollowsLast (es ++ e ∷ []) e.stamp
 FollowsLast-push [] e = NotBefore-same e.stamp
 FollowsLast-push (x ∷ es) e =
     let P : Stamp → Type 0 = λ last. NotBefore last e.stamp in
-    subst P (sym (last_stamp-push x.stamp es e)) (NotBefore-same e.stamp)
+    subst P (sym (last_stamp-append x.stamp es (e ∷ []))) (NotBefore-same e.stamp)
 
 pub FollowsLast-from : (es : List TimedEntry) (at : Stamp) → NotBefore (last_stamp start es) at → FollowsLast es at
 FollowsLast-from [] at last = tt
@@ -117,46 +84,15 @@ FollowsLast-later (e ∷ es) a b later last = later (last_stamp e.stamp es) last
 
 -- ---- stores seen before eras
 
--- one entry in front
-SeenBeforeEras-cons : (seen : Bool) (stamp : Stamp) (told : JournalEntry) (es : List TimedEntry) → IsSeenBefore seen told → SeenBeforeEras (is_seen told) es
-    → SeenBeforeEras seen (record { stamp = stamp; told = told } ∷ es)
-SeenBeforeEras-cons seen stamp (Installed p) es here then = (here, then)
-SeenBeforeEras-cons seen stamp Reset es here then = (here, then)
-SeenBeforeEras-cons seen stamp _ es here then = (tt, then)
-
-SeenBeforeEras-first : (seen : Bool) (stamp : Stamp) (told : JournalEntry) (es : List TimedEntry)
-    → SeenBeforeEras seen (record { stamp = stamp; told = told } ∷ es) → IsSeenBefore seen told × SeenBeforeEras (is_seen told) es
-SeenBeforeEras-first seen stamp (Installed p) es all = (all.0, all.1)
-SeenBeforeEras-first seen stamp Reset es all = (all.0, all.1)
-SeenBeforeEras-first seen stamp _ es all = (tt, all.1)
-
-pub SeenBeforeEras-append : (seen : Bool) (es fs : List TimedEntry) → SeenBeforeEras seen es → SeenBeforeEras (last_is_seen seen es) fs → SeenBeforeEras seen (es ++ fs)
-SeenBeforeEras-append seen [] fs first then = then
-SeenBeforeEras-append seen (e ∷ es) fs first then =
-    let parts = SeenBeforeEras-first seen e.stamp e.told es first in
-    SeenBeforeEras-cons seen e.stamp e.told (es ++ fs) parts.0 (SeenBeforeEras-append (is_seen e.told) es fs parts.1 then)
-
-pub SeenBeforeEras-push : (seen : Bool) (es : List TimedEntry) (e : TimedEntry) → SeenBeforeEras seen es → IsSeenBefore (last_is_seen seen es) e.told → SeenBeforeEras seen (es ++ e ∷ [])
-SeenBeforeEras-push seen es e first last =
-    SeenBeforeEras-append seen es (e ∷ []) first (SeenBeforeEras-cons (last_is_seen seen es) e.stamp e.told [] last tt)
-
-pub last_is_seen-append : (seen : Bool) (es fs : List TimedEntry) → last_is_seen seen (es ++ fs) ≡ last_is_seen (last_is_seen seen es) fs
-last_is_seen-append seen [] fs = refl
-last_is_seen-append seen (e ∷ es) fs = last_is_seen-append (is_seen e.told) es fs
-
 pub last_is_seen-push : (seen : Bool) (es : List TimedEntry) (e : TimedEntry) → last_is_seen seen (es ++ e ∷ []) ≡ is_seen e.told
-last_is_seen-push seen es e = last_is_seen-append seen es (e ∷ [])
+last_is_seen-push seen es e = fold-append (λ just_seen e. is_seen e.told) seen es (e ∷ [])
 
 -- ---- grants
 
-pub GrantsBefore-append : (m : Machine) (r : NodeState) (last : ℕ) (es fs : List TimedEntry)
-    → GrantsBefore m r last es → GrantsBefore m (state_after_all m r es) (last_start last es) fs → GrantsBefore m r last (es ++ fs)
-GrantsBefore-append m r last [] fs first then = then
-GrantsBefore-append m r last (e ∷ es) fs first then = (first.0, GrantsBefore-append m (next_state m r e.told) (started_number e.told) es fs first.1 then)
-
 pub GrantsBefore-push : (m : Machine) (r : NodeState) (last : ℕ) (es : List TimedEntry) (e : TimedEntry)
     → GrantsBefore m r last es → IsGranted m (state_after_all m r es) (last_start last es) e.told → GrantsBefore m r last (es ++ e ∷ [])
-GrantsBefore-push m r last es e first here = GrantsBefore-append m r last es (e ∷ []) first (here, tt)
+GrantsBefore-push m r last [] e first here = (here, tt)
+GrantsBefore-push m r last (x ∷ es) e first here = (first.0, GrantsBefore-push m (next_state m r x.told) (started_number x.told) es e first.1 here)
 
 -- the rule along a journal is the rule before each entry, and at the end
 pub GrantsInOrder-join : (m : Machine) (r : NodeState) (last : ℕ) (es : List TimedEntry) → GrantsBefore m r last es → AllHeldBack m (state_after_all m r es) → GrantsInOrder m r last es
@@ -179,12 +115,8 @@ pub GrantsBefore-back : (m : Machine) (r : NodeState) (last : ℕ) (es fs : List
 GrantsBefore-back m r last [] fs all = all
 GrantsBefore-back m r last (e ∷ es) fs all = GrantsBefore-back m (next_state m r e.told) (started_number e.told) es fs all.1
 
-pub last_start-append : (last : ℕ) (es fs : List TimedEntry) → last_start last (es ++ fs) ≡ last_start (last_start last es) fs
-last_start-append last [] fs = refl
-last_start-append last (e ∷ es) fs = last_start-append (started_number e.told) es fs
-
 pub last_start-push : (last : ℕ) (es : List TimedEntry) (e : TimedEntry) → last_start last (es ++ e ∷ []) ≡ started_number e.told
-last_start-push last es e = last_start-append last es (e ∷ [])
+last_start-push last es e = fold-append (λ last e. started_number e.told) last es (e ∷ [])
 
 -- ---- whole journals
 
@@ -192,27 +124,21 @@ pub IsWellFormed-push : (m : Machine) (r : NodeState) (es : List TimedEntry) (e 
     → IsWellFormed m r es → FollowsLast es e.stamp → MayFollow m (state_after_all m r es) e.told → IsWellFormed m r (es ++ e ∷ [])
 IsWellFormed-push m r es e right time follows = record {
   in_time = StampsRise-push es e right.in_time time;
-  follow = AtEachEntry-push (MayFollow m) m r es e right.follow follows;
+  follow = along-push _ _ r es e right.follow follows;
 }
 
 pub IsSerial-push : (m : Machine) (r : NodeState) (es : List TimedEntry) (e : TimedEntry)
     → IsSerial m r es → EndsAsRun m (state_after_all m r es) e.told → RunsSoFar m (next_state m (state_after_all m r es) e.told) → IsSerial m r (es ++ e ∷ [])
 IsSerial-push m r es e serial ends runs = record {
-  ends = AtEachEntry-push (EndsAsRun m) m r es e serial.ends ends;
+  ends = along-push _ _ r es e serial.ends ends;
   so_far = AtEachPlace-push (RunsSoFar m) m r es e serial.so_far runs;
-}
-
-pub IsSerial-append : (m : Machine) (r : NodeState) (es fs : List TimedEntry) → IsSerial m r es → IsSerial m (state_after_all m r es) fs → IsSerial m r (es ++ fs)
-IsSerial-append m r es fs first then = record {
-  ends = AtEachEntry-append (EndsAsRun m) m r es fs first.ends then.ends;
-  so_far = AtEachPlace-append (RunsSoFar m) m r es fs first.so_far then.so_far;
 }
 
 pub ShowsStores-push : (m : Machine) (r : NodeState) (es : List TimedEntry) (e : TimedEntry)
     → ShowsStores m r es → ShowsStore m (state_after_all m r es) e.told → IsSeenBefore (last_is_seen false es) e.told → ShowsStores m r (es ++ e ∷ [])
 ShowsStores-push m r es e shows shown before = record {
-  shown = AtEachEntry-push (ShowsStore m) m r es e shows.shown shown;
-  before_eras = SeenBeforeEras-push false es e shows.before_eras before;
+  shown = along-push _ _ r es e shows.shown shown;
+  before_eras = along-push _ _ false es e shows.before_eras before;
 }
 
 -- ---- the journal of a log
@@ -286,71 +212,3 @@ journal_of-same l after same =
 
 pub journal_of-empty : (l : Log) → IsEmpty l → journal_of l ≡ []
 journal_of-empty l nothing = ap (λ (entries : List Stamped). events_of l entries) nothing.entries
-
--- the image that was added last, and the store, is the one that an entry with the next position names
-pub event_of-install : (l after : Log) (image : ArrayVec ℕ) (stamp : Stamp) (h : HandlerId) (version : ℕ) → AddsImage l image after
-    → event_of after (record { stamp = stamp; entry = entry.Install h version (length l.images) })
-    ≡ record { stamp = stamp; told = Installed (record { handler = h; version = version; image = image }) }
-event_of-install l after image stamp h version adds =
-    ap (λ (i : ArrayVec ℕ). record { stamp = stamp; told = Installed (record { handler = h; version = version; image = i }) })
-    (ap (λ (all : List (ArrayVec ℕ)). slice_index_or all (length l.images) (record { items = [] })) adds.images
-    ∙ get_or-append_seam l.images image [] (record { items = [] }))
-
-pub event_of-seen : (l after : Log) (store : Store) (stamp : Stamp) → AddsStore l store after
-    → event_of after (record { stamp = stamp; entry = entry.Seen (length l.stores) }) ≡ record { stamp = stamp; told = Seen store }
-event_of-seen l after store stamp adds =
-    ap (λ (s : Store). record { stamp = stamp; told = Seen s })
-    (ap (λ (all : List Store). slice_index_or all (length l.stores) (record { shared = record { items = [] }; buffers = record { items = [] } })) adds.stores
-    ∙ get_or-append_seam l.stores store [] (record { shared = record { items = [] }; buffers = record { items = [] } }))
-
--- ---- the images and stores that are named are in the log
-
-IsNamedBelow-more : (i j k n : ℕ) (e : Entry) → i ≤ j → k ≤ n → IsNamedBelow i k e → IsNamedBelow j n e
-IsNamedBelow-more i j k n (entry.Install h version image) images stores named = omega arith
-IsNamedBelow-more i j k n (entry.Seen store) images stores named = omega arith
-IsNamedBelow-more i j k n _ images stores named = tt
-
-AreNamedBelow-more : (i j k n : ℕ) (entries : List Stamped) → i ≤ j → k ≤ n → AreNamedBelow i k entries → AreNamedBelow j n entries
-AreNamedBelow-more i j k n [] images stores named = tt
-AreNamedBelow-more i j k n (s ∷ entries) images stores named =
-    (IsNamedBelow-more i j k n s.entry images stores named.0, AreNamedBelow-more i j k n entries images stores named.1)
-
-AreNamedBelow-push : (i k : ℕ) (entries : List Stamped) (s : Stamped) → AreNamedBelow i k entries → IsNamedBelow i k s.entry → AreNamedBelow i k (entries ++ s ∷ [])
-AreNamedBelow-push i k [] s named last = (last, tt)
-AreNamedBelow-push i k (first ∷ entries) s named last = (named.0, AreNamedBelow-push i k entries s named.1 last)
-
-pub NamesInLog-push : (l : Log) (s : Stamped) (after : Log) → NamesInLog l → IsNamedBelow (length l.images) (length l.stores) s.entry → IsPushed l s after → NamesInLog after
-NamesInLog-push l s after names last pushed = record {
-  named =
-      subst (λ (entries : List Stamped). AreNamedBelow (length after.images) (length after.stores) entries) (sym pushed.entries)
-      (AreNamedBelow-more (length l.images) (length after.images) (length l.stores) (length after.stores) (l.entries ++ s ∷ [])
-      (omega (arith, ap length pushed.images)) (omega (arith, ap length pushed.stores))
-      (AreNamedBelow-push (length l.images) (length l.stores) l.entries s names.named last));
-}
-
-pub NamesInLog-add_image : (l : Log) (image : ArrayVec ℕ) (after : Log) → NamesInLog l → AddsImage l image after → NamesInLog after
-NamesInLog-add_image l image after names adds = record {
-  named =
-      subst (λ (entries : List Stamped). AreNamedBelow (length after.images) (length after.stores) entries) (sym adds.entries)
-      (AreNamedBelow-more (length l.images) (length after.images) (length l.stores) (length after.stores) l.entries
-      (omega (arith, ap length adds.images, length-append l.images (image ∷ []))) (omega (arith, ap length adds.stores)) names.named);
-}
-
-pub NamesInLog-add_store : (l : Log) (store : Store) (after : Log) → NamesInLog l → AddsStore l store after → NamesInLog after
-NamesInLog-add_store l store after names adds = record {
-  named =
-      subst (λ (entries : List Stamped). AreNamedBelow (length after.images) (length after.stores) entries) (sym adds.entries)
-      (AreNamedBelow-more (length l.images) (length after.images) (length l.stores) (length after.stores) l.entries
-      (omega (arith, ap length adds.images)) (omega (arith, ap length adds.stores, length-append l.stores (store ∷ []))) names.named);
-}
-
-pub NamesInLog-same : (l after : Log) → NamesInLog l → IsSameLog after l → NamesInLog after
-NamesInLog-same l after names same = record {
-  named =
-      subst (λ (entries : List Stamped). AreNamedBelow (length after.images) (length after.stores) entries) (sym same.entries)
-      (AreNamedBelow-more (length l.images) (length after.images) (length l.stores) (length after.stores) l.entries
-      (omega (arith, ap length same.images)) (omega (arith, ap length same.stores)) names.named);
-}
-
-pub NamesInLog-empty : (l : Log) → IsEmpty l → NamesInLog l
-NamesInLog-empty l nothing = record { named = subst (λ (entries : List Stamped). AreNamedBelow (length l.images) (length l.stores) entries) (sym nothing.entries) tt }

@@ -11,8 +11,9 @@ use Rattle.mate_num.specs.declared.id.DeviceId.{DeviceId}
 use Rattle.mate_num.specs.declared.id.FunId.{FunId}
 use Rattle.mate_num.specs.declared.resource.Resource.{Resource}
 use Rattle.mate_num.specs.declared.resource.Resource.TheVariants.{Device}
+use Rattle.mate_num.proofs.ListLemmas.{along-parts}
 use Rattle.mate_journal.specs.Machine.{Machine, HeldProgram}
-use Rattle.mate_journal.specs.Journal.{begins_era, JournalEntry, Posted, Dropped, Started, Asked, Answered, Ended, Installed, Reset, Seen, Void, TimedEntry, Phase, Ready, Waiting, is_live, is_started, Invocation, NodeState, first_state, next_state, state_after_all, AtEachEntry, AtEachPlace}
+use Rattle.mate_journal.specs.Journal.{begins_era, JournalEntry, Posted, Started, Asked, Answered, Ended, Installed, Reset, TimedEntry, Phase, Ready, Waiting, is_live, is_started, Invocation, NodeState, first_state, next_state, state_after_all, AtEachEntry, AtEachPlace}
 use Rattle.mate_journal.specs.WellFormed.{MayFollow, IsWellFormed}
 use Rattle.mate_journal.specs.Serial.{RunsSoFar, IsSerial}
 use Rattle.mate_journal.specs.Stores.{WritesResource}
@@ -23,7 +24,7 @@ use Rattle.journal_laws.specs.Apart.{IsOrderly}
 use Rattle.mate_journal.specs.Devices.{DeviceOf, WritesWhatItAsks, AsksAt, EndsBefore, CallsInTurn, AsksDevicesInOrder}
 use Rattle.journal_laws.specs.ReadingOrder.{IsReadBefore, NeverEnds, AsksInOrder, ReadsDevicesInOrder}
 use Rattle.journal_laws.proofs.Changed.{untrue}
-use Rattle.journal_laws.proofs.Append.{AtEachEntry-front, AtEachEntry-back, AtEachPlace-back, GrantsBefore-front, GrantsBefore-back, GrantsInOrder-before}
+use Rattle.journal_laws.proofs.Append.{AtEachPlace-first, AtEachPlace-back, GrantsBefore-front, GrantsBefore-back, GrantsInOrder-before}
 use Rattle.journal_laws.proofs.Moves.{Moves, started-Moves, asked-Moves, answered-Moves, ended-Moves, posted-Joins, started_live}
 use Rattle.journal_laws.proofs.Apart.{IsNumbered, live_posted, ready_live, ready_started, orderly-step, orderly-apart, nothing_heard-orderly, orderly-after}
 use Rattle.journal_laws.proofs.Order.{later-step}
@@ -93,10 +94,6 @@ abbrev pub AsksWritten : Machine → DeviceOf → NodeState → JournalEntry →
 AsksWritten m device_of r told =
     (n : ℕ) (f : FunId) (args : ArrayVec ℤ) (d : DeviceId) → told ≡ Asked n f args → device_of f ≡ Some d → IsTrue ((m.meaning.uses (r.invocations n).program).writes (Device d))
 
-place-first : (Fact : NodeState → Type 0) (m : Machine) (r : NodeState) (es : List TimedEntry) → AtEachPlace Fact m r es → Fact r
-place-first Fact m r [] all = all
-place-first Fact m r (e ∷ es) all = all.0
-
 asks-written-here : (m : Machine) (device_of : DeviceOf) (r : NodeState) (told : JournalEntry) → WritesWhatItAsks device_of m.meaning → RunsSoFar m (next_state m r told) → AsksWritten m device_of r told
 asks-written-here m device_of r told writes runs n f args d is speaks =
     let after = next_state m r (Asked n f args) in
@@ -108,7 +105,7 @@ asks-written-here m device_of r told writes runs n f args d is speaks =
 pub asks-written : (m : Machine) (device_of : DeviceOf) (r : NodeState) (es : List TimedEntry) → WritesWhatItAsks device_of m.meaning → AtEachPlace (RunsSoFar m) m r es → AtEachEntry (AsksWritten m device_of) m r es
 asks-written m device_of r [] writes runs = tt
 asks-written m device_of r (e ∷ es) writes runs =
-    (asks-written-here m device_of r e.told writes (place-first (RunsSoFar m) m (next_state m r e.told) es runs.1), asks-written m device_of (next_state m r e.told) es writes runs.1)
+    (asks-written-here m device_of r e.told writes (AtEachPlace-first (RunsSoFar m) m (next_state m r e.told) es runs.1), asks-written m device_of (next_state m r e.told) es writes runs.1)
 
 -- ---- what the rules are along a part of a journal in one era
 
@@ -271,13 +268,12 @@ era-in-order : (m : Machine) (front era back : List TimedEntry) (device_of : Dev
     → GrantsBefore m (first_state m) 0 (front ++ (era ++ back)) → AreOfOneEra era
     → IsOrderedPart m device_of (state_after_all m (first_state m) front) (last_start 0 front) era d
 era-in-order m front era back device_of d writes follow so_far granted one_era =
+    let parts = along-parts _ _ (first_state m) front (era ++ back) follow in
     part-in-order m device_of (state_after_all m (first_state m) front) (last_start 0 front) era d
-    (orderly-after m (first_state m) 0 front (AtEachEntry-front (MayFollow m) m (first_state m) front (era ++ back) follow)
-    (GrantsBefore-front m (first_state m) 0 front (era ++ back) granted) (nothing_heard-orderly m))
-    (AtEachEntry-front (MayFollow m) m (state_after_all m (first_state m) front) era back (AtEachEntry-back (MayFollow m) m (first_state m) front (era ++ back) follow))
+    (orderly-after m (first_state m) 0 front parts.0 (GrantsBefore-front m (first_state m) 0 front (era ++ back) granted) (nothing_heard-orderly m))
+    (along-parts _ _ _ era back parts.1).0
     (GrantsBefore-front m (state_after_all m (first_state m) front) (last_start 0 front) era back (GrantsBefore-back m (first_state m) 0 front (era ++ back) granted))
-    (AtEachEntry-front (AsksWritten m device_of) m (state_after_all m (first_state m) front) era back
-    (asks-written m device_of (state_after_all m (first_state m) front) (era ++ back) writes (AtEachPlace-back (RunsSoFar m) m (first_state m) front (era ++ back) so_far)))
+    (along-parts _ _ _ era back (asks-written m device_of (state_after_all m (first_state m) front) (era ++ back) writes (AtEachPlace-back (RunsSoFar m) m (first_state m) front (era ++ back) so_far))).0
     one_era
 
 -- each era of a journal that is right

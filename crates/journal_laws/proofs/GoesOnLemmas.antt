@@ -1,7 +1,8 @@
 -- A log whose images and stores are numbered in order is told by its journal: where its journal goes on, it goes on.
 use Rattle.std.proofs.Common.{◌≡◌, ◌<◌, ◌≤◌, ℕ, zero, suc, ◌+◌, List, [], ◌∷◌, ◌++◌, Option, None, Some, length, map, take, refl, sym, ◌∙◌, ap, arith, append-nil, append_assoc, length-append, drop}
 use Rattle.std.specs.Prelude.{flat_map, option_to_list, is_some, slice_index_or}
-use Rattle.std.proofs.lemmas.List.{take_all}
+use Rattle.std.proofs.lemmas.Grind.{flat_map-append}
+use Rattle.std.proofs.lemmas.List.{take_all, map-append}
 use Rattle.arrayvec.specs.ArrayVec.{ArrayVec}
 use Rattle.mate_num.specs.declared.call.Stamp.{Stamp}
 use Rattle.mate_num.specs.declared.store.Store.{Store}
@@ -24,14 +25,7 @@ abbrev all_told : {A : Type 0} → (JournalEntry → Option A) → List TimedEnt
 all_told told es = flat_map (λ e. option_to_list (told e.told)) es
 
 all_told-append : {A : Type 0} (told : JournalEntry → Option A) (es more : List TimedEntry) → all_told told (es ++ more) ≡ all_told told es ++ all_told told more
-all_told-append told [] more = refl
-all_told-append told (e ∷ es) more =
-    ap (λ xs. option_to_list (told e.told) ++ xs) (all_told-append told es more)
-    ∙ sym (append_assoc (option_to_list (told e.told)) (all_told told es) (all_told told more))
-
-map-append : {A B : Type 0} (f : A → B) (xs ys : List A) → map f (xs ++ ys) ≡ map f xs ++ map f ys
-map-append f [] ys = refl
-map-append f (x ∷ xs) ys = ap (λ zs. f x ∷ zs) (map-append f xs ys)
+all_told-append told es more = flat_map-append (λ e. option_to_list (told e.told)) es more
 
 -- the first n items, read one after another
 items-below : {A : Type 0} (xs : List A) (d : A) (n : ℕ) → n ≤ length xs → map (λ k. slice_index_or xs k d) (below n) ≡ take n xs

@@ -1,9 +1,9 @@
 -- A log that goes on stays in the ranges of its types, if what is added is in them.
-use Rattle.std.proofs.Common.{◌≡◌, ◌≤◌, ◌+◌, ◌-◌, ℕ, zero, suc, List, [], ◌∷◌, ◌++◌, length, map, drop, refl, sym, ◌∙◌, ap, subst, arith}
+use Rattle.std.proofs.Common.{◌≡◌, ◌≤◌, ◌+◌, ◌-◌, ℕ, zero, suc, List, [], ◌∷◌, ◌++◌, length, map, drop, sym, ◌∙◌, ap, subst, arith}
 use Rattle.std.specs.Prelude.{All}
 use Rattle.std.specs.List.{AllWithin}
 use Rattle.std.proofs.Math.Seq.{drop-append_seam, drop-nil}
-use Rattle.std.proofs.lemmas.List.{length-append, length-drop, length-map, get_or-drop}
+use Rattle.std.proofs.lemmas.List.{drop-map, length-append, length-drop, length-map, get_or-drop}
 use Rattle.std.proofs.lemmas.List.Elements.{All-nil, All-cons, All-head, All-tail, All-append, All-from_get_or}
 use Rattle.arrayvec.specs.ArrayVec.{ArrayVec}
 use Rattle.mate_num.specs.declared.store.Store.{Store}
@@ -23,11 +23,6 @@ pub drop-drop : {A : Type 0} (m n : ℕ) (xs : List A) → drop n (drop m xs) �
 drop-drop zero n xs = let e : n ≡ 0 + n = omega arith in ap (λ (k : ℕ). drop k xs) e
 drop-drop (suc m) n [] = drop-nil n ∙ sym (drop-nil (suc m + n))
 drop-drop (suc m) n (x ∷ xs) = let e : suc (m + n) ≡ suc m + n = omega arith in drop-drop m n xs ∙ ap (λ (k : ℕ). drop k (x ∷ xs)) e
-
-drop-map : {A B : Type 0} (f : A → B) (n : ℕ) (xs : List A) → drop n (map f xs) ≡ map f (drop n xs)
-drop-map f zero xs = refl
-drop-map f (suc n) [] = refl
-drop-map f (suc n) (x ∷ xs) = drop-map f n xs
 
 -- what holds of each from a place on holds of all behind it
 pub All-behind : {A : Type 0} (P : A → Type 0) (none : A) (xs : List A) (from upto : ℕ) → length xs ≤ upto → AllWithin P xs from upto → All P (drop from xs)

@@ -13,5 +13,6 @@ pub mod FewLemmas
 pub mod WaitsApart
 pub mod Staying
 pub mod Settling
+pub mod Plain
 pub mod FewAtOnce
 pub mod GrowthLemmas

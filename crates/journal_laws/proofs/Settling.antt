@@ -1,10 +1,12 @@
 -- What turns tell while they settle: marks and starts, which leave those that wait.
-use Rattle.std.proofs.Common.{◌≡◌, ℕ, ◌+◌, false, List, [], ◌∷◌, ◌++◌, refl, sym, subst, inl, inr}
+use Rattle.std.proofs.Common.{◌≡◌, ℕ, ◌+◌, false, List, [], ◌∷◌, refl, sym, subst, inl, inr}
 use Rattle.std.specs.Prelude.{All}
 use Rattle.std.proofs.lemmas.Bool.{cases_lt}
-use Rattle.std.proofs.lemmas.List.Elements.{All-head, All-tail}
+use Rattle.std.proofs.lemmas.List.Elements.{recursion_from_All}
 use Rattle.mate_num.specs.declared.call.End.{End}
 use Rattle.mate_num.specs.declared.call.End.TheVariants as end
+use Rattle.mate_num.specs.Lists.{Each}
+use Rattle.mate_num.proofs.ListLemmas.{each-append, each-weaker}
 use Rattle.mate_journal.specs.Machine.{Machine}
 use Rattle.mate_journal.specs.Journal.{JournalEntry, Started, Asked, Ended, NodeState, next_state, state_after_entries, whole_run}
 use Rattle.mate_journal.specs.WellFormed.{IsWaiting}
@@ -13,7 +15,7 @@ use Rattle.mate_journal.specs.Pace.{Pace}
 use Rattle.mate_journal.specs.Turns.{entry_at, Turn, IsTurn, mark_of, after_turn, AreTurns, told_in, Settles}
 use Rattle.journal_laws.proofs.Moves.{asked-Moves}
 use Rattle.journal_laws.specs.Waiting.{WaitSmall, asked_of, IsAwaitedBy, AreAwaited, AreFollowing, ends_wait, NoneEndsWait}
-use Rattle.journal_laws.proofs.Staying.{Leaves, AllLeave, waits-same, stays-told}
+use Rattle.journal_laws.proofs.Staying.{Leaves, waits-same, stays-told}
 
 -- ---- what a turn tells
 
@@ -25,26 +27,20 @@ IsOfTurn (Ended n how) = Unit {0}
 IsOfTurn _ = ⊥
 
 abbrev pub AreOfTurns : List JournalEntry → Type 0
-AreOfTurns [] = Unit {0}
-AreOfTurns (t ∷ told) = IsOfTurn t × AreOfTurns told
-
-of_turns-append : (xs ys : List JournalEntry) → AreOfTurns xs → AreOfTurns ys → AreOfTurns (xs ++ ys)
-of_turns-append [] ys first then = then
-of_turns-append (t ∷ xs) ys first then = (first.0, of_turns-append xs ys first.1 then)
+AreOfTurns = Each IsOfTurn
 
 start-of_turn : (t : JournalEntry) → IsStart t → IsOfTurn t
 start-of_turn (Started n) is = tt
 start-of_turn t is = absurd is
 
 pub starts-of_turns : (starts : List JournalEntry) → All IsStart starts → AreOfTurns starts
-starts-of_turns [] all = tt
-starts-of_turns (t ∷ starts) all = (start-of_turn t (All-head IsStart t starts all), starts-of_turns starts (All-tail IsStart t starts all))
+starts-of_turns starts all = each-weaker IsStart IsOfTurn start-of_turn starts (recursion_from_All IsStart starts all)
 
 mark-of_turn : (n : ℕ) (e : End) → IsOfTurn (entry_at n e)
 mark-of_turn n end.Halt = tt
 mark-of_turn n _ = tt
 
-turn-of_turns : (m : Machine) (r : NodeState) (p : Pace) (instructions : ℕ) (t : Turn) → IsTurn m r p instructions t → AreOfTurns t.told
+pub turn-of_turns : (m : Machine) (r : NodeState) (p : Pace) (instructions : ℕ) (t : Turn) → IsTurn m r p instructions t → AreOfTurns t.told
 turn-of_turns m r p instructions t turn = elim (cases_lt (p.counts t.invocation + instructions) (mark_of m r t.invocation)) [
   | inl short ↦ subst (λ (ts : List JournalEntry). AreOfTurns ts) (sym (turn.short short)) tt
   | inr reached ↦ (let a = turn.reached reached in
@@ -54,7 +50,7 @@ turn-of_turns m r p instructions t turn = elim (cases_lt (p.counts t.invocation 
 turns-of_turns : (m : Machine) (r : NodeState) (p : Pace) (ts : List Turn) → AreTurns m r p ts → AreOfTurns (told_in ts)
 turns-of_turns m r p [] turns = tt
 turns-of_turns m r p (t ∷ ts) turns =
-    of_turns-append t.told (told_in ts) (turn-of_turns m r p m.quantum t turns.1) (turns-of_turns m (state_after_entries m r t.told) (after_turn m r p t) ts turns.2)
+    each-append IsOfTurn t.told (told_in ts) (turn-of_turns m r p m.quantum t turns.1) (turns-of_turns m (state_after_entries m r t.told) (after_turn m r p t) ts turns.2)
 
 pub settles-of_turns : (m : Machine) (r : NodeState) (p : Pace) (told : List JournalEntry) (q : Pace) → Settles m r p told q → AreOfTurns told
 settles-of_turns m r p told q settles = subst (λ (ts : List JournalEntry). AreOfTurns ts) (sym settles.made) (turns-of_turns m r p settles.turns settles.are_turns)
@@ -67,14 +63,9 @@ leaves-of_turn n (Asked k f args) of = tt
 leaves-of_turn n (Ended k how) of = tt
 leaves-of_turn n t of = absurd of
 
-leave-of_turns : (n : ℕ) (told : List JournalEntry) → AreOfTurns told → AllLeave n told
-leave-of_turns n [] of = tt
-leave-of_turns n (t ∷ told) of = (leaves-of_turn n t of.0, leave-of_turns n told of.1)
-
 -- what turns tell ends no wait
 pub none-of_turns : (n : ℕ) (told : List JournalEntry) → AreOfTurns told → NoneEndsWait n told
-none-of_turns n [] of = tt
-none-of_turns n (t ∷ told) of = (by t of.0, none-of_turns n told of.1) where
+none-of_turns n told of = each-weaker IsOfTurn _ by told of where
   by : (t : JournalEntry) → IsOfTurn t → ends_wait n t ≡ false
   by (Started k) of = refl
   by (Asked k f args) of = refl
@@ -82,7 +73,7 @@ none-of_turns n (t ∷ told) of = (by t of.0, none-of_turns n told of.1) where
   by t of = absurd of
 
 pub stays-settled : (m : Machine) (r : NodeState) (n : ℕ) (told : List JournalEntry) → AreOfTurns told → AreFollowing m r told → IsWaiting r n → (state_after_entries m r told).invocations n ≡ r.invocations n
-stays-settled m r n told of follow waits = stays-told m r n told follow waits (leave-of_turns n told of)
+stays-settled m r n told of follow waits = stays-told m r n told follow waits (each-weaker IsOfTurn (Leaves n) (leaves-of_turn n) told of)
 
 -- ---- who calls waits at the end
 

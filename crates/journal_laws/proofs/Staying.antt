@@ -3,12 +3,13 @@ use Rattle.std.proofs.Common.{◌≡◌, ◌≢◌, ℕ, suc, true, false, List,
 use Rattle.std.specs.Prelude.{map}
 use Rattle.std.proofs.lemmas.Bool.{eq-eqb}
 use Rattle.mate_num.specs.declared.call.Stamp.{Stamp}
+use Rattle.mate_num.specs.Lists.{Each}
+use Rattle.mate_num.proofs.ListLemmas.{along-parts, along-unmap}
 use Rattle.mate_journal.specs.Machine.{Machine}
-use Rattle.mate_journal.specs.Journal.{JournalEntry, Posted, Dropped, Started, Asked, Answered, Ended, Installed, Reset, Seen, Void, TimedEntry, Queued, Ready, Waiting, Invocation, NodeState, first_state, next_state, state_after_all, state_after_entries, AtEachEntry}
+use Rattle.mate_journal.specs.Journal.{JournalEntry, Posted, Started, Asked, Answered, Ended, Installed, Reset, TimedEntry, Queued, Ready, Waiting, Invocation, NodeState, first_state, next_state, state_after_all, state_after_entries, AtEachEntry}
 use Rattle.mate_journal.specs.WellFormed.{IsWaiting, MayFollow, IsWellFormed}
 use Rattle.journal_laws.proofs.Changed.{changed-other}
 use Rattle.journal_laws.proofs.Apart.{IsNumbered, numbered-step, nothing_heard-orderly, waiting_live, live_posted}
-use Rattle.journal_laws.proofs.Append.{AtEachEntry-back}
 use Rattle.journal_laws.specs.Waiting.{AreFollowing, ends_wait, NoneEndsWait}
 
 -- ---- one entry
@@ -20,10 +21,6 @@ Leaves n (Answered k value) = n ≢ k
 Leaves n (Installed p) = ⊥
 Leaves n Reset = ⊥
 Leaves n _ = Unit {0}
-
-abbrev pub AllLeave : ℕ → List JournalEntry → Type 0
-AllLeave n [] = Unit {0}
-AllLeave n (t ∷ told) = Leaves n t × AllLeave n told
 
 -- an invocation that is queued is another than one that waits, and so is one that is ready
 waits_not_queued : (r : NodeState) (n k : ℕ) → IsWaiting r n → (r.invocations k).phase ≡ Queued → n ≢ k
@@ -50,7 +47,7 @@ waits-same r s n same waits = record { fun = waits.fun; args = waits.args; waits
 
 -- ---- several entries
 
-pub stays-told : (m : Machine) (r : NodeState) (n : ℕ) (told : List JournalEntry) → AreFollowing m r told → IsWaiting r n → AllLeave n told → (state_after_entries m r told).invocations n ≡ r.invocations n
+pub stays-told : (m : Machine) (r : NodeState) (n : ℕ) (told : List JournalEntry) → AreFollowing m r told → IsWaiting r n → Each (Leaves n) told → (state_after_entries m r told).invocations n ≡ r.invocations n
 stays-told m r n [] follow waits leave = refl
 stays-told m r n (t ∷ told) follow waits leave =
     let same = stays-step m r n t follow.0 waits leave.0 in
@@ -86,16 +83,6 @@ journal-numbered m es right = numbered-after m (first_state m) es right.follow (
 -- what a well-formed journal tells with one stamp after another part of it may follow that part
 pub journal-follows : (m : Machine) (es : List TimedEntry) (at : Stamp) (told : List JournalEntry) → IsWellFormed m (first_state m) (es ++ map (λ t. record { stamp = at; told = t }) told)
     → AreFollowing m (state_after_all m (first_state m) es) told
-journal-follows m es at told right = by (state_after_all m (first_state m) es) told (AtEachEntry-back (MayFollow m) m (first_state m) es (map (λ t. record { stamp = at; told = t }) told) right.follow) where
-  by : (r : NodeState) (told : List JournalEntry) → AtEachEntry (MayFollow m) m r (map (λ t. record { stamp = at; told = t }) told) → AreFollowing m r told
-  by r [] follow = tt
-  by r (t ∷ told) follow = (follow.0, by (next_state m r t) told follow.1)
-
--- what may follow may do so in two parts
-pub follow-front : (m : Machine) (r : NodeState) (front rest : List JournalEntry) → AreFollowing m r (front ++ rest) → AreFollowing m r front
-follow-front m r [] rest follow = tt
-follow-front m r (t ∷ front) rest follow = (follow.0, follow-front m (next_state m r t) front rest follow.1)
-
-pub follow-back : (m : Machine) (r : NodeState) (front rest : List JournalEntry) → AreFollowing m r (front ++ rest) → AreFollowing m (state_after_entries m r front) rest
-follow-back m r [] rest follow = follow
-follow-back m r (t ∷ front) rest follow = follow-back m (next_state m r t) front rest follow.1
+journal-follows m es at told right =
+    let stamped : JournalEntry → TimedEntry = λ t. record { stamp = at; told = t } in
+    along-unmap stamped (λ r e. MayFollow m r e.told) (λ r e. next_state m r e.told) (state_after_all m (first_state m) es) told (along-parts _ _ (first_state m) es (map stamped told) right.follow).1

@@ -1,6 +1,7 @@
 -- How a log stays tidy: what each entry that is appended, with its image or store, asks.
-use Rattle.std.proofs.Common.{◌≡◌, ◌<◌, ◌≤◌, ℕ, zero, suc, List, [], ◌∷◌, ◌++◌, Option, None, Some, length, map, refl, sym, ◌∙◌, ap, subst, arith, append-nil, append_assoc, length-append}
+use Rattle.std.proofs.Common.{◌≡◌, ◌<◌, ◌≤◌, ℕ, zero, suc, List, [], ◌∷◌, ◌++◌, Option, None, Some, length, map, refl, sym, ◌∙◌, ap, subst, arith, append-nil, length-append}
 use Rattle.std.specs.Prelude.{All, option_to_list}
+use Rattle.std.proofs.lemmas.Grind.{flat_map-append}
 use Rattle.std.proofs.lemmas.List.Elements.{All-nil, All-cons, All-append, All-head, All-tail}
 use Rattle.arrayvec.specs.ArrayVec.{ArrayVec}
 use Rattle.mate_num.specs.declared.call.Stamp.{Stamp}
@@ -20,10 +21,7 @@ use Rattle.journal_laws.specs.Growth.{event_of, IsNamedBelow, AreNamedBelow, Nam
 -- ---- numbering
 
 names_in-append : (named : Entry → Option ℕ) (es more : List Stamped) → names_in named (es ++ more) ≡ names_in named es ++ names_in named more
-names_in-append named [] more = refl
-names_in-append named (e ∷ es) more =
-    ap (λ (ns : List ℕ). option_to_list (named e.entry) ++ ns) (names_in-append named es more)
-    ∙ sym (append_assoc (option_to_list (named e.entry)) (names_in named es) (names_in named more))
+names_in-append named es more = flat_map-append (λ e. option_to_list (named e.entry)) es more
 
 -- one more entry
 names_in-push : (named : Entry → Option ℕ) (es : List Stamped) (s : Stamped) → names_in named (es ++ s ∷ []) ≡ names_in named es ++ option_to_list (named s.entry)

@@ -1,12 +1,13 @@
 -- A journal as it grows: its last entry, and the rules of its entries apart from what holds at its end.
 use Rattle.std.specs.Prelude.{◌≡◌, ◌<◌, ℕ, Bool, List, [], ◌∷◌, ◌++◌, length}
+use Rattle.std.specs.List.{fold}
 use Rattle.arrayvec.specs.ArrayVec.{ArrayVec}
 use Rattle.mate_num.specs.Lists.{Each}
 use Rattle.mate_num.specs.declared.call.Stamp.{Stamp}
 use Rattle.mate_num.specs.declared.store.Store.{Store}
 use Rattle.mate_journal.specs.Log.{Log}
 use Rattle.mate_journal.specs.Machine.{Machine}
-use Rattle.mate_journal.specs.Journal.{TimedEntry, journal_entry, NodeState, next_state, AtEachEntry}
+use Rattle.mate_journal.specs.Journal.{TimedEntry, journal_entry, NodeState, next_state}
 use Rattle.mate_journal.specs.Pace.{Pace}
 use Rattle.mate_journal.specs.WellFormed.{NotBefore}
 use Rattle.mate_journal.specs.Grants.{IsGranted, started_number}
@@ -56,8 +57,7 @@ pub record AddsStore (l : Log) (store : Store) (after : Log) : Type 0 where
 
 -- the stamp of the last event, `before` if there is none
 abbrev pub last_stamp : Stamp → List TimedEntry → Stamp
-last_stamp before [] = before
-last_stamp before (e ∷ es) = last_stamp e.stamp es
+last_stamp = fold (λ last e. e.stamp)
 
 -- the stamp may come after the journal's last event: any may, if it has none
 abbrev pub FollowsLast : List TimedEntry → Stamp → Type 0
@@ -66,19 +66,13 @@ FollowsLast (e ∷ es) at = NotBefore (last_stamp e.stamp es) at
 
 -- the number of the invocation that the last event starts, 0 if it starts none, `before` if there is no event
 abbrev pub last_start : ℕ → List TimedEntry → ℕ
-last_start before [] = before
-last_start before (e ∷ es) = last_start (started_number e.told) es
+last_start = fold (λ last e. started_number e.told)
 
 -- the last event shows a store, `before` if there is no event
 abbrev pub last_is_seen : Bool → List TimedEntry → Bool
-last_is_seen before [] = before
-last_is_seen before (e ∷ es) = last_is_seen (is_seen e.told) es
+last_is_seen = fold (λ just_seen e. is_seen e.told)
 
 -- ---- the rules of the entries, without what holds at the end
-
--- a fact before each entry
-abbrev pub BeforeEachEntry : (NodeState → Type 0) → Machine → NodeState → List TimedEntry → Type 0
-BeforeEachEntry Fact m r es = AtEachEntry (λ r told. Fact r) m r es
 
 -- the grant rule before each entry
 abbrev pub GrantsBefore : Machine → NodeState → ℕ → List TimedEntry → Type 0

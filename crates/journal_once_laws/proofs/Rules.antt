@@ -1,8 +1,9 @@
 -- The rules of a journal along its entries, without their stamps.
-use Rattle.std.proofs.Common.{◌≡◌, ℕ, List, [], ◌∷◌, ◌++◌, refl, ap, sym, ◌∙◌, subst}
+use Rattle.std.proofs.Common.{ℕ, List, [], ◌∷◌, ◌++◌}
 use Rattle.std.specs.Prelude.{⊤}
+use Rattle.std.specs.List.{fold}
 use Rattle.mate_journal.specs.Machine.{Machine}
-use Rattle.mate_journal.specs.Journal.{JournalEntry, Posted, Dropped, Started, Asked, Answered, Ended, Installed, Reset, Seen, Void, TimedEntry, NodeState, next_state, state_after_all, state_after_entries, untimed, AtEachEntry}
+use Rattle.mate_journal.specs.Journal.{JournalEntry, Started, TimedEntry, NodeState, next_state, state_after_entries, untimed, AtEachEntry}
 use Rattle.mate_journal.specs.WellFormed.{MayFollow}
 use Rattle.mate_journal.specs.Stores.{ShowsStore}
 use Rattle.mate_journal.specs.Grants.{AllHeldBack, IsGranted, IsStart, started_number, GrantsInOrder}
@@ -19,8 +20,7 @@ keeps-events m r last (e ∷ es) follow shown granted = (follow.0, shown.0, gran
 
 -- the number of the start that was told last
 abbrev pub start_after : ℕ → List JournalEntry → ℕ
-start_after last [] = last
-start_after last (t ∷ ts) = start_after (started_number t) ts
+start_after = fold (λ last t. started_number t)
 
 pub keeps-back : (m : Machine) (r : NodeState) (last : ℕ) (xs ys : List JournalEntry) → KeepsRules m r last (xs ++ ys) → KeepsRules m (state_after_entries m r xs) (start_after last xs) ys
 keeps-back m r last [] ys keeps = keeps
@@ -36,8 +36,3 @@ pub held-here : (m : Machine) (r : NodeState) (last : ℕ) (ts : List JournalEnt
 held-here m r last [] keeps other = keeps
 held-here m r last (Started n ∷ ts) keeps other = absurd (other tt)
 held-here m r last (_ ∷ ts) keeps other = keeps.2
-
--- what is heard is what is told, whatever the stamps
-pub heard_all-told : (m : Machine) (r : NodeState) (es : List TimedEntry) → state_after_all m r es ≡ state_after_entries m r (untimed es)
-heard_all-told m r [] = refl
-heard_all-told m r (e ∷ es) = heard_all-told m (next_state m r e.told) es

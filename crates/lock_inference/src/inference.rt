@@ -1,6 +1,7 @@
 //! The lock set of code, gathered over its instructions.
 
 ghost use Rattle.std.specs.Prelude.{◌≡◌, ◌<◌, IsTrue, IfSome};
+ghost use Rattle.mate_num.specs.declared.bounds.TheConstants.{DEVICES_MAX};
 ghost use Rattle.mate_code.specs.declared.uses.Use.TheVariants.{Calls};
 ghost use Rattle.mate_num.specs.Uses.{function_shape};
 ghost use Rattle.vm_desc.specs.Shapes.{shape_of};
@@ -56,7 +57,7 @@ fn with_device(set: LockSet, desc: &Description, fun: FunId) -> LockSet
 // The device that the function uses, if there is such a function and it has one.
 fn device_of(desc: &Description, fun: FunId) -> Option<DeviceId>
     ensures value { result ≡ device_in (function_shape (shape_of desc.now) fun) }
-    ensures below { IfSome result (λ device. device.0 < 8) }
+    ensures below { IfSome result (λ device. device.0 < DEVICES_MAX) }
 {
     match desc.functions.get(fun.0 as usize) {
         Some(function) => function.device,

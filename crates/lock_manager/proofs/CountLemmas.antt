@@ -7,6 +7,7 @@ use Rattle.std.proofs.lemmas.List.Sums.{sum_by-cons, sum_by-append}
 use Rattle.std.proofs.lemmas.List.Elements.{Contains-append_cases}
 use Rattle.std.proofs.lemmas.Bool.{eqb-false}
 use Rattle.mate_num.specs.declared.id.ContextId.{ContextId}
+use Rattle.mate_num.specs.Lists.{Along}
 use Rattle.mate_num.specs.declared.lock_set.LockSet.{LockSet}
 use Rattle.lock_manager.specs.declared.claim.Claim.{Claim}
 use Rattle.lock_manager.specs.declared.claim.Waiter.{Waiter}
@@ -137,8 +138,7 @@ IsFree-from_count started earlier c none =
 
 -- ---- waiters whose numbers are not 0 are held back
 abbrev HeldInTurn : List Claim → List Claim → List Claim → Type 0
-HeldInTurn started earlier [] = Unit {0}
-HeldInTurn started earlier (c ∷ cs) = IsClaimHeldBack started earlier c × HeldInTurn started (earlier ++ c ∷ []) cs
+HeldInTurn started = Along (IsClaimHeldBack started) (λ earlier c. earlier ++ c ∷ [])
 
 held_in_turn : (started earlier : List Claim) (ws : List Waiter) → AreCounts (started ++ earlier) ws → AllByRecursion (λ w. eqb w.blocked 0 ≡ false) ws → HeldInTurn started earlier (claims_of ws)
 held_in_turn started earlier [] h some = tt

@@ -1,6 +1,7 @@
 //! The command `compile`.
 
 ghost use Rattle.std.specs.Prelude.{◌≡◌, ◌≤◌, ◌++◌, codes, option_map, IfSome, IfOk, IfErr};
+ghost use Rattle.mate_num.specs.declared.bounds.TheConstants.{HANDLERS_MAX};
 ghost use Rattle.hex.specs.Hex.{encode_lower};
 ghost use Rattle.mate_refusals.specs.declared.refusal.Refusal.TheVariants.{NoMemory};
 ghost use Rattle.mate_documents.specs.Compile.{compile};
@@ -71,7 +72,7 @@ fn handler_of(desc: &Description, name: &str) -> Option<HandlerId>
 
 fn place_of(desc: &Description, name: &str) -> Option<usize>
     ensures value { result ≡ handler_named desc.now name.now }
-    ensures small { IfSome result (λ place. place ≤ 8) }
+    ensures small { IfSome result (λ place. place ≤ HANDLERS_MAX) }
 {
     desc.handlers
         .as_slice()

@@ -1,5 +1,6 @@
 -- A node's journal, and the state that it leads to at each place in it.
 use Rattle.std.specs.Prelude.{ℕ, ◌==◌, Bool, true, false, List, [], ◌∷◌, ◌++◌, map, ℤ, Option, Some, None, unwrap_or, slice_index_or, if◌then◌else◌}
+use Rattle.std.specs.List.{fold}
 use Rattle.std.specs.Option.{option_map_or}
 use Rattle.arrayvec.specs.ArrayVec.{ArrayVec}
 use Rattle.mate_num.specs.Lists.{Along}
@@ -185,13 +186,11 @@ next_state m r _ = r
 
 -- the state after a list of entries with their stamps
 abbrev pub state_after_all : Machine → NodeState → List TimedEntry → NodeState
-state_after_all m r [] = r
-state_after_all m r (e ∷ es) = state_after_all m (next_state m r e.told) es
+state_after_all m = fold (λ r e. next_state m r e.told)
 
 -- the state after a list of entries
 abbrev pub state_after_entries : Machine → NodeState → List JournalEntry → NodeState
-state_after_entries m r [] = r
-state_after_entries m r (t ∷ ts) = state_after_entries m (next_state m r t) ts
+state_after_entries m = fold (next_state m)
 
 -- a rule for each entry, at the state before it
 abbrev pub AtEachEntry : (NodeState → JournalEntry → Type 0) → Machine → NodeState → List TimedEntry → Type 0

@@ -1,5 +1,6 @@
 -- The pace of a node: whose turn it is, and how many instructions each invocation executed.
 use Rattle.std.specs.Prelude.{◌==◌, ℕ, not, List, [], ◌∷◌, ◌++◌, filter}
+use Rattle.std.specs.List.{fold}
 use Rattle.mate_journal.specs.Journal.{JournalEntry, Started, Asked, Answered, Ended, Installed, Reset, changed}
 
 -- the ready invocations, the one that is longest without a turn first; and how many instructions each executed since
@@ -27,8 +28,7 @@ paced p Reset = record p { line = [] }
 paced p _ = p
 
 abbrev pub paced_all : Pace → List JournalEntry → Pace
-paced_all p [] = p
-paced_all p (t ∷ ts) = paced_all (paced p t) ts
+paced_all = fold paced
 
 -- of a run the one whose turn it is goes last
 abbrev pub gives_way : Pace → ℕ → Pace

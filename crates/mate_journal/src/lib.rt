@@ -24,7 +24,7 @@ pub use node_log::NodeLog;
 pub use open_log::OpenLog;
 pub use past::Past;
 pub use program::{Program, Programs};
-pub use report::{IntoFault, NodeLogs, RECORDS_MAX, Report, RunFault};
+pub use report::{ENTRIES_MAX, IntoFault, NodeLogs, RECORDS_MAX, Report, RunFault};
 pub use shared_script::SharedScript;
 pub use stored_image::StoredImage;
 pub use stores::{StoreRef, Stores};

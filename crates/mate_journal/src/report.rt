@@ -134,6 +134,9 @@ impl Report {
 /// An event begins only if fewer records are before it.
 pub const RECORDS_MAX: usize = 1_000_000;
 
+/// How many entries a node's log has at most while its run goes on, those that were handed out included.
+pub const ENTRIES_MAX: usize = 4_000_000_000;
+
 /// Why a run gave no whole report.
 #[derive(Drop)]
 pub enum RunFault {

@@ -1,9 +1,81 @@
--- Lemmas on what is in a list.
-use Rattle.std.proofs.Common.{◌≡◌, ℕ, Bool, true, false, List, [], ◌∷◌, ◌++◌, drop, refl, sym, ◌∙◌, ap, subst, inl, inr, ◌⊎◌}
+-- Lemmas on what holds of a list, item by item, and on what is in it.
+use Rattle.std.proofs.Common.{◌≡◌, ℕ, Bool, true, false, List, [], ◌∷◌, ◌++◌, map, drop, refl, sym, ◌∙◌, ap, subst, inl, inr, ◌⊎◌}
 use Rattle.std.specs.Prelude.{cond, Some, All, slice_get}
-use Rattle.std.specs.List.{filter, flat_map}
+use Rattle.std.specs.List.{filter, flat_map, fold}
 use Rattle.std.proofs.lemmas.Option.{get_or_from_slice_get, slice_get_within}
-use Rattle.mate_num.specs.Lists.{Among}
+use Rattle.mate_num.specs.Lists.{Each, EachOver, Along, Among}
+
+-- ---- what holds of each item; that of `All` is `recursion_from_All` of std
+
+pub each-append : {A : Type 0} (Is : A → Type 0) (xs ys : List A) → Each Is xs → Each Is ys → Each Is (xs ++ ys)
+each-append Is [] ys front back = back
+each-append Is (x ∷ xs) ys front back = (front.0, each-append Is xs ys front.1 back)
+
+pub each-push : {A : Type 0} (Is : A → Type 0) (xs : List A) (x : A) → Each Is xs → Is x → Each Is (xs ++ x ∷ [])
+each-push Is xs x front last = each-append Is xs (x ∷ []) front (last, tt)
+
+pub each-parts : {A : Type 0} (Is : A → Type 0) (xs ys : List A) → Each Is (xs ++ ys) → Each Is xs × Each Is ys
+each-parts Is [] ys all = (tt, all)
+each-parts Is (x ∷ xs) ys all = let rest = each-parts Is xs ys all.1 in ((all.0, rest.0), rest.1)
+
+pub each-weaker : {A : Type 0} (Is Are : A → Type 0) → ((x : A) → Is x → Are x) → (xs : List A) → Each Is xs → Each Are xs
+each-weaker Is Are weaker [] all = tt
+each-weaker Is Are weaker (x ∷ xs) all = (weaker x all.0, each-weaker Is Are weaker xs all.1)
+
+pub each-among : {A : Type 0} (Is : A → Type 0) (xs : List A) (x : A) → Each Is xs → Among x xs → Is x
+each-among Is [] x all h = absurd h
+each-among Is (y ∷ xs) x all (inl e) = subst Is e all.0
+each-among Is (y ∷ xs) x all (inr h) = each-among Is xs x all.1 h
+
+-- ---- what holds of each item over those behind it
+
+pub each_over-behind : {A : Type 0} (Is : A → List A → Type 0) (xs ys : List A) → EachOver Is (xs ++ ys) → EachOver Is ys
+each_over-behind Is [] ys all = all
+each_over-behind Is (x ∷ xs) ys all = each_over-behind Is xs ys all.0
+
+pub each_over-weaker : {A : Type 0} (Is Are : A → List A → Type 0) → ((x : A) (xs : List A) → Is x xs → Are x xs) → (xs : List A) → EachOver Is xs → EachOver Are xs
+each_over-weaker Is Are weaker [] all = tt
+each_over-weaker Is Are weaker (x ∷ xs) all = (each_over-weaker Is Are weaker xs all.0, weaker x xs all.1)
+
+-- ---- what holds along a list
+
+pub along-append : {A S : Type 0} (Is : S → A → Type 0) (keep : S → A → S) (kept : S) (xs ys : List A)
+    → Along Is keep kept xs → Along Is keep (fold keep kept xs) ys → Along Is keep kept (xs ++ ys)
+along-append Is keep kept [] ys front back = back
+along-append Is keep kept (x ∷ xs) ys front back = (front.0, along-append Is keep (keep kept x) xs ys front.1 back)
+
+pub along-push : {A S : Type 0} (Is : S → A → Type 0) (keep : S → A → S) (kept : S) (xs : List A) (x : A)
+    → Along Is keep kept xs → Is (fold keep kept xs) x → Along Is keep kept (xs ++ x ∷ [])
+along-push Is keep kept xs x front last = along-append Is keep kept xs (x ∷ []) front (last, tt)
+
+pub along-parts : {A S : Type 0} (Is : S → A → Type 0) (keep : S → A → S) (kept : S) (xs ys : List A)
+    → Along Is keep kept (xs ++ ys) → Along Is keep kept xs × Along Is keep (fold keep kept xs) ys
+along-parts Is keep kept [] ys all = (tt, all)
+along-parts Is keep kept (x ∷ xs) ys all = let rest = along-parts Is keep (keep kept x) xs ys all.1 in ((all.0, rest.0), rest.1)
+
+pub along-weaker : {A S : Type 0} (Is Are : S → A → Type 0) (keep : S → A → S) → ((s : S) (x : A) → Is s x → Are s x)
+    → (kept : S) (xs : List A) → Along Is keep kept xs → Along Are keep kept xs
+along-weaker Is Are keep weaker kept [] all = tt
+along-weaker Is Are keep weaker kept (x ∷ xs) all = (weaker kept x all.0, along-weaker Is Are keep weaker (keep kept x) xs all.1)
+
+-- what follows from what holds of each
+pub along-each : {A S : Type 0} (P : A → Type 0) (Is : S → A → Type 0) (keep : S → A → S) → ((s : S) (x : A) → P x → Is s x)
+    → (kept : S) (xs : List A) → Each P xs → Along Is keep kept xs
+along-each P Is keep follows kept [] all = tt
+along-each P Is keep follows kept (x ∷ xs) all = (follows kept x all.0, along-each P Is keep follows (keep kept x) xs all.1)
+
+-- along what f makes of the items is along the items, by what f makes of them
+pub along-map : {A B S : Type 0} (f : A → B) (Is : S → B → Type 0) (keep : S → B → S) (kept : S) (xs : List A)
+    → Along (λ s x. Is s (f x)) (λ s x. keep s (f x)) kept xs → Along Is keep kept (map f xs)
+along-map f Is keep kept [] all = tt
+along-map f Is keep kept (x ∷ xs) all = (all.0, along-map f Is keep (keep kept (f x)) xs all.1)
+
+pub along-unmap : {A B S : Type 0} (f : A → B) (Is : S → B → Type 0) (keep : S → B → S) (kept : S) (xs : List A)
+    → Along Is keep kept (map f xs) → Along (λ s x. Is s (f x)) (λ s x. keep s (f x)) kept xs
+along-unmap f Is keep kept [] all = tt
+along-unmap f Is keep kept (x ∷ xs) all = (all.0, along-unmap f Is keep (keep kept (f x)) xs all.1)
+
+-- ---- what is in a list
 
 pub among-left : {X : Type 0} (x : X) (xs ys : List X) → Among x xs → Among x (xs ++ ys)
 among-left x [] ys h = absurd h

@@ -1,11 +1,16 @@
 -- What holds of a list, item by item, what is in it, and what a word stands for in it.
 use Rattle.std.specs.Prelude.{◌≡◌, ℕ, List, [], ◌∷◌, ◌⊎◌, if◌then◌else◌}
+use Rattle.std.specs.List.{AllByRecursion}
 use Rattle.std.specs.Str.{bytes_eq}
 
 -- of each item
 abbrev pub Each : {A : Type 0} → (A → Type 0) → List A → Type 0
-Each Is [] = Unit {0}
-Each Is (x ∷ xs) = Is x × Each Is xs
+Each = AllByRecursion
+
+-- of each item and of those behind it, as in a list that grows at its front
+abbrev pub EachOver : {A : Type 0} → (A → List A → Type 0) → List A → Type 0
+EachOver Is [] = Unit {0}
+EachOver Is (x ∷ xs) = EachOver Is xs × Is x xs
 
 -- of each item and of what was kept of the items before it; this is kept before the first one
 abbrev pub Along : {A S : Type 0} → (S → A → Type 0) → (S → A → S) → S → List A → Type 0

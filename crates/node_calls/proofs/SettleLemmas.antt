@@ -1,8 +1,10 @@
 -- One turn after another, until nobody is ready.
-use Rattle.std.proofs.Common.{◌≡◌, ◌≢◌, ◌⊎◌, ℕ, suc, ◌+◌, ◌*◌, ◌<◌, ◌≤◌, Bool, true, false, List, [], ◌∷◌, ◌++◌, Option, Some, None, refl, sym, ◌∙◌, ap, subst, arith, inl, inr, length, length-append, append_assoc, mul-zero}
+use Rattle.std.proofs.Common.{◌≡◌, ◌≢◌, ◌⊎◌, ℕ, suc, ◌+◌, ◌*◌, ◌<◌, ◌≤◌, Bool, true, false, List, [], ◌∷◌, ◌++◌, Option, Some, None, refl, sym, ◌∙◌, ap, subst, arith, inl, inr, length, length-append, mul-zero}
 use Rattle.std.specs.Prelude.{map, slice_get, ◌||◌}
 use Rattle.std.proofs.lemmas.Bool.{eq-eqb}
 use Rattle.std.proofs.lemmas.List.{map-append}
+use Rattle.std.proofs.lemmas.List.Folds.{fold-map}
+use Rattle.std.proofs.lemmas.Grind.{flat_map-append}
 use Rattle.mate_num.specs.declared.call.Stamp.{Stamp}
 use Rattle.mate_num.specs.declared.id.ContextId.{ContextId}
 use Rattle.mate_num.specs.declared.lock_set.LockSet.{LockSet}
@@ -12,7 +14,7 @@ use Rattle.vm_desc.specs.declared.description.Description.{Description}
 use Rattle.mate_journal.specs.Log.{Log}
 use Rattle.mate_journal.specs.Machine.{Machine}
 use Rattle.mate_journal.specs.Journal.{JournalEntry, Ready, NodeState, is_live, journal_of, first_state, next_state, state_after_all}
-use Rattle.journal_laws.proofs.Append.{heard_all-append}
+pub use Rattle.mate_journal.proofs.JournalLemmas.{heard_all-append, heard_told-append}
 use Rattle.node_contexts.specs.declared.seat.Seat.{Seat}
 use Rattle.node_contexts.specs.declared.contexts.Contexts.{Contexts}
 use Rattle.node_contexts.specs.At.{At, at, GivesWay}
@@ -43,10 +45,6 @@ use Rattle.node_calls.proofs.QuantaLemmas.{AreTogether-one, AreTogether-lone}
 
 -- ---- lists of turns
 
-pub heard_told-append : (m : Machine) (r : NodeState) (xs ys : List JournalEntry) → state_after_entries m r (xs ++ ys) ≡ state_after_entries m (state_after_entries m r xs) ys
-heard_told-append m r [] ys = refl
-heard_told-append m r (x ∷ xs) ys = heard_told-append m (next_state m r x) xs ys
-
 AreTurns-append : (m : Machine) (r : NodeState) (p : Pace) (ts us : List Turn) → AreTurns m r p ts → AreTurns m (state_after_entries m r (told_in ts)) (pace_after m r p ts) us → AreTurns m r p (ts ++ us)
 AreTurns-append m r p [] us are further = further
 AreTurns-append m r p (t ∷ ts) us are further =
@@ -66,14 +64,12 @@ pace_after-append m r p (t ∷ ts) us =
     ∙ ap (λ (q : NodeState). pace_after m q (pace_after m (state_after_entries m r t.told) (after_turn m r p t) ts) us) (sym (heard_told-append m r t.told (told_in ts)))
 
 told_in-append : (ts us : List Turn) → told_in (ts ++ us) ≡ told_in ts ++ told_in us
-told_in-append [] us = refl
-told_in-append (t ∷ ts) us = ap (λ (l : List JournalEntry). t.told ++ l) (told_in-append ts us) ∙ sym (append_assoc t.told (told_in ts) (told_in us))
+told_in-append ts us = flat_map-append (λ t. t.told) ts us
 
 -- ---- what a log tells more is heard
 
 heard-events : (m : Machine) (r : NodeState) (at_ : Stamp) (told : List JournalEntry) → state_after_all m r (map (event_at at_) told) ≡ state_after_entries m r told
-heard-events m r at_ [] = refl
-heard-events m r at_ (t ∷ ts) = heard-events m (next_state m r t) at_ ts
+heard-events m r at_ told = fold-map (λ s e. next_state m s e.told) (event_at at_) r told
 
 pub reading-grows : (d : Description) (a b : Log) (at_ : Stamp) (told : List JournalEntry) → Grows a b at_ told → reading d b ≡ state_after_entries (machine_in d) (reading d a) told
 unfolding reading

@@ -2,6 +2,7 @@
 
 ghost use Rattle.std.specs.Prelude.{◌≡◌, ◌<◌, ◌≤◌, ◌+◌, ◌*◌, ◌∷◌, [], length, MatchOption, MatchResult, IfOk, OnOk};
 ghost use Rattle.mate_num.specs.declared.bounds.TheConstants.{CODE_MAX, CONTEXTS_MAX};
+ghost use Rattle.mate_journal.specs.declared.report.TheConstants.{ENTRIES_MAX};
 ghost use Rattle.mate_journal.specs.Log.{IsEmpty};
 ghost use Rattle.mate_journal.specs.Journal.{Void, held as held_version};
 ghost use Rattle.mate_journal.specs.Pace.{Pace, no_pace};
@@ -151,7 +152,7 @@ impl Node {
     pub fn post(&mut self, handler: HandlerId, payload: &Payload, at: Stamp) -> PostAnswer
         requires handler { handler.0 < length self.old.description.handlers.items }
         requires timely { IsTimely at self.old.log }
-        requires few { length self.old.log.entries < 4000000000 }
+        requires few { length self.old.log.entries < ENTRIES_MAX }
         requires room { 2 ≤ self.old.log.spare }
         ensures { Tells self.old self.new at
             (Pacing (λ _. PostGives (machine_in self.old.description) (heard_of self.old) handler payload.now result)) }
@@ -177,7 +178,7 @@ impl Node {
     /// then `NotNewer` exactly if the version that is held for the handler is at least the capsule's, with that version.
     pub fn install(&mut self, bytes: &[u8], at: Stamp) -> Result<(), InstallFault>
         requires timely { IsTimely at self.old.log }
-        requires few { length self.old.log.entries < 4000000000 }
+        requires few { length self.old.log.entries < ENTRIES_MAX }
         requires room { 4 ≤ self.old.log.spare }
         ensures { MatchResult result
             (λ _. Tells self.old self.new at (Pacing (InstallsBytes self.old.description (heard_of self.old) bytes.now)))
@@ -189,7 +190,7 @@ impl Node {
     /// Begins an era as an install does, but what is installed stays, and nothing is posted.
     pub fn reset(&mut self, at: Stamp)
         requires timely { IsTimely at self.old.log }
-        requires few { length self.old.log.entries < 4000000000 }
+        requires few { length self.old.log.entries < ENTRIES_MAX }
         requires room { 2 ≤ self.old.log.spare }
         ensures { Tells self.old self.new at
             (Pacing (Resets (machine_in self.old.description) (heard_of self.old))) }
@@ -200,7 +201,7 @@ impl Node {
     /// Records the shared variables and buffers as they are.
     pub fn seen(&mut self, at: Stamp)
         requires timely { IsTimely at self.old.log }
-        requires few { length self.old.log.entries < 4000000000 }
+        requires few { length self.old.log.entries < ENTRIES_MAX }
         requires room { 1 ≤ self.old.log.spare }
         ensures { Tells self.old self.new at
             (Pacing (ShowsOnce (machine_in self.old.description) (heard_of self.old))) }

@@ -2,6 +2,7 @@
 use Rattle.std.proofs.Common.{◌≡◌, ◌≢◌, ◌⊎◌, ℕ, ◌+◌, ◌-◌, ◌<◌, ◌≤◌, true, List, [], ◌∷◌, ◌++◌, Some, None, length, refl, sym, ◌∙◌, ap, subst, arith, inl, inr, length-append}
 use Rattle.std.specs.Prelude.{map}
 use Rattle.std.proofs.lemmas.List.{map-append}
+use Rattle.std.proofs.lemmas.List.Sums.{fold-append}
 use Rattle.std.proofs.lemmas.Bool.{cases_eq}
 use Rattle.std.proofs.lemmas.List.Elements.{All-nil, All-cons, All-append}
 use Rattle.mate_num.specs.declared.call.Stamp.{Stamp}
@@ -339,8 +340,7 @@ StartsNone-from d old later starting_ none once same =
 -- ---- several
 
 pub paced_all-append : (p : Pace) (xs ys : List JournalEntry) → paced_all p (xs ++ ys) ≡ paced_all (paced_all p xs) ys
-paced_all-append p [] ys = refl
-paced_all-append p (x ∷ xs) ys = paced_all-append (paced p x) xs ys
+paced_all-append p xs ys = fold-append paced p xs ys
 
 pub StartsSome-none : (d : Description) (s : Parts) (at_ : Stamp) → IsStarting d s → IsTimely at_ s.log.all → StartsSome d s s at_
 StartsSome-none d s at_ starting_ timely = record {

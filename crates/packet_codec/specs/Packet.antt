@@ -1,7 +1,7 @@
 -- Which packets are right for a machine.
 use Rattle.std.specs.Prelude.{◌≡◌, ℕ, ◌+◌, ◌<◌, ◌≤◌, ◌^◌, ℤ, Bool, true, false, List, length, All, FitsSigned}
 use Rattle.std.specs.Int.{w16}
-use Rattle.mate_num.specs.declared.bounds.TheConstants.{FRAGMENTS_MAX}
+use Rattle.mate_num.specs.declared.bounds.TheConstants.{FRAGMENTS_MAX, PAYLOAD_MAX}
 use Rattle.capsule_codec.specs.declared.fragments.TheConstants.{PIECE_MAX, SHORT_PIECE}
 use Rattle.capsule_codec.specs.Image.{IsBytes}
 use Rattle.packet_codec.specs.declared.packet.Packet.{Packet}
@@ -35,7 +35,7 @@ IsRightPacket handlers (Vector versions) = length versions.items ≡ handlers
 IsRightPacket handlers (Status handler version missing) = IsRightStatus handlers handler.0 version missing
 IsRightPacket handlers (Fragment handler version index count large bytes) =
     IsRightFragment handlers handler.0 version index count large bytes.items
-IsRightPacket handlers (App payload) = length payload.items ≤ 10
+IsRightPacket handlers (App payload) = length payload.items ≤ PAYLOAD_MAX
 
 -- the numbers in a packet are in the ranges of their types: every packet's are
 pub record HasStatusRanges (handler version missing : ℕ) : Type 0 where

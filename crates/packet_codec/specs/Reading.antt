@@ -1,7 +1,7 @@
 -- What bytes are to a machine: a packet, or the first fault.
 use Rattle.std.specs.Prelude.{◌≡◌, ℕ, ◌+◌, ◌*◌, nat_lt, nat_le, ◌==◌, ℤ, Bool, true, false, not, ◌&&◌, ◌||◌, if◌then◌else◌, List, [], ◌∷◌, length, Result, Ok, Err, is_err}
 use Rattle.std.specs.Int.{w16, w32, from_be_bytes, cast_signed, is_in_range}
-use Rattle.mate_num.specs.declared.bounds.TheConstants.{FRAGMENTS_MAX}
+use Rattle.mate_num.specs.declared.bounds.TheConstants.{FRAGMENTS_MAX, PAYLOAD_MAX}
 use Rattle.vm_desc.specs.declared.description.Description.{Description}
 use Rattle.packet_codec.specs.declared.packet.Packet.{Packet}
 use Rattle.packet_codec.specs.declared.packet.Packet.TheVariants.{Vector, Status, Fragment, App}
@@ -34,7 +34,7 @@ abbrev pub app_in : List ℕ → Result Packet PacketFault
 app_in [] = Err BadLength
 app_in (count ∷ bytes) =
     if not (length bytes == 2 * count) then Err BadLength
-    else if not (nat_le count 10) then Err BadField
+    else if not (nat_le count PAYLOAD_MAX) then Err BadField
     else Ok (App (record { items = values_in bytes }))
 
 -- a handler of the machine, a version, and a mask of some of `FRAGMENTS_MAX` fragments

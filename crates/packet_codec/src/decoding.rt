@@ -1,6 +1,7 @@
 //! From bytes to packets.
 
 ghost use Rattle.std.specs.Prelude.{◌≡◌, ◌≤◌, length, IfOk, is_err, Ok};
+ghost use Rattle.mate_num.specs.declared.bounds.TheConstants.{HANDLERS_MAX};
 ghost use Rattle.packet_codec.specs.declared.packet.Packet.{Packet};
 ghost use Rattle.packet_codec.specs.Bytes.{packet_bytes};
 ghost use Rattle.packet_codec.specs.Reading.{packet_in, is_noise, body_in, vector_in, status_read, fragment_read, app_in, is_status, is_fragment, versions_in, values_in};
@@ -9,7 +10,7 @@ ghost use Rattle.packet_codec.specs.Packet.{full_len, IsRightPacket, HasPacketRa
 use crate::packet::Packet;
 use arrayvec::ArrayVec;
 use capsule_codec::{PIECE_MAX, Piece, SHORT_PIECE};
-use mate_num::{FRAGMENTS_MAX, HandlerId, Payload};
+use mate_num::{FRAGMENTS_MAX, HANDLERS_MAX, HandlerId, PAYLOAD_MAX, Payload};
 use vm_desc::Description;
 
 /// Why bytes are no packet of the machine.
@@ -54,7 +55,7 @@ fn read_packet(desc: &Description, bytes: &[u8]) -> Result<Packet, PacketFault>
 
 // The packet of this kind with this body.
 fn read_body(handlers: usize, kind: u8, body: &[u8]) -> Result<Packet, PacketFault>
-    requires { handlers ≤ 8 }
+    requires { handlers ≤ HANDLERS_MAX }
     ensures { result ≡ body_in handlers kind body.now }
 {
     match kind {
@@ -68,7 +69,7 @@ fn read_body(handlers: usize, kind: u8, body: &[u8]) -> Result<Packet, PacketFau
 }
 
 fn read_vector(handlers: usize, body: &[u8]) -> Result<Packet, PacketFault>
-    requires { handlers ≤ 8 }
+    requires { handlers ≤ HANDLERS_MAX }
     ensures { result ≡ vector_in handlers body.now }
 {
     let [count, bytes @ ..] = body else {
@@ -85,11 +86,11 @@ fn read_vector(handlers: usize, body: &[u8]) -> Result<Packet, PacketFault>
     Ok(Packet::Vector { versions })
 }
 
-fn read_versions(bytes: &[u8]) -> ArrayVec<u32, 8>
+fn read_versions(bytes: &[u8]) -> ArrayVec<u32, HANDLERS_MAX>
     requires { length bytes.now ≤ 32 }
     ensures { result.items ≡ versions_in bytes.now }
 {
-    let mut versions: ArrayVec<u32, 8> = ArrayVec::new();
+    let mut versions: ArrayVec<u32, HANDLERS_MAX> = ArrayVec::new();
     let mut rest = bytes;
     'versions: while let [a, b, c, d, after @ ..] = rest {
         versions.push(u32::from_be_bytes([*a, *b, *c, *d]));
@@ -191,7 +192,7 @@ fn read_app(body: &[u8]) -> Result<Packet, PacketFault>
     if bytes.len() != 2 * count {
         return Err(PacketFault::BadLength);
     }
-    if count > 10 {
+    if count > PAYLOAD_MAX {
         return Err(PacketFault::BadField);
     }
     let payload = read_values(bytes);

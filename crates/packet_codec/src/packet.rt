@@ -5,14 +5,14 @@ ghost use Rattle.packet_codec.specs.declared.packet.Packet.TheVariants.{App};
 
 use arrayvec::ArrayVec;
 use capsule_codec::Piece;
-use mate_num::{HandlerId, Payload};
+use mate_num::{HANDLERS_MAX, HandlerId, Payload};
 
 /// What a node sends. It is right for a machine if its handlers, numbers and lengths are the machine's, as said at each field.
 #[derive(Debug, Drop)]
 pub enum Packet {
     /// The version that the sender holds of each handler, in order, 0 for none.
     Vector {
-        versions: ArrayVec<u32, 8>,
+        versions: ArrayVec<u32, HANDLERS_MAX>,
     },
     /// Fragments that the sender lacks of a version, from 1 on, of a handler: bit `i` of `missing` asks for fragment
     /// `i`, of at most `FRAGMENTS_MAX`, and at least one bit is set.

@@ -6,8 +6,10 @@ use Rattle.std.proofs.lemmas.List.{length-take, length-map, take_more, map-appen
 use Rattle.std.specs.List.{position_from}
 use Rattle.std.specs.Map.{lookup, update}
 use Rattle.std.specs.Option.{option_and_then}
+use Rattle.std.proofs.lemmas.Bool.{cond_both}
 use Rattle.std.proofs.lemmas.Bool.Decides.{nat_tests}
 use Rattle.std.proofs.lemmas.Slice.Eq.{bytes_eq-Decides}
+use Rattle.mate_num.specs.Lists.{Each}
 use Rattle.ts_syntax.specs.declared.word.Word.{Word}
 use Rattle.proc_names.specs.Places.{place_of_name, place_below, declared_as}
 use Rattle.proc_names.specs.Numbers.{kept_or}
@@ -195,3 +197,8 @@ declared_found {A} {B} f g n xs name i x found less within is =
     let es : List (List ℕ × B) = take n (map (λ x. (f x, g x)) xs) in
     lookup-place (bytes_eq name) es ∙ ap (option_and_then (λ i. option_map (λ d. d.1) (slice_get es i))) (ap (λ ks. place_of_name ks name) (keys_of f g n xs) ∙ found)
     ∙ values_of f g n xs i x less within is
+
+-- what holds of each that is declared holds of the one of a name
+pub each-declared : {A : Type 0} (Is : A → Type 0) (known : List (List ℕ × A)) (name : List ℕ) → Each (λ c. Is c.1) known → IfSome (declared_as known name) Is
+each-declared Is [] name each = tt
+each-declared Is (c ∷ known) name each = cond_both (bytes_eq name c.0) _ _ (λ o. IfSome o Is) (λ _. each.0) (λ _. each-declared Is known name each.1)

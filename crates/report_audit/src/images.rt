@@ -2,6 +2,7 @@
 
 ghost use Rattle.std.specs.Prelude.{◌≡◌, ◌≤◌, length};
 ghost use Rattle.std.specs.List.{list_any};
+ghost use Rattle.mate_num.specs.declared.bounds.TheConstants.{HANDLERS_MAX};
 ghost use Rattle.mate_journal.specs.Journal.{journal_of, journal_entry};
 ghost use Rattle.mate_journal.specs.Tidy.{IsTidyLog};
 ghost use Rattle.journal_laws.specs.Growth.{IsNamedBelow};
@@ -13,7 +14,7 @@ ghost use Rattle.report_audit.specs.Versions.{HasVersions};
 
 use audit_programs::find_program;
 use mate_journal::{Entry, ImageRef, NodeLog, Programs};
-use mate_num::HandlerId;
+use mate_num::{HANDLERS_MAX, HandlerId};
 use vm_desc::Description;
 
 /// Whether one of the programs has this handler, version and image. The search begins at `place`, which then is the position of the
@@ -42,10 +43,10 @@ fn installs_right(
     programs: &Programs,
     place: &mut usize,
     log: &NodeLog,
-    held: &mut [u32; 8],
+    held: &mut [u32; HANDLERS_MAX],
     entry: &Entry,
 ) -> bool
-    requires range { HasHandlerBelow 8 entry.now }
+    requires range { HasHandlerBelow HANDLERS_MAX entry.now }
     requires named { IsNamedBelow (length log.now.images) (length log.now.stores) entry.now }
     ensures right { (x : Roll) → HasVersions held.old x → result ≡ told.installs_right programs.now x (journal_entry log.now entry.now) }
     ensures held { (x : Roll) → HasVersions held.old x → HasVersions held.new (rolled x (journal_entry log.now entry.now)) }
@@ -68,12 +69,12 @@ fn installs_right(
 
 /// Whether each install is of one of the programs, and newer than what was installed for its handler.
 pub(crate) fn images_right(desc: &Description, programs: &Programs, log: &NodeLog) -> bool
-    requires few { length desc.now.handlers.items ≤ 8 }
+    requires few { length desc.now.handlers.items ≤ HANDLERS_MAX }
     requires tidy { IsTidyLog desc.now log.now }
     ensures { result ≡ told.images_right programs.now nobody (journal_of log.now) }
 {
     let _desc = desc;
-    let mut held = [0; 8];
+    let mut held = [0; HANDLERS_MAX];
     let mut place = 0;
     for stamped in log.entries() {
         if !installs_right(programs, &mut place, log, &mut held, &stamped.entry) {

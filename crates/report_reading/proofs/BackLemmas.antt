@@ -1,11 +1,11 @@
 -- The text of the report of lines is the text of the lines.
-use Rattle.std.proofs.Common.{◌≡◌, ℕ, zero, suc, ◌+◌, ◌<◌, ◌≤◌, ◌==◌, max, Bool, true, false, cond, List, [], ◌∷◌, ◌++◌, length, map, drop, get_or, set, Option, Some, Result, Ok, Err, refl, sym, ap, subst, ◌∙◌, arith, inl, inr, ◌⊎◌, append_assoc, append-nil, length-append}
+use Rattle.std.proofs.Common.{◌≡◌, ℕ, zero, suc, ◌+◌, ◌<◌, ◌≤◌, ◌==◌, max, Bool, true, false, List, [], ◌∷◌, ◌++◌, length, map, drop, get_or, set, Option, Some, Result, Ok, Err, refl, sym, ap, subst, ◌∙◌, arith, inl, inr, ◌⊎◌, append_assoc, append-nil, length-append}
 use Rattle.std.specs.Prelude.{All, AllPairs, fold, flat_map, filter, sum_by, IfOk, is_some, codes, slice_get}
 use Rattle.std.specs.List.{AllZip}
 use Rattle.std.proofs.lemmas.Bool.{cases_Bool, cond-true, cond-false, eq-eqb, cases_lt, false≢true}
 use Rattle.std.proofs.lemmas.List.{set-append_left}
 use Rattle.std.proofs.lemmas.List.Sums.{sum_by-cons}
-use Rattle.std.proofs.lemmas.List.Elements.{All-nil, All-cons, All-head, All-tail, All-push, All-same}
+use Rattle.std.proofs.lemmas.List.Elements.{length_all_zip, All-nil, All-cons, All-head, All-tail, All-push, All-same}
 use Rattle.std.proofs.Math.Seq.{drop-append_seam}
 use Rattle.arrayvec.specs.ArrayVec.{ArrayVec}
 use Rattle.vm_desc.specs.declared.description.Description.{Description}
@@ -53,7 +53,7 @@ lines-same d node x y (e ∷ es) s =
     ap (λ (w : List ℕ). (stamp_words e.stamp node ++ w ++ codes "\n") ++ flat_map (entry_line d x node) es) (words-same d x y e.entry s)
     ∙ ap (λ (w : List ℕ). entry_line d y node e ++ w) (lines-same d node x y es s)
 
-node_lines-same : (d : Description) (event node : ℕ) (xs ys : List Log) → AllZip IsSameLog xs ys → entry_lines d event node xs ≡ entry_lines d event node ys
+pub node_lines-same : (d : Description) (event node : ℕ) (xs ys : List Log) → AllZip IsSameLog xs ys → entry_lines d event node xs ≡ entry_lines d event node ys
 node_lines-same d event node [] [] z = refl
 node_lines-same d event node [] (y ∷ ys) z = absurd z
 node_lines-same d event node (x ∷ xs) [] z = absurd z
@@ -78,13 +78,7 @@ counts-same n (x ∷ xs) [] z = absurd z
 counts-same n (x ∷ xs) (y ∷ ys) z =
     ap (λ (es : List Stamped). fold (λ a l. a + length l.entries) (n + length es) xs) z.0.entries ∙ counts-same (n + length y.entries) xs ys z.1
 
-nodes-same : (xs ys : List Log) → AllZip IsSameLog xs ys → length xs ≡ length ys
-nodes-same [] [] z = refl
-nodes-same [] (y ∷ ys) z = absurd z
-nodes-same (x ∷ xs) [] z = absurd z
-nodes-same (x ∷ xs) (y ∷ ys) z = ap suc (nodes-same xs ys z.1)
-
-agree : (f g : ℕ → List ℕ) (xs : List ℕ) → ((k : ℕ) → f k ≡ g k) → flat_map f xs ≡ flat_map g xs
+pub agree : (f g : ℕ → List ℕ) (xs : List ℕ) → ((k : ℕ) → f k ≡ g k) → flat_map f xs ≡ flat_map g xs
 agree f g [] h = refl
 agree f g (x ∷ xs) h = ap (λ (w : List ℕ). w ++ flat_map f xs) (h x) ∙ ap (λ (w : List ℕ). g x ++ w) (agree f g xs h)
 
@@ -108,7 +102,7 @@ module _ (d : Description) (a b : Report) (s : IsSameReport a b) where
   text_same =
       let count : records a ≡ records b =
       ap (λ (airs : List Aired). length airs + sum_by (λ l. length l.entries) a.nodes) s.air ∙ ap (λ (n : ℕ). length b.air + n) (counts-same 0 a.nodes b.nodes s.nodes) in
-      let last : end_line (records a) a.events (length a.nodes) a.whole ≡ end_line (records b) b.events (length b.nodes) b.whole = cc (count, s.events, nodes-same a.nodes b.nodes s.nodes, s.whole) in
+      let last : end_line (records a) a.events (length a.nodes) a.whole ≡ end_line (records b) b.events (length b.nodes) b.whole = cc (count, s.events, length_all_zip IsSameLog a.nodes b.nodes s.nodes, s.whole) in
       ap (λ (w : List ℕ). w ++ end_line (records a) a.events (length a.nodes) a.whole) all_lines_same ∙ ap (λ (w : List ℕ). lines d b ++ w) last
 
 -- ---- one node's log changes

@@ -1,7 +1,7 @@
 -- Which line the code takes next is which line may stand behind those that were read.
-use Rattle.std.proofs.Common.{◌≡◌, ℕ, ◌+◌, ◌<◌, ◌≤◌, ◌==◌, nat_lt, nat_le, Bool, true, false, not, ◌&&◌, ◌||◌, cond, List, [], ◌∷◌, ◌++◌, length, map, get_or, Option, Some, None, refl, sym, ap, subst, ◌∙◌, arith, inl, inr, ◌⊎◌, IsTrue, length-append}
+use Rattle.std.proofs.Common.{◌≡◌, ℕ, ◌+◌, ◌<◌, ◌≤◌, ◌==◌, nat_lt, nat_le, Bool, true, false, not, ◌&&◌, ◌||◌, List, [], ◌∷◌, ◌++◌, length, get_or, Option, Some, None, refl, sym, ap, subst, ◌∙◌, arith, inl, inr, ◌⊎◌, IsTrue, length-append}
 use Rattle.std.specs.Prelude.{All, AllPairs, Contains}
-use Rattle.std.proofs.lemmas.Bool.{cases_Bool, cond-true, cond-false, and_parts, and_from, eqb-true, eq-eqb, ltb-true, lt-ltb, leb-true, le-leb, false≢true}
+use Rattle.std.proofs.lemmas.Bool.{cases_Bool, not-true, not-false, or_left, or_right, or_cases, or_parts, and_cases, cond-true, cond-false, and_parts, and_from, eqb-true, eq-eqb, ltb-true, lt-ltb, leb-true, le-leb, false≢true}
 use Rattle.std.proofs.lemmas.List.Elements.{All-nil, All-push, All-map, All-contains, Contains-append_left, Contains-push}
 use Rattle.std.proofs.lemmas.List.Quantifiers.{all_pairs_push}
 use Rattle.mate_num.specs.declared.call.Stamp.{Stamp}
@@ -13,33 +13,6 @@ use Rattle.report_reading.specs.Fits.{is_on_air, is_shown, line_mark, line_marks
 use Rattle.report_reading.specs.Places.{begun_at, keeps_order, keeps_node, joins, begins_next, admits, admits_next, joined_by, place_after, IsPlaceOf, IsPlaceAfter}
 
 -- ---- tests
-
-or-left : (a b : Bool) → a ≡ true → (a || b) ≡ true
-or-left a b h = ap (λ (x : Bool). x || b) h
-
-or-right : (a b : Bool) → b ≡ true → (a || b) ≡ true
-or-right true b h = refl
-or-right false b h = h
-
-or-cases : (a b : Bool) → (a || b) ≡ true → (a ≡ true) ⊎ (b ≡ true)
-or-cases true b h = inl refl
-or-cases false b h = inr h
-
-or-none : (a b : Bool) → (a || b) ≡ false → (a ≡ false) × (b ≡ false)
-or-none true b h = absurd cc
-or-none false b h = (refl, h)
-
-and-cases : (a b : Bool) → (a && b) ≡ false → (a ≡ false) ⊎ (b ≡ false)
-and-cases true b h = inr h
-and-cases false b h = inl refl
-
-not-true : (a : Bool) → not a ≡ true → a ≡ false
-not-true true h = absurd cc
-not-true false h = refl
-
-not-false : (a : Bool) → not a ≡ false → a ≡ true
-not-false true h = refl
-not-false false h = absurd cc
 
 ne-eqb : (m n : ℕ) → (m == n) ≡ false → m ≡ n → ⊥
 ne-eqb m n h e = false≢true (sym h ∙ eq-eqb m n e)
@@ -105,7 +78,7 @@ order-air p l h air =
 
 order-entry : (p : Place) (l : Line) → keeps_order p l ≡ true → is_on_air l.told ≡ false → (p.on_air ≡ true) ⊎ (p.node ≤ l.node)
 order-entry p l h entry =
-    elim (or-cases p.on_air (nat_le p.node l.node) (sym (cond-false (is_on_air l.told) (p.on_air && nat_le p.node l.node) (p.on_air || nat_le p.node l.node) entry) ∙ h)) [
+    elim (or_cases p.on_air (nat_le p.node l.node) (sym (cond-false (is_on_air l.told) (p.on_air && nat_le p.node l.node) (p.on_air || nat_le p.node l.node) entry) ∙ h)) [
       | inl air ↦ inl air
       | inr le ↦ inr (leb-true p.node l.node le)
     ]
@@ -120,8 +93,8 @@ order-nodes p l h same =
 node-cases : (p : Place) (l : Line) → keeps_node p l ≡ true
     → (p.stamp.event ≡ 0) ⊎ (((p.several ≡ false) × (p.node ≡ l.node)) ⊎ ((p.only_shown ≡ true) × (is_shown l.told ≡ true)))
 node-cases p l h =
-    elim (or-cases (p.stamp.event == 0 || (not p.several && p.node == l.node)) (p.only_shown && is_shown l.told) h) [
-      | inl a ↦ elim (or-cases (p.stamp.event == 0) (not p.several && p.node == l.node) a) [
+    elim (or_cases (p.stamp.event == 0 || (not p.several && p.node == l.node)) (p.only_shown && is_shown l.told) h) [
+      | inl a ↦ elim (or_cases (p.stamp.event == 0) (not p.several && p.node == l.node) a) [
         | inl zero_event ↦ inl (eqb-true p.stamp.event 0 zero_event)
         | inr b ↦ let parts = and_parts (not p.several) (p.node == l.node) b in inr (inl (not-true p.several parts.0, eqb-true p.node l.node parts.1))
       ]
@@ -149,7 +122,7 @@ admitted p l h =
           inr (record {
             event = ltb-true p.stamp.event l.stamp.event b.0;
             time = leb-true p.stamp.time l.stamp.time b.1;
-            ended = elim (or-cases (p.stamp.event == 0) (not p.several) a.1) [
+            ended = elim (or_cases (p.stamp.event == 0) (not p.several) a.1) [
               | inl zero_event ↦ inl (eqb-true p.stamp.event 0 zero_event)
               | inr one ↦ inr (not-true p.several one)
             ];
@@ -337,17 +310,17 @@ place_joined ls p l i j behind = record {
   shown = λ both.
       let parts = and_parts p.only_shown (is_shown l.told) both in
       All-push (λ (m : Line). m.stamp.event ≡ l.stamp.event → is_shown m.told ≡ true) ls l (λ k d q e. i.shown parts.0 k d q (e ∙ sym j.event)) (λ e. parts.1);
-  not_shown = λ neither. elim (and-cases p.only_shown (is_shown l.told) neither) [
+  not_shown = λ neither. elim (and_cases p.only_shown (is_shown l.told) neither) [
     | inl old ↦ let w = i.not_shown old in (w.0, Contains-append_left ls (l ∷ []) w.0 w.1, w.2 ∙ j.event, w.3)
     | inr new ↦ (l, Contains-push ls l, refl, new)
   ];
   one = λ none.
-      let parts = or-none p.several (not (p.node == l.node)) none in
+      let parts = or_parts p.several (not (p.node == l.node)) none in
       let same : p.node ≡ l.node = eqb-true p.node l.node (not-false (p.node == l.node) parts.1) in
       All-push (λ (m : Line). m.stamp.event ≡ l.stamp.event → m.node ≡ l.node) ls l (λ k d q e. i.one parts.0 k d q (e ∙ sym j.event) ∙ same) (λ e. refl);
   two = λ some. elim (cases_Bool (p.node == l.node)) [
     | inl same ↦
-        let old : p.several ≡ true = elim (or-cases p.several (not (p.node == l.node)) some) [ inl two ↦ two | inr ne ↦ absurd (false≢true (sym (not-true (p.node == l.node) ne) ∙ same)) ] in
+        let old : p.several ≡ true = elim (or_cases p.several (not (p.node == l.node)) some) [ inl two ↦ two | inr ne ↦ absurd (false≢true (sym (not-true (p.node == l.node) ne) ∙ same)) ] in
         let w = i.two old in
         (w.0, Contains-append_left ls (l ∷ []) w.0 w.1, w.2 ∙ j.event, λ e. w.3 (e ∙ sym (eqb-true p.node l.node same)))
     | inr other ↦ (i.last, Contains-append_left ls (l ∷ []) i.last i.has, sym (event_of ls p i) ∙ j.event, λ e. ne-eqb p.node l.node other (i.node ∙ e))
@@ -398,8 +371,8 @@ keeps_order-behind p z l ez nz az b e =
       | inr entry ↦
           cond-false (is_on_air l.told) (p.on_air && nat_le p.node l.node) (p.on_air || nat_le p.node l.node) entry
           ∙ elim (cases_Bool (is_on_air z.told)) [
-            | inl za ↦ or-left p.on_air (nat_le p.node l.node) (az ∙ za)
-            | inr ze ↦ let le = b.nodes same (ze ∙ sym entry) in or-right p.on_air (nat_le p.node l.node) (le-leb p.node l.node (omega (arith, le, nz)))
+            | inl za ↦ or_left p.on_air (nat_le p.node l.node) (az ∙ za)
+            | inr ze ↦ let le = b.nodes same (ze ∙ sym entry) in or_right p.on_air (nat_le p.node l.node) (le-leb p.node l.node (omega (arith, le, nz)))
           ]
     ]
 
@@ -411,7 +384,7 @@ keeps_node-last ls p l event i at e last =
     let all = last_lines (ls ++ l ∷ []) event last in
     let mine : is_shown l.told ≡ true = (All-contains Seen (ls ++ l ∷ []) l all (Contains-push ls l)).1 (sym e ∙ sym at) in
     elim (cases_Bool p.only_shown) [
-      | inl shown ↦ or-right (p.stamp.event == 0 || (not p.several && p.node == l.node)) (p.only_shown && is_shown l.told) (and_from p.only_shown (is_shown l.told) shown mine)
+      | inl shown ↦ or_right (p.stamp.event == 0 || (not p.several && p.node == l.node)) (p.only_shown && is_shown l.told) (and_from p.only_shown (is_shown l.told) shown mine)
       | inr other ↦
           let w = i.not_shown other in
           let yes_shown = (All-contains Seen (ls ++ l ∷ []) w.0 all (Contains-append_left ls (l ∷ []) w.0 w.1)).1 (w.2 ∙ sym at) in
@@ -420,8 +393,8 @@ keeps_node-last ls p l event i at e last =
 
 keeps_node-zero : (p : Place) (l : Line) → p.stamp.event ≡ 0 → keeps_node p l ≡ true
 keeps_node-zero p l z =
-    or-left (p.stamp.event == 0 || (not p.several && p.node == l.node)) (p.only_shown && is_shown l.told)
-    (or-left (p.stamp.event == 0) (not p.several && p.node == l.node) (eq-eqb p.stamp.event 0 z))
+    or_left (p.stamp.event == 0 || (not p.several && p.node == l.node)) (p.only_shown && is_shown l.told)
+    (or_left (p.stamp.event == 0) (not p.several && p.node == l.node) (eq-eqb p.stamp.event 0 z))
 
 one_of : (ls : List Line) (l a b : Line) → AreInOrder (ls ++ l ∷ []) → Contains (ls ++ l ∷ []) a → Contains (ls ++ l ∷ []) b
     → AreOfOneNode (line_marks (ls ++ l ∷ [])) (line_mark a) (line_mark b)
@@ -437,8 +410,8 @@ keeps_node-behind ls p l o i e =
     elim (one_of ls l i.last l o z_in here (sym ez ∙ e)) [
       | inl same ↦ elim (cases_Bool p.several) [
         | inr one ↦
-            or-left (p.stamp.event == 0 || (not p.several && p.node == l.node)) (p.only_shown && is_shown l.told)
-            (or-right (p.stamp.event == 0) (not p.several && p.node == l.node) (and_from (not p.several) (p.node == l.node) (ap not one) (eq-eqb p.node l.node (i.node ∙ same))))
+            or_left (p.stamp.event == 0 || (not p.several && p.node == l.node)) (p.only_shown && is_shown l.told)
+            (or_right (p.stamp.event == 0) (not p.several && p.node == l.node) (and_from (not p.several) (p.node == l.node) (ap not one) (eq-eqb p.node l.node (i.node ∙ same))))
         | inl two ↦
             let w = i.two two in
             elim (one_of ls l w.0 l o (Contains-append_left ls (l ∷ []) w.0 w.1) here (w.2 ∙ e)) [
@@ -457,7 +430,7 @@ keeps_node-behind ls p l o i e =
 
 event_over : (ls : List Line) (p : Place) (l : Line) → AreInOrder (ls ++ l ∷ []) → IsPlaceOf ls p → p.stamp.event < l.stamp.event → (p.stamp.event == 0 || not p.several) ≡ true
 event_over ls p l o i lt = elim (cases_Bool p.several) [
-  | inr one ↦ or-right (p.stamp.event == 0) (not p.several) (ap not one)
+  | inr one ↦ or_right (p.stamp.event == 0) (not p.several) (ap not one)
   | inl two ↦
       let w = i.two two in
       let ez = event_of ls p i in
@@ -465,7 +438,7 @@ event_over ls p l o i lt = elim (cases_Bool p.several) [
       elim (one_of ls l w.0 i.last o (Contains-append_left ls (l ∷ []) w.0 w.1) (Contains-append_left ls (l ∷ []) i.last i.has) (w.2 ∙ ez)) [
         | inl same ↦ absurd (w.3 (same ∙ sym i.node))
         | inr rest ↦ elim rest [
-          | inl zero_event ↦ or-left (p.stamp.event == 0) (not p.several) (eq-eqb p.stamp.event 0 (sym w.2 ∙ zero_event))
+          | inl zero_event ↦ or_left (p.stamp.event == 0) (not p.several) (eq-eqb p.stamp.event 0 (sym w.2 ∙ zero_event))
           | inr last ↦
               let Seen : Line → Type 0 = λ (m : Line). (m.stamp.event ≤ w.0.stamp.event) × (m.stamp.event ≡ w.0.stamp.event → IsTrue (is_shown m.told)) in
               let below = (All-contains Seen (ls ++ l ∷ []) l (last_lines (ls ++ l ∷ []) w.0.stamp.event last) (Contains-push ls l)).0 in

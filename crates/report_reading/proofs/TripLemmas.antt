@@ -102,7 +102,7 @@ written-lines d r t ranges short = record {
   text = lines-text d r t;
 }
 
-zip-sym : (xs ys : List Log) → AllZip IsSameLog xs ys → AllZip IsSameLog ys xs
+pub zip-sym : (xs ys : List Log) → AllZip IsSameLog xs ys → AllZip IsSameLog ys xs
 zip-sym [] [] z = tt
 zip-sym [] (y ∷ ys) z = absurd z
 zip-sym (x ∷ xs) [] z = absurd z

@@ -4,9 +4,8 @@ use Rattle.std.specs.Prelude.{fold, count_by, if◌then◌else◌, Option, None,
 use Rattle.std.proofs.lemmas.List.{take_more, take-append-drop, length-append, length-map}
 use Rattle.std.proofs.lemmas.Option.{same_Some}
 use Rattle.std.proofs.lemmas.List.Elements.{filter_map-append, All-head, All-tail}
-use Rattle.std.proofs.lemmas.List.Sums.{fold-append, sum_by-append, sum_by-cons, count_by-le-length, count_by_more_yes, count_by_more_no}
+use Rattle.std.proofs.lemmas.List.Sums.{fold-append, sum_by-append, sum_by-cons, count_by-le-length}
 use Rattle.mate_journal.specs.Log.{Log}
-use Rattle.mate_journal.specs.declared.air.Air.{Air}
 use Rattle.mate_journal.specs.declared.air.Aired.{Aired}
 use Rattle.mate_journal.specs.declared.entry.Entry.{Entry}
 use Rattle.mate_journal.specs.declared.entry.Entry.TheVariants as entry
@@ -21,7 +20,7 @@ use Rattle.report_summary.specs.declared.tally.Versions.{Versions}
 use Rattle.report_summary.specs.declared.tally.Installed.{Installed}
 use Rattle.report_summary.specs.declared.tally.LogTally.{LogTally}
 use Rattle.report_summary.specs.declared.tally.AirTally.{AirTally}
-use Rattle.report_summary.specs.Tally.{entries_counted, air_counted, versions_counted, versions_of, versions_none, versions_at, install_told, with_version, with_version_if, IsUpTo, IsAirTallyUpTo, IsLogTally, IsAirTally, AddsEntry, AddsAir}
+use Rattle.report_summary.specs.Tally.{entries_counted, versions_counted, versions_of, versions_none, versions_at, install_told, with_version, with_version_if, IsUpTo, IsAirTallyUpTo, IsLogTally, IsAirTally, AddsEntry, AddsAir}
 
 -- ---- one entry
 
@@ -55,15 +54,6 @@ count-push k es e =
     omega (arith, both, one)
 
 -- ---- one item more
-
-count-at : {A : Type 0} (p : A → Bool) (xs : List A) (i : ℕ) (x : A) → i < length xs → x ≡ get_or xs i x → (b : Bool) → p x ≡ b
-    → count_by p (take (i + 1) xs) ≡ count_by p (take i xs) + one_if (p x)
-count-at p xs i x h is true e = omega (arith, count_by_more_yes p xs i x h (ap p (sym is) ∙ e), ap one_if e)
-count-at p xs i x h is false e = omega (arith, count_by_more_no p xs i x h (ap p (sym is) ∙ e), ap one_if e)
-
-pub count-next : {A : Type 0} (p : A → Bool) (xs : List A) (i : ℕ) (x : A) → i < length xs → x ≡ get_or xs i x
-    → count_by p (take (i + 1) xs) ≡ count_by p (take i xs) + one_if (p x)
-count-next p xs i x h is = count-at p xs i x h is (p x) refl
 
 -- ---- one version
 

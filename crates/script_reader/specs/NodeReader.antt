@@ -1,5 +1,6 @@
 -- What the reader of a node script has read, and what a line adds to it.
 use Rattle.std.specs.Prelude.{◌≡◌, ℕ, ◌+◌, ◌<◌, ◌≤◌, List, length, slice_index, All, AllPairs, Option, Some, None, option_map}
+use Rattle.mate_num.specs.declared.bounds.TheConstants.{HANDLERS_MAX}
 use Rattle.script_reader.specs.declared.node.Reader.{Reader}
 use Rattle.script_reader.specs.declared.node.Said.{Said as Line}
 use Rattle.script_reader.specs.declared.steps.Step.{Step}
@@ -37,5 +38,5 @@ IsNoted newest _ = Unit {0}
 pub record KeepsProgress (d : Description) (p : Progress) : Type 0 where
   pub each : All (IsRightStep d (length p.script.files)) p.script.steps
   pub rising : AllPairs Rises p.script.steps
-  pub places : length p.newest ≡ 8
+  pub places : length p.newest ≡ HANDLERS_MAX
   pub noted : All (IsNoted p.newest) p.script.steps

@@ -2,6 +2,7 @@
 use Rattle.std.specs.Prelude.{ℕ, if◌then◌else◌, List, [], ◌∷◌, ◌++◌, length, codes, slice_index, slice_set, replicate, Option, Some, None}
 use Rattle.mate_num.specs.Results.{result_map}
 use Rattle.std.specs.Prelude.{Result, Ok, Err}
+use Rattle.mate_num.specs.declared.bounds.TheConstants.{HANDLERS_MAX}
 use Rattle.mate_num.specs.Lists.{lookup_or}
 use Rattle.vm_desc.specs.declared.description.Description.{Description}
 use Rattle.script_reader.specs.declared.fault.Cause.{Cause}
@@ -105,7 +106,7 @@ after_line d p words =
     else result_map (λ t. with_said p t.value) (a_line d p.newest (length p.script.files) words)
 
 abbrev pub nothing_yet : Progress
-nothing_yet = record { script = record { steps = []; files = [] }; newest = replicate 8 0 }
+nothing_yet = record { script = record { steps = []; files = [] }; newest = replicate HANDLERS_MAX 0 }
 
 -- the script in the bytes
 unfoldable pub node_script_in : Description → List ℕ → Result NodeScript ScriptFault

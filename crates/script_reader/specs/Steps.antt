@@ -1,5 +1,6 @@
 -- The steps of a node script, and which are right for a machine.
 use Rattle.std.specs.Prelude.{◌≡◌, ℕ, ◌<◌, ◌≤◌, ℤ, List, length, All, AllPairs}
+use Rattle.mate_num.specs.declared.bounds.TheConstants.{PAYLOAD_MAX}
 use Rattle.vm_desc.specs.declared.description.Description.{Description}
 use Rattle.vm_desc.specs.Whole.{context_count}
 use Rattle.script_reader.specs.declared.steps.Step.{Step}
@@ -19,7 +20,7 @@ pub record IsRightInstall (d : Description) (files : ℕ) (handler version progr
 
 pub record IsRightPost (d : Description) (handler : ℕ) (values : List ℤ) : Type 0 where
   pub handler_high : handler < length d.handlers.items
-  pub few : length values ≤ 10
+  pub few : length values ≤ PAYLOAD_MAX
 
 pub record IsRightTurn (d : Description) (context n : ℕ) : Type 0 where
   pub context_high : context < context_count d

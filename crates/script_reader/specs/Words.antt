@@ -6,6 +6,7 @@ use Rattle.std.specs.List.{list_all}
 use Rattle.std.specs.Char.{is_ascii_digit}
 use Rattle.std.specs.Str.{bytes_eq}
 use Rattle.std.specs.Str.Parse.{digits_value}
+use Rattle.mate_num.specs.declared.bounds.TheConstants.{PAYLOAD_MAX}
 use Rattle.arrayvec.specs.ArrayVec.{ArrayVec}
 use Rattle.mate_num.specs.Store.{payload}
 use Rattle.mate_num.specs.declared.id.HandlerId.{HandlerId}
@@ -102,7 +103,7 @@ values_from values (w ∷ words) = then_more (λ v. values_from (values ++ v ∷
 
 -- the values of the words that are left, but of no more than ten
 unfoldable pub a_payload : WordReading (ArrayVec ℤ)
-a_payload words = found (result_map payload (values_from [] (take 10 words))) (drop 10 words)
+a_payload words = found (result_map payload (values_from [] (take PAYLOAD_MAX words))) (drop PAYLOAD_MAX words)
 
 -- the handler with a name, among those from a number on
 abbrev pub handler_from : List ℕ → ℕ → List Handler → Result HandlerId Cause

@@ -2,10 +2,10 @@
 
 ghost use Rattle.std.specs.Prelude.{◌≡◌, slice_index, slice_set};
 
-use mate_num::HandlerId;
+use mate_num::{HANDLERS_MAX, HandlerId};
 
 /// The newest version of a handler, or 0 if it has none.
-pub fn newest_of(newest: &[u32; 8], handler: HandlerId) -> u32
+pub fn newest_of(newest: &[u32; HANDLERS_MAX], handler: HandlerId) -> u32
     ensures { result ≡ slice_index newest.now handler.0 }
 {
     match newest.get(handler.0 as usize) {
@@ -15,7 +15,7 @@ pub fn newest_of(newest: &[u32; 8], handler: HandlerId) -> u32
 }
 
 /// Records a version as the newest of a handler.
-pub fn note_newest(newest: &mut [u32; 8], handler: HandlerId, version: u32)
+pub fn note_newest(newest: &mut [u32; HANDLERS_MAX], handler: HandlerId, version: u32)
     ensures { newest.new ≡ slice_set newest.old handler.0 version }
 {
     let place = handler.0 as usize;

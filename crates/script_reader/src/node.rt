@@ -17,6 +17,7 @@ use crate::message::Message;
 use crate::newest::{newest_of, note_newest};
 use crate::steps::{Step, Steps};
 use crate::words::{Words, spells};
+use mate_num::HANDLERS_MAX;
 use std::alloc::Global;
 use vm_desc::Description;
 
@@ -31,7 +32,7 @@ pub fn node_script(alloc: Global, desc: &Description, bytes: &[u8]) -> Result<St
 {
     let mut reader = Reader {
         steps: Steps::new(alloc),
-        newest: [0; 8],
+        newest: [0; HANDLERS_MAX],
     };
     let mut lines = Lines::of(bytes);
     let mut number = 1;
@@ -47,7 +48,7 @@ pub fn node_script(alloc: Global, desc: &Description, bytes: &[u8]) -> Result<St
 struct Reader {
     steps: Steps,
     /// The newest version of each handler, 0 for none.
-    newest: [u32; 8],
+    newest: [u32; HANDLERS_MAX],
 }
 
 /// What one line says.
@@ -102,7 +103,7 @@ impl Reader {
 }
 
 // Records the version of an install.
-fn note_version(newest: &mut [u32; 8], step: &Step)
+fn note_version(newest: &mut [u32; HANDLERS_MAX], step: &Step)
     ensures { newest.new ≡ newest_after newest.old step.now }
 {
     if let Step::Install {
@@ -119,7 +120,7 @@ fn note_version(newest: &mut [u32; 8], step: &Step)
 #[tactic(auto, unfolding(crate::specs::NodeScript::a_line))]
 fn line_in<'a>(
     desc: &Description,
-    newest: &[u32; 8],
+    newest: &[u32; HANDLERS_MAX],
     files: u32,
     words: &mut Words<'a>,
 ) -> Result<Said<'a>, Cause>
@@ -140,7 +141,7 @@ fn line_in<'a>(
 #[tactic(auto, unfolding(crate::specs::NodeScript::behind))]
 fn behind<'a>(
     desc: &Description,
-    newest: &[u32; 8],
+    newest: &[u32; HANDLERS_MAX],
     files: u32,
     verb: &[u8],
     words: &mut Words<'a>,
@@ -194,7 +195,7 @@ fn alone<'a>(step: Step) -> Said<'a>
 #[tactic(auto, unfolding(crate::specs::NodeScript::an_install))]
 fn install_in<'a>(
     desc: &Description,
-    newest: &[u32; 8],
+    newest: &[u32; HANDLERS_MAX],
     files: u32,
     words: &mut Words<'a>,
 ) -> Result<Said<'a>, Cause>

@@ -7,13 +7,14 @@ ghost use Rattle.std.specs.List.{prefix_len, list_all, zip};
 ghost use Rattle.std.specs.Char.{is_ascii_digit, digit_value};
 ghost use Rattle.std.specs.Str.{bytes_eq};
 ghost use Rattle.std.specs.Str.Parse.{digits_value};
+ghost use Rattle.mate_num.specs.declared.bounds.TheConstants.{PAYLOAD_MAX};
 ghost use Rattle.vm_desc.specs.Whole.{context_count};
 ghost use Rattle.script_reader.specs.Lines.{is_blank, split_words, is_skipped};
 ghost use Rattle.script_reader.specs.Words.{ReadsWords, is_printable, printed, a_word, nothing_more, is_numeral, number_read, within, a_number};
 ghost use Rattle.script_reader.specs.Words.{value_read, a_value, a_payload, handler_of, a_handler, newer, a_version, a_context};
 
 use crate::fault::Cause;
-use mate_num::{ContextId, HandlerId, Payload};
+use mate_num::{ContextId, HandlerId, PAYLOAD_MAX, Payload};
 use std::marker::Model;
 use vm_desc::Description;
 
@@ -125,10 +126,10 @@ impl<'a> Words<'a> {
     /// The values of the next words: of all that are left, but of ten at most.
     pub fn payload(&mut self) -> Result<Payload, Cause>
         ensures value { ReadsWords (λ p. p) a_payload (split_words self.old) result (split_words self.new) }
-        ensures few { IfOk result (λ p. length p.items ≤ 10) }
+        ensures few { IfOk result (λ p. length p.items ≤ PAYLOAD_MAX) }
     {
         let mut values = Payload::new();
-        'values: while values.len() < 10 && !self.is_done() {
+        'values: while values.len() < PAYLOAD_MAX && !self.is_done() {
             let value = self.value()?;
             values.push(value);
         }

@@ -14,12 +14,9 @@ ghost use Rattle.sim_run.specs.Reporting.{ShowsOneStore, ShowStores, told_report
 
 use crate::simulation::Simulation;
 use journal_laws::{LogSize, log_is_in_range_from, report_is_in_range};
-use mate_journal::{NodeLogs, Report};
+use mate_journal::{ENTRIES_MAX, NodeLogs, Report};
 use mate_num::{NoMemory, Stamp};
 use sim_mote::Mote;
-
-/// How many entries a log has at most when a store is seen.
-const ENTRIES_MAX: usize = 4000000000;
 
 /// Forgets what each node recorded. `NoMemory` comes if a node's log has 3,999,999,999 entries or more.
 pub fn forget_all(motes: &mut Vec<Mote>) -> Result<(), NoMemory>

@@ -1,6 +1,7 @@
 -- The names of a script: what declarations make of them, and what a name means where it is used.
 use Rattle.std.specs.Prelude.{ℕ, ◌+◌, nat_lt, Bool, true, false, if◌then◌else◌, List, [], ◌∷◌, ◌++◌, Option, Some, None, is_none, ok_or}
 use Rattle.std.specs.Prelude.{position, count_by, Result, Ok, Err, bytes_eq, ⊤}
+use Rattle.mate_num.specs.declared.bounds.TheConstants.{PRIVATES}
 use Rattle.mate_num.specs.declared.id.FunId.{FunId}
 use Rattle.mate_num.specs.declared.id.BufId.{BufId}
 use Rattle.vm_desc.specs.declared.description.Description.{Description}
@@ -50,7 +51,7 @@ listed names name = ok_or (position (bytes_eq name) names) (NotInVm name)
 abbrev pub made : ScriptNames → DeclKind → List ℕ → Result Symbol CheckFault
 made n of.Shared name = listed n.machine.shared.items name >>= (λ i. Ok (Variable (var.Shared (record { 0 = i }))))
 made n of.Private name =
-    unless_refused (nat_lt (private_count n.declared) 8) TooManyPrivates >>= (λ _. Ok (Variable (var.Private (private_count n.declared))))
+    unless_refused (nat_lt (private_count n.declared) PRIVATES) TooManyPrivates >>= (λ _. Ok (Variable (var.Private (private_count n.declared))))
 made n of.Buffer name = listed n.machine.buffers.items name >>= (λ i. Ok (Buffer (record { 0 = i })))
 
 -- the names with one more

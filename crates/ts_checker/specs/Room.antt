@@ -1,6 +1,7 @@
 -- What keeps the declared names few.
 use Rattle.std.specs.Prelude.{◌≤◌, ℕ, Bool, true, List, map, bytes_eq, IsTrue}
 use Rattle.std.specs.List.{IsDistinct, list_all}
+use Rattle.mate_num.specs.declared.bounds.TheConstants.{PRIVATES}
 use Rattle.vm_desc.specs.Names.{stands_in}
 use Rattle.vm_desc.specs.declared.description.Description.{Description}
 use Rattle.ts_checked.specs.declared.checked_stmt.CVar.TheVariants.{Shared, Private}
@@ -19,4 +20,4 @@ is_listed d (Buffer p) name = stands_in d.buffers.items name
 pub record IsFit (d : Description) (names : List Entry) : Type 0 where
   pub distinct : IsDistinct bytes_eq (map (λ x. x.name) names)
   pub listed : IsTrue (list_all (λ x. is_listed d x.symbol x.name) names)
-  pub privates : private_count names ≤ 8
+  pub privates : private_count names ≤ PRIVATES

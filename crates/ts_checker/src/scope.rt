@@ -148,7 +148,7 @@ impl<'a> Scope<'a> {
             }
             DeclKind::Private => {
                 let number = self.privates();
-                if number >= 8 {
+                if number >= PRIVATES {
                     return Err(CheckFault::TooManyPrivates);
                 }
                 Ok(Symbol::Variable(CVar::Private(number as u8)))

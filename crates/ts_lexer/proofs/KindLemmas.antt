@@ -1,7 +1,10 @@
 -- The kinds of tokens that texts are cut into.
 use Rattle.std.proofs.Common.{◌≡◌, ℕ, ◌+◌, ◌<◌, ◌≤◌, Bool, true, false, ◌==◌, nat_lt, if◌then◌else◌, ◌⊎◌, inl, inr, List, [], ◌∷◌, ◌++◌, length, Option, Some, Result, Ok, Err, refl, sym, ◌∙◌, subst, length-append, arith}
 use Rattle.std.specs.Str.{bytes_eq}
+use Rattle.std.proofs.lemmas.List.{map-append}
 use Rattle.std.proofs.lemmas.Bool.{false≢true, cond_both, or_left, ltb-true, ltb-false}
+use Rattle.mate_num.specs.Lists.{Each}
+use Rattle.mate_num.proofs.ListLemmas.{each-append}
 use Rattle.ts_syntax.specs.declared.token.Token.{Token}
 use Rattle.ts_syntax.specs.declared.token.TokenKind.{TokenKind}
 use Rattle.ts_syntax.specs.declared.token.TokenKind.TheVariants as kind
@@ -34,42 +37,38 @@ IsResult (Err f) = Unit {0}
 -- words
 
 -- a sign or a keyword
-abbrev IsPlain : TokenKind → Type 0
-IsPlain (kind.Name w) = ⊥
-IsPlain (kind.Num n) = ⊥
-IsPlain kind.Proc = ⊥
-IsPlain kind.Do = ⊥
-IsPlain _ = Unit {0}
+abbrev IsFixed : TokenKind → Type 0
+IsFixed (kind.Name w) = ⊥
+IsFixed (kind.Num n) = ⊥
+IsFixed kind.Proc = ⊥
+IsFixed kind.Do = ⊥
+IsFixed _ = Unit {0}
 
-abbrev ArePlain : List TokenKind → Type 0
-ArePlain [] = Unit {0}
-ArePlain (k ∷ ks) = IsPlain k × ArePlain ks
+fixed-IsKind : (k : TokenKind) → IsFixed k → IsKind k
+fixed-IsKind (kind.Name w) p = absurd p
+fixed-IsKind (kind.Num n) p = absurd p
+fixed-IsKind kind.Proc p = absurd p
+fixed-IsKind kind.Do p = absurd p
+fixed-IsKind _ p = tt
 
-plain-IsKind : (k : TokenKind) → IsPlain k → IsKind k
-plain-IsKind (kind.Name w) p = absurd p
-plain-IsKind (kind.Num n) p = absurd p
-plain-IsKind kind.Proc p = absurd p
-plain-IsKind kind.Do p = absurd p
-plain-IsKind _ p = tt
-
-among_cases : (ks : List TokenKind) → ArePlain ks → (w : List ℕ) → IsPlain (keyword_among ks w) ⊎ (keyword_among ks w ≡ kind.Name w)
+among_cases : (ks : List TokenKind) → Each IsFixed ks → (w : List ℕ) → IsFixed (keyword_among ks w) ⊎ (keyword_among ks w ≡ kind.Name w)
 among_cases [] p w = inr refl
 among_cases (k ∷ ks) p w = picked (bytes_eq w (token_text k)) (among_cases ks p.1 w)
   where
-    picked : (b : Bool) → IsPlain (keyword_among ks w) ⊎ (keyword_among ks w ≡ kind.Name w)
-        → IsPlain (if b then k else keyword_among ks w) ⊎ ((if b then k else keyword_among ks w) ≡ kind.Name w)
+    picked : (b : Bool) → IsFixed (keyword_among ks w) ⊎ (keyword_among ks w ≡ kind.Name w)
+        → IsFixed (if b then k else keyword_among ks w) ⊎ ((if b then k else keyword_among ks w) ≡ kind.Name w)
     picked true rest = inl p.0
     picked false rest = rest
 
-keywords_plain : ArePlain keywords
-keywords_plain = (tt, (tt, (tt, (tt, (tt, (tt, (tt, (tt, (tt, (tt, (tt, (tt, (tt, (tt, (tt, (tt, (tt, (tt, tt))))))))))))))))))
+keywords_fixed : Each IsFixed keywords
+keywords_fixed = (tt, (tt, (tt, (tt, (tt, (tt, (tt, (tt, (tt, (tt, (tt, (tt, (tt, (tt, (tt, (tt, (tt, (tt, tt))))))))))))))))))
 
 word_kind-IsKind : (w : List ℕ) → IsWord w → IsKind (word_kind w)
 unfolding word_kind
-word_kind-IsKind w h = by (keyword_among keywords w) refl (among_cases keywords keywords_plain w)
+word_kind-IsKind w h = by (keyword_among keywords w) refl (among_cases keywords keywords_fixed w)
   where
-    by : (k : TokenKind) → keyword_among keywords w ≡ k → IsPlain k ⊎ (k ≡ kind.Name w) → IsKind k
-    by k e (inl p) = plain-IsKind k p
+    by : (k : TokenKind) → keyword_among keywords w ≡ k → IsFixed k ⊎ (k ≡ kind.Name w) → IsKind k
+    by k e (inl p) = fixed-IsKind k p
     by k e (inr q) = subst IsKind (sym q) (record { fits = h; named = e ∙ q })
 
 -- one byte
@@ -123,8 +122,7 @@ turn-IsTurn i (greater from) b h =
 -- texts
 
 AreKinds-append : (ts us : List Token) → AreKinds (kinds ts) → AreKinds (kinds us) → AreKinds (kinds (ts ++ us))
-AreKinds-append [] us p q = q
-AreKinds-append (t ∷ ts) us p q = (p.0, AreKinds-append ts us p.1 q)
+AreKinds-append ts us p q = subst AreKinds (sym (map-append (λ t. t.kind) ts us)) (each-append IsKind (kinds ts) (kinds us) p q)
 
 turned-IsResult : (rest : Mode → Result (List Token) CutFault) → ((m : Mode) → IsMode m → IsResult (rest m)) → (u : CutStep) → IsTurn u → IsResult (turned rest u)
 turned-IsResult rest each (stop f) h = tt

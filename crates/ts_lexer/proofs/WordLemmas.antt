@@ -1,11 +1,12 @@
 -- Names and keywords as texts.
 use Rattle.std.proofs.Common.{◌≡◌, ℕ, ◌<◌, Bool, cond, length, ap, true, false, ◌&&◌, ◌||◌, ◌==◌, nat_le, inl, inr, Option, Some, None, List, [], ◌∷◌, refl, sym, ◌∙◌, arith}
-use Rattle.std.specs.List.{find, AllByRecursion}
+use Rattle.std.specs.List.{find}
 use Rattle.std.specs.Str.{IsUtf8, IsAscii, bytes_eq}
 use Rattle.std.proofs.lemmas.Bool.{or_cases, and_parts, leb-true, eqb-true, eqb-false, cond-false, cond_both, false_from_ne_true}
 use Rattle.std.proofs.lemmas.Str.{IsUtf8-from_ascii}
 use Rattle.std.proofs.lemmas.Str.Ascii.{IsAscii-nil, IsAscii-cons}
 use Rattle.std.proofs.lemmas.Slice.Eq.{bytes_eq-Decides}
+use Rattle.mate_num.specs.Lists.{Each}
 use Rattle.ts_syntax.specs.declared.token.TokenKind.{TokenKind}
 use Rattle.ts_syntax.specs.declared.token.TokenKind.TheVariants as kind
 use Rattle.ts_syntax.specs.declared.dialect.Dialect.{Dialect}
@@ -36,17 +37,16 @@ passes-IsUtf8 bs p = IsUtf8-from_ascii bs (passes-IsAscii bs p)
 
 -- none of the keywords reads so
 abbrev pub NoneReads : List TokenKind → List ℕ → Type 0
-NoneReads [] w = Unit {0}
-NoneReads (k ∷ ks) w = (bytes_eq w (token_text k) ≡ false) × NoneReads ks w
+NoneReads ks w = Each (λ k. bytes_eq w (token_text k) ≡ false) ks
 
 pub among_none : (ks : List TokenKind) (w : List ℕ) → NoneReads ks w → keyword_among ks w ≡ kind.Name w
 among_none [] w h = refl
 among_none (k ∷ ks) w h = cond-false (bytes_eq w (token_text k)) _ _ h.0 ∙ among_none ks w h.1
 
 -- what holds of each sign, and where there is none, holds of the sign that a byte is
-pub sign-is : (P : Option TokenKind → Type 0) (b : ℕ) → AllByRecursion (λ k. P (Some k)) signs → P None → P (sign_of b)
+pub sign-is : (P : Option TokenKind → Type 0) (b : ℕ) → Each (λ k. P (Some k)) signs → P None → P (sign_of b)
 sign-is P b each none = by signs each where
-  by : (ks : List TokenKind) → AllByRecursion (λ k. P (Some k)) ks → P (find (λ k. bytes_eq (b ∷ []) (token_text k)) ks)
+  by : (ks : List TokenKind) → Each (λ k. P (Some k)) ks → P (find (λ k. bytes_eq (b ∷ []) (token_text k)) ks)
   by [] all = none
   by (k ∷ ks) all = cond_both (bytes_eq (b ∷ []) (token_text k)) _ _ P (λ _. all.0) (λ _. by ks all.1)
 

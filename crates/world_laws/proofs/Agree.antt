@@ -1,103 +1,59 @@
 -- The journal and the exchange agree on what is held.
 use Rattle.std.proofs.Common.{◌≡◌, ◌≢◌, ◌+◌, ℕ, true, false, List, [], ◌∷◌, ◌++◌, Option, Some, None, refl, sym, ◌∙◌, ap, subst, inl, inr}
-use Rattle.std.specs.Prelude.{slice_get, ◌==◌, if◌then◌else◌, All, ℤ}
+use Rattle.std.specs.Prelude.{slice_get, ◌==◌, if◌then◌else◌, ℤ}
 use Rattle.std.specs.Option.{option_map_or}
-use Rattle.std.proofs.lemmas.List.Elements.{All-head, All-tail}
-use Rattle.std.proofs.lemmas.Bool.{cases_Bool, cases_lt, MatchBool-at_true, MatchBool-at_false}
 use Rattle.std.proofs.lemmas.Bool.Decides.{eqb_tells}
 use Rattle.arrayvec.specs.ArrayVec.{ArrayVec}
 use Rattle.mate_num.specs.declared.id.HandlerId.{HandlerId}
+use Rattle.mate_num.proofs.ListLemmas.{each-append}
 use Rattle.mate_journal.specs.Machine.{Machine, HeldProgram}
-use Rattle.mate_journal.specs.Journal.{JournalEntry, Posted, Dropped, Started, Asked, Answered, Ended, Installed, Reset, Seen, Void, NodeState, next_state, state_after_entries, held, whole_run}
-use Rattle.mate_num.specs.declared.call.End.{End}
-use Rattle.mate_num.specs.declared.call.End.TheVariants as end
-use Rattle.mate_journal.specs.Grants.{IsStart}
+use Rattle.mate_journal.specs.Journal.{JournalEntry, Installed, Seen, NodeState, next_state, state_after_entries, held}
 use Rattle.mate_journal.specs.Pace.{Pace, paced_all}
-use Rattle.mate_journal.specs.NodeScript.{Occasion}
-use Rattle.mate_journal.specs.Turns.{Turn, IsTurn, AreTurns, Settles, entry_at, mark_of, after_turn, told_in}
+use Rattle.mate_journal.specs.Turns.{Settles}
+use Rattle.mate_journal.proofs.JournalLemmas.{heard_told-append}
+use Rattle.journal_laws.proofs.Settling.{settles-of_turns}
+use Rattle.journal_laws.proofs.Plain.{IsPlain, ArePlain, turns-plain, occasion-plain, installs-plain, NoneInstall, plains-none, same-installed}
 use Rattle.packet_codec.specs.declared.packet.Packet.{Packet}
-use Rattle.packet_codec.specs.declared.packet.Packet.TheVariants.{Vector, Status, Fragment, App}
+use Rattle.packet_codec.specs.declared.packet.Packet.TheVariants.{Fragment}
 use Rattle.trickle_timer.specs.Intervals as trickle
 use Rattle.trickle_timer.specs.declared.timer.Fire.{Fire}
 use Rattle.trickle_timer.specs.declared.timer.Fire.TheVariants as fire
 use Rattle.capsule_exchange.specs.Happenings.{Happening, held_version, completed_by, next_slot}
 use Rattle.world_rules.specs.Cause.{Cause}
 use Rattle.world_rules.specs.Cause as event
-use Rattle.world_rules.specs.World.{World, PlannedLine, Want, Inject, Post, Show, ResetNode, Noise, handlers}
+use Rattle.world_rules.specs.World.{World, PlannedLine, Want, Inject, handlers}
 use Rattle.world_rules.specs.Effect.{Node, NodeEffect, Deed, Nothing, Installing, Posting, Answering, Showing, Resetting, no_effect, node_effect, of_line, of_packet, of_fragment, of_point, of_slot, event_node}
 use Rattle.world_rules.specs.State.{node_at, effect_at, state}
 use Rattle.world_rules.specs.Run.{FirstThen, Occasions, DeedMakes}
 use Rattle.world_laws.specs.Held.{HeldAgrees}
 use Rattle.world_laws.proofs.Points.{nodes-here, nodes-other}
 
--- ---- entries that install nothing
+-- ---- what an event installs
 
-abbrev pub NoInstall : JournalEntry → Type 0
-NoInstall (Installed p) = ⊥
-NoInstall _ = Unit {0}
-
-abbrev pub NoneInstall : List JournalEntry → Type 0
-NoneInstall [] = Unit {0}
-NoneInstall (t ∷ told) = NoInstall t × NoneInstall told
-
-none-append : (xs ys : List JournalEntry) → NoneInstall xs → NoneInstall ys → NoneInstall (xs ++ ys)
-none-append [] ys a b = b
-none-append (x ∷ xs) ys a b = (a.0, none-append xs ys a.1 b)
-
-same-one : (m : Machine) (r : NodeState) (t : JournalEntry) → NoInstall t → (next_state m r t).installed ≡ r.installed
-same-one m r (Installed p) a = absurd a
-same-one m r _ a = refl
-
-same-all : (m : Machine) (r : NodeState) (told : List JournalEntry) → NoneInstall told → (state_after_entries m r told).installed ≡ r.installed
-same-all m r [] a = refl
-same-all m r (t ∷ told) a = same-all m (next_state m r t) told a.1 ∙ same-one m r t a.0
-
-start-none : (t : JournalEntry) → IsStart t → NoInstall t
-start-none (Installed p) a = a
-start-none _ a = tt
-
-starts-none : (told : List JournalEntry) → All IsStart told → NoneInstall told
-starts-none [] all = tt
-starts-none (t ∷ told) all = (start-none t (All-head IsStart t told all), starts-none told (All-tail IsStart t told all))
-
-pub by_made : (xs ys : List JournalEntry) → xs ≡ ys → NoneInstall ys → NoneInstall xs
-by_made xs ys is none = subst NoneInstall (sym is) none
-
-mark-none : (n : ℕ) (e : End) → NoInstall (entry_at n e)
-mark-none n end.Halt = tt
-mark-none n _ = tt
-
-turn-none : (m : Machine) (r : NodeState) (p : Pace) (n : ℕ) (t : Turn) → IsTurn m r p n t → NoneInstall t.told
-turn-none m r p n t is = elim (cases_lt (p.counts t.invocation + n) (mark_of m r t.invocation)) [
-  | inl low ↦ by_made t.told [] (is.short low) tt
-  | inr high ↦ by_made t.told (entry_at t.invocation (whole_run m r t.invocation).end ∷ (is.reached high).starts) (is.reached high).told_is
-      (mark-none t.invocation (whole_run m r t.invocation).end, starts-none (is.reached high).starts (is.reached high).are_starts)
-]
-
-turns-none : (m : Machine) (r : NodeState) (p : Pace) (ts : List Turn) → AreTurns m r p ts → NoneInstall (told_in ts)
-turns-none m r p [] are = tt
-turns-none m r p (t ∷ ts) are =
-    none-append t.told (told_in ts) (turn-none m r p m.quantum t are.1) (turns-none m (state_after_entries m r t.told) (after_turn m r p t) ts are.2)
+pub occasions-plain : (m : Machine) (payload : ArrayVec ℤ) (hs : List HandlerId) (r : NodeState) (p : Pace) (told : List JournalEntry) → Occasions m payload hs r p told → ArePlain told
+occasions-plain m payload [] r p told is = subst ArePlain (sym is) tt
+occasions-plain m payload (h ∷ hs) r p told both = subst ArePlain (sym both.made)
+    (each-append IsPlain both.front both.rest (occasion-plain m r h payload both.front both.by_first) (occasions-plain m payload hs (state_after_entries m r both.front) (paced_all p both.front) both.rest both.by_second))
 
 pub settles-none : (m : Machine) (r : NodeState) (p : Pace) (told : List JournalEntry) (q : Pace) → Settles m r p told q → NoneInstall told
-settles-none m r p told q is = by_made told (told_in is.turns) is.made (turns-none m r p is.turns is.are_turns)
-
-occasion-none : (m : Machine) (r : NodeState) (h : HandlerId) (payload : ArrayVec ℤ) (told : List JournalEntry) → Occasion m r h payload told → NoneInstall told
-occasion-none m r h payload told (inl a) = by_made told _ a.made (tt, tt)
-occasion-none m r h payload told (inr (inl a)) = by_made told _ a.made (tt, tt)
-occasion-none m r h payload told (inr (inr a)) = by_made told _ a.made (tt, starts-none a.starts a.are_starts)
-
-pub occasions-none : (m : Machine) (payload : ArrayVec ℤ) (hs : List HandlerId) (r : NodeState) (p : Pace) (told : List JournalEntry) → Occasions m payload hs r p told → NoneInstall told
-occasions-none m payload [] r p told is = by_made told [] is tt
-occasions-none m payload (h ∷ hs) r p told both =
-    by_made told (both.front ++ both.rest) both.made (none-append both.front both.rest (occasion-none m r h payload both.front both.by_first) (occasions-none m payload hs (state_after_entries m r both.front) (paced_all p both.front) both.rest both.by_second))
+settles-none m r p told q is = plains-none told (turns-plain told (settles-of_turns m r p told q is))
 
 -- behind its entry an install makes an occasion at most
 pub installs-rest : (m : Machine) (r : NodeState) (q : Pace) (p : HeldProgram) (told : List JournalEntry) → (is : DeedMakes m (Installing p) r q told) → NoneInstall is.rest
-installs-rest m r q p told is = elim (cases_Bool (m.runs_once p.handler)) [
-  | inl once ↦ occasion-none m (next_state m r (Installed p)) p.handler (record { items = [] }) is.rest (MatchBool-at_true _ _ once is.follows)
-  | inr never ↦ by_made is.rest [] (MatchBool-at_false _ _ never is.follows) tt
-]
+installs-rest m r q p told is = plains-none is.rest (installs-plain m r q p told is)
+
+-- what a deed but an install makes installs nothing
+abbrev MakesNone : Deed → List JournalEntry → Type 0
+MakesNone (Installing p) told = Unit {0}
+MakesNone _ told = NoneInstall told
+
+pub deed-none : (m : Machine) (r : NodeState) (q : Pace) (d : Deed) (told : List JournalEntry) → DeedMakes m d r q told → MakesNone d told
+deed-none m r q Nothing told is = subst NoneInstall (sym is) tt
+deed-none m r q (Posting hs payload) told is = plains-none told (occasions-plain m payload hs r q told is)
+deed-none m r q (Answering inv value) told is = subst NoneInstall (sym is) (tt, tt)
+deed-none m r q Showing told is = subst NoneInstall (sym is.made) (tt, tt)
+deed-none m r q Resetting told is = subst NoneInstall (sym is.made) (tt, (tt, tt))
+deed-none m r q (Installing p) told is = tt
 
 -- what a deed's entries and its node's settling do to what is installed
 abbrev After : Deed → (HandlerId → Option HeldProgram) → HandlerId → Option HeldProgram
@@ -105,23 +61,16 @@ After (Installing p) f h = if h.0 == p.handler.0 then Some p else f h
 After _ f h = f h
 
 deed-after : (m : Machine) (r : NodeState) (q : Pace) (d : Deed) (told : List JournalEntry) (h : HandlerId) → DeedMakes m d r q told → (state_after_entries m r told).installed h ≡ After d r.installed h
-deed-after m r q Nothing told h is = ap (λ (f : HandlerId → Option HeldProgram). f h) (same-all m r told (by_made told [] is tt))
-deed-after m r q (Posting hs payload) told h is = ap (λ (f : HandlerId → Option HeldProgram). f h) (same-all m r told (occasions-none m payload hs r q told is))
-deed-after m r q (Answering inv value) told h is = ap (λ (f : HandlerId → Option HeldProgram). f h) (same-all m r told (by_made told _ is (tt, tt)))
-deed-after m r q Showing told h is = ap (λ (f : HandlerId → Option HeldProgram). f h) (same-all m r told (by_made told _ is.made (tt, tt)))
-deed-after m r q Resetting told h is = ap (λ (f : HandlerId → Option HeldProgram). f h) (same-all m r told (by_made told _ is.made (tt, (tt, tt))))
 deed-after m r q (Installing p) told h is = subst (λ (xs : List JournalEntry). (state_after_entries m r xs).installed h ≡ (if h.0 == p.handler.0 then Some p else r.installed h)) (sym is.made)
-    (ap (λ (f : HandlerId → Option HeldProgram). f h) (same-all m (next_state m (next_state m r (Seen is.seen)) (Installed p)) is.rest (installs-rest m r q p told is)))
+    (ap (λ (f : HandlerId → Option HeldProgram). f h) (same-installed m (next_state m (next_state m r (Seen is.seen)) (Installed p)) is.rest (installs-rest m r q p told is)))
+deed-after m r q d told h is = ap (λ (f : HandlerId → Option HeldProgram). f h) (same-installed m r told (deed-none m r q d told is))
 
 event-after : (m : Machine) (r : NodeState) (q : Pace) (d : Deed) (told : List JournalEntry) (after : Pace) (h : HandlerId) → FirstThen m (DeedMakes m d) (λ s p xs. Settles m s p xs after) r q told → (state_after_entries m r told).installed h ≡ After d r.installed h
 event-after m r q d told after h both =
     subst (λ (xs : List JournalEntry). (state_after_entries m r xs).installed h ≡ After d r.installed h) (sym both.made)
-    (ap (λ (s : NodeState). s.installed h) (hear-parts m r both.front both.rest)
-    ∙ ap (λ (f : HandlerId → Option HeldProgram). f h) (same-all m (state_after_entries m r both.front) both.rest (settles-none m (state_after_entries m r both.front) (paced_all q both.front) both.rest after both.by_second))
-    ∙ deed-after m r q d both.front h both.by_first) where
-      hear-parts : (m : Machine) (r : NodeState) (xs ys : List JournalEntry) → state_after_entries m r (xs ++ ys) ≡ state_after_entries m (state_after_entries m r xs) ys
-      hear-parts m r [] ys = refl
-      hear-parts m r (x ∷ xs) ys = hear-parts m (next_state m r x) xs ys
+    (ap (λ (s : NodeState). s.installed h) (heard_told-append m r both.front both.rest)
+    ∙ ap (λ (f : HandlerId → Option HeldProgram). f h) (same-installed m (state_after_entries m r both.front) both.rest (settles-none m (state_after_entries m r both.front) (paced_all q both.front) both.rest after both.by_second))
+    ∙ deed-after m r q d both.front h both.by_first)
 
 -- ---- what a deed does to the exchange's version
 

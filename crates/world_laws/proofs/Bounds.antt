@@ -1,10 +1,10 @@
 -- Events are numbered by how many came.
-use Rattle.std.proofs.Common.{◌≡◌, ℕ, zero, suc, ◌+◌, ◌<◌, ◌≤◌, Bool, true, false, List, [], ◌∷◌, ◌++◌, length, map, get_or, drop, take, refl, sym, ◌∙◌, ap, subst, arith}
+use Rattle.std.proofs.Common.{◌≡◌, ℕ, zero, suc, ◌+◌, ◌≤◌, Bool, true, false, List, [], ◌∷◌, ◌++◌, length, map, get_or, drop, take, refl, sym, ◌∙◌, ap, arith}
 use Rattle.std.specs.Prelude.{All, ◌==◌, if◌then◌else◌}
 use Rattle.std.specs.List.{range_with_len}
 use Rattle.std.proofs.lemmas.List.Elements.{All-nil, All-cons, All-append, All-weaker, All-map, All-same}
 use Rattle.std.proofs.Math.Seq.{drop-append_seam, take-append_seam}
-use Rattle.std.proofs.lemmas.List.{length-map}
+use Rattle.std.proofs.lemmas.List.{drop-map, length-map}
 use Rattle.mate_num.specs.declared.call.Stamp.{Stamp}
 use Rattle.mate_journal.specs.Log.{Log}
 use Rattle.mate_journal.specs.Journal.{JournalEntry, journal_entry, journal_of}
@@ -82,18 +82,13 @@ pub entries-of : (P : ℕ → Type 0) (l : Log) → All (λ (e : Entered). P e.s
 entries-of P l all =
     All-of_map (λ (e : Entered). P e.stamp.event) (λ (s : Stamped). let x : Entered = record { stamp = s.stamp; told = journal_entry l s.entry } in x) l.entries all
 
-map-drop : {A B : Type 0} (f : A → B) (n : ℕ) (xs : List A) → drop n (map f xs) ≡ map f (drop n xs)
-map-drop f zero xs = refl
-map-drop f (suc n) [] = refl
-map-drop f (suc n) (x ∷ xs) = map-drop f n xs
-
 -- the entries behind those that were told before
 pub entries-new : (P : ℕ → Type 0) (old new : Log) (more : List Entered) → journal_of new ≡ journal_of old ++ more → All (λ (e : Entered). P e.stamp.event) more
     → All (λ (e : Stamped). P e.stamp.event) (drop (length old.entries) new.entries)
 entries-new P old new more is all =
     let long : length (journal_of old) ≡ length old.entries = length-map old.entries (λ (s : Stamped). let x : Entered = record { stamp = s.stamp; told = journal_entry old s.entry } in x) in
     let same : map (event_of new) (drop (length old.entries) new.entries) ≡ more =
-    sym (map-drop (event_of new) (length old.entries) new.entries) ∙ ap (λ (es : List Entered). drop (length old.entries) es) is
+    sym (drop-map (event_of new) (length old.entries) new.entries) ∙ ap (λ (es : List Entered). drop (length old.entries) es) is
     ∙ ap (λ (k : ℕ). drop k (journal_of old ++ more)) (sym long) ∙ drop-append_seam (journal_of old) more in
     All-of_map (λ (e : Entered). P e.stamp.event) (event_of new) (drop (length old.entries) new.entries)
     (All-same (λ (e : Entered). P e.stamp.event) (map (event_of new) (drop (length old.entries) new.entries)) more same all)

@@ -18,7 +18,8 @@ use Rattle.capsule_exchange.specs.Steps.{takes}
 use Rattle.capsule_exchange.proofs.CollectLemmas.{is_newer, target_next, parts_newer, parts_same, form_in, joins_parts, collected_push}
 use Rattle.capsule_exchange.proofs.LawLemmas.{gap_asked}
 use Rattle.world_laws.specs.Newest.{Version}
-use Rattle.mate_num.specs.Lists.{Among}
+use Rattle.mate_num.specs.Lists.{Each, Among}
+use Rattle.mate_num.proofs.ListLemmas.{each-among}
 
 -- a packet that tells of nothing newer, and of the version only fragments of its image
 abbrev pub IsTame : Version → Packet → Type 0
@@ -29,12 +30,7 @@ IsTame v (Fragment g version index count large bytes) =
 IsTame v (App payload) = Unit {0}
 
 abbrev pub AreTame : Version → List Packet → Type 0
-AreTame v [] = Unit {0}
-AreTame v (p ∷ ps) = IsTame v p × AreTame v ps
-
-pub tame-push : (v : Version) (ps : List Packet) (p : Packet) → AreTame v ps → IsTame v p → AreTame v (ps ++ p ∷ [])
-tame-push v [] p all one = (one, tt)
-tame-push v (q ∷ ps) p all one = (all.0, tame-push v ps p all.1 one)
+AreTame v = Each (IsTame v)
 
 pub version-tame : (v : Version) (p : Packet) → IsTame v p → version_in v.handler p ≤ v.version
 version-tame v (Vector versions) tame = tame
@@ -52,13 +48,8 @@ greatest-most limit most h (p ∷ ps) each = by (ltb limit (version_in h p)) (ea
   by true one all = omega (arith, one, all)
   by false one all = all
 
-each-tame : (v : Version) (ps : List Packet) (p : Packet) → AreTame v ps → Among p ps → IsTame v p
-each-tame v [] p all among = absurd among
-each-tame v (q ∷ ps) p all (inl e) = subst (λ (x : Packet). IsTame v x) e all.0
-each-tame v (q ∷ ps) p all (inr a) = each-tame v ps p all.1 a
-
 pub target-most : (v : Version) (hs : List Happening) → AreTame v (heard_since v.handler hs) → target_version v.handler hs ≤ v.version
-target-most v hs all = greatest-most (held_version v.handler hs) v.version v.handler (heard_since v.handler hs) (λ p a. version-tame v p (each-tame v (heard_since v.handler hs) p all a))
+target-most v hs all = greatest-most (held_version v.handler hs) v.version v.handler (heard_since v.handler hs) (λ p a. version-tame v p (each-among (IsTame v) (heard_since v.handler hs) p all a))
 
 -- ---- the parts of the version
 
@@ -66,8 +57,7 @@ abbrev pub IsAlike : Version → TargetFragment → Type 0
 IsAlike v part = (part.count ≡ count_of v.image) × (part.large ≡ nat_lt 528 (length v.image))
 
 abbrev pub AreAlike : Version → List TargetFragment → Type 0
-AreAlike v [] = Unit {0}
-AreAlike v (part ∷ parts) = IsAlike v part × AreAlike v parts
+AreAlike v = Each (IsAlike v)
 
 part-alike : (v : Version) (p : Packet) → IsTame v p → AreAlike v (cons_option (part_in v.handler v.version p) [])
 part-alike v (Fragment g version index count large bytes) tame = by ((g.0 == v.handler) && (version == v.version)) refl where

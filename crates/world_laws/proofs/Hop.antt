@@ -10,7 +10,7 @@ use Rattle.arrayvec.specs.ArrayVec.{ArrayVec}
 use Rattle.capsule_codec.specs.Fragments.{count_of, piece_at}
 use Rattle.mate_journal.specs.Machine.{HeldProgram}
 use Rattle.packet_codec.specs.declared.packet.Packet.{Packet}
-use Rattle.packet_codec.specs.declared.packet.Packet.TheVariants.{Vector, Status, Fragment, App}
+use Rattle.packet_codec.specs.declared.packet.Packet.TheVariants.{Vector, Status, Fragment}
 use Rattle.capsule_exchange.specs.Happenings.{Happening, Hears, Installs, held_version, held_image, heard_since, target_version, target_parts, collected_at, places_of, gaps, mask_of, collected_image, complete_version, completed_by, asks_after, ask_for, asks_of, is_marked, is_marked_slot, fragment_for}
 use Rattle.capsule_exchange.proofs.CollectLemmas.{target_over}
 use Rattle.world_rules.specs.Cause.{Cause}
@@ -24,13 +24,13 @@ use Rattle.world_laws.specs.Hops.{HasLink}
 use Rattle.world_laws.specs.Newest.{Version, IsWorldVersion, IsNewest}
 use Rattle.world_laws.specs.Spread.{IsQuiet, AreQuiet}
 use Rattle.mate_num.specs.Lists.{Among}
-use Rattle.mate_num.proofs.ListLemmas.{among-left, among-right, among-filter, none-among}
+use Rattle.mate_num.proofs.ListLemmas.{each-push, each_over-behind, among-left, among-right, among-filter, none-among}
 use Rattle.world_laws.specs.Causes.{HasEvent}
 use Rattle.world_laws.proofs.Comes.{come-along}
 use Rattle.world_laws.proofs.Due.{at, due-new}
 use Rattle.world_laws.proofs.Points.{nodes-here, nodes-other, among-next, among-range, among-map_of, earlier-come}
 use Rattle.world_laws.proofs.Happens.{Happens, nothing, injected, heard, completed, forgot, sent, happens, Installer, installer}
-use Rattle.world_laws.proofs.Collect.{IsTame, AreTame, tame-push, Has, target-most, parts-alike, target-stays, target-set, has-stays, asks-gap}
+use Rattle.world_laws.proofs.Collect.{IsTame, AreTame, Has, target-most, parts-alike, target-stays, target-set, has-stays, asks-gap}
 use Rattle.world_laws.proofs.Tame.{IsTameNode, IsTameWorld, run-tame}
 
 -- ---- who holds the version goes on to hold it
@@ -79,7 +79,7 @@ held-stays w v hs c e how none tame node holds = by how where
     | inl own ↦ absurd (clash own.1 (target_over v.handler (Hears packet ∷ hs)))
   ]) where
     most : target_version v.handler (Hears packet ∷ hs) ≤ v.version
-    most = target-most v (Hears packet ∷ hs) (tame-push v (heard_since v.handler hs) packet node.heard_tame (tame j number packet cause))
+    most = target-most v (Hears packet ∷ hs) (each-push (IsTame v) (heard_since v.handler hs) packet node.heard_tame (tame j number packet cause))
 
     clash : p.handler.0 ≡ v.handler → (target_version v.handler (Hears packet ∷ hs) ≡ 0) ⊎ (held_version v.handler (Hears packet ∷ hs) < target_version v.handler (Hears packet ∷ hs)) → ⊥
     clash own (inl zero_is) = let some : 1 ≤ target_version v.handler (Hears packet ∷ hs) = subst (λ (h : ℕ). 1 ≤ target_version h (Hears packet ∷ hs)) own (completed-target packet hs p.handler complete) in omega (arith, some, zero_is)
@@ -136,7 +136,7 @@ no-install w v n c none tame node holds p deed own = by (installer w n c p deed)
   by (inl line) = none line.0 p line.1 deed own
   by (inr got) = over (target_over v.handler (Hears got.2 ∷ n.exchange)) where
     most : target_version v.handler (Hears got.2 ∷ n.exchange) ≤ v.version
-    most = target-most v (Hears got.2 ∷ n.exchange) (tame-push v (heard_since v.handler n.exchange) got.2 node.heard_tame (tame got.0 got.1 got.2 got.3))
+    most = target-most v (Hears got.2 ∷ n.exchange) (each-push (IsTame v) (heard_since v.handler n.exchange) got.2 node.heard_tame (tame got.0 got.1 got.2 got.3))
 
     some : 1 ≤ target_version v.handler (Hears got.2 ∷ n.exchange)
     some = subst (λ (h : ℕ). 1 ≤ target_version h (Hears got.2 ∷ n.exchange)) own (completed-target got.2 n.exchange p.handler got.4)
@@ -187,8 +187,7 @@ pub record Middle (w : World) (v : Version) (now : List Moment) (m : Moment) (ol
   pub onward : Onward w v (m ∷ (older ++ now)) newer by
 
 pub newest-earlier : (w : World) (v : Version) (before later : List Moment) → IsNewest w v (later ++ before) → IsNewest w v before
-newest-earlier w v before [] h = h
-newest-earlier w v before (m ∷ later) h = newest-earlier w v before later h.0
+newest-earlier w v before later h = each_over-behind _ later before h
 
 quiet-split : (w : World) (h : ℕ) (now older newer : List Moment) (m : Moment) → AreQuiet w h now (newer ++ m ∷ older) → AreQuiet w h now older × IsQuiet w h (state w (older ++ now)) m × AreQuiet w h (m ∷ (older ++ now)) newer
 quiet-split w h now older [] m quiet = (quiet.0, quiet.1, tt)
@@ -321,7 +320,7 @@ vector-got w v hs versions i right node tame is below = elim (cases_lt (held_ver
   new = Hears (Vector versions) ∷ hs
 
   tame_new : AreTame v (heard_since v.handler (Hears (Vector versions) ∷ hs))
-  tame_new = tame-push v (heard_since v.handler hs) (Vector versions) node.heard_tame tame
+  tame_new = each-push (IsTame v) (heard_since v.handler hs) (Vector versions) node.heard_tame tame
 
   seeking : held_version v.handler hs < v.version → Seeks v (λ k. k ≡ i) (Hears (Vector versions) ∷ hs)
       ⊎ (Seeks v (λ k. ⊥) (Hears (Vector versions) ∷ hs) × (missing : ℕ) × Among (own_status v missing) (asks_after (handlers w) (Vector versions) hs) × (bit_at missing i ≡ 1))

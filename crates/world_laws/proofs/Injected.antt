@@ -8,13 +8,14 @@ use Rattle.std.proofs.lemmas.Bool.Decides.{eqb_tells}
 use Rattle.arrayvec.specs.ArrayVec.{ArrayVec}
 use Rattle.capsule_codec.specs.Fragments.{count_of, piece_at}
 use Rattle.packet_codec.specs.declared.packet.Packet.{Packet}
-use Rattle.packet_codec.specs.declared.packet.Packet.TheVariants.{Vector, Status, Fragment, App}
+use Rattle.packet_codec.specs.declared.packet.Packet.TheVariants.{Status, Fragment}
 use Rattle.capsule_exchange.specs.Happenings.{Happening, Hears, Sends, Installs, Forgets, held_version, held_image, heard_since, target_version, TargetFragment, part_in, target_parts, places_of, whole, collected_image, asks_of, is_marked, is_marked_slot, fragment_for}
 use Rattle.capsule_exchange.specs.Laws.{AreFragmentsOf}
 use Rattle.capsule_exchange.proofs.LawLemmas.{one_image}
 use Rattle.world_rules.specs.World.{World}
 use Rattle.world_laws.specs.Versions.{WasInjected, IsOneImage}
-use Rattle.mate_num.specs.Lists.{Among}
+use Rattle.mate_num.specs.Lists.{Each, Among}
+use Rattle.mate_num.proofs.ListLemmas.{each-among}
 use Rattle.world_laws.proofs.Points.{among-filter_map}
 use Rattle.world_rules.specs.State.{Moment}
 
@@ -42,8 +43,7 @@ IsOfInjected w ms (Fragment g version index count large bytes) = (image : List �
 IsOfInjected w ms _ = Unit {0}
 
 abbrev pub AreOfInjected : World → List Moment → List Packet → Type 0
-AreOfInjected w ms [] = Unit {0}
-AreOfInjected w ms (p ∷ ps) = IsOfInjected w ms p × AreOfInjected w ms ps
+AreOfInjected w ms = Each (IsOfInjected w ms)
 
 -- a node holds nothing of the handler, or an injected program
 abbrev pub HoldsInjected : World → List Moment → List Happening → ℕ → Type 0
@@ -68,11 +68,6 @@ one-injected : (w : World) (ms : List Moment) (h version : ℕ) (image other : L
 one-injected w ms h version image other one a b =
     sym a.image_is ∙ one a.place b.place a.program b.program a.injects b.injects (a.handler ∙ sym b.handler) (a.version_is ∙ sym b.version_is) ∙ b.image_is
 
-each-of : (w : World) (ms : List Moment) (ps : List Packet) (p : Packet) → AreOfInjected w ms ps → Among p ps → IsOfInjected w ms p
-each-of w ms [] p all a = absurd a
-each-of w ms (q ∷ ps) p all (inl e) = subst (λ (x : Packet). IsOfInjected w ms x) e all.0
-each-of w ms (q ∷ ps) p all (inr a) = each-of w ms ps p all.1 a
-
 contains-among : (ps : List Packet) (p : Packet) (k : ℕ) → k < length ps → slice_index_or ps k p ≡ p → Among p ps
 contains-among [] p k below is = absurd (omega (arith, below))
 contains-among (q ∷ ps) p zero below is = inl is
@@ -82,7 +77,7 @@ contains-among (q ∷ ps) p (suc k) below is = inr (contains-among ps p k (omega
 fragments-of : (w : World) (ms : List Moment) (h version : ℕ) (image : List ℕ) (ps : List Packet) → IsOneImage w → WasInjected w ms h version image → AreOfInjected w ms ps → AreFragmentsOf h version image ps
 fragments-of w ms h version image ps one was all i count large bytes contains =
     let among : Among (Fragment (record { 0 = h }) version i count large bytes) ps = contains-among ps (Fragment (record { 0 = h }) version i count large bytes) contains.0 contains.1 contains.2 in
-    let of : IsOfInjected w ms (Fragment (record { 0 = h }) version i count large bytes) = each-of w ms ps (Fragment (record { 0 = h }) version i count large bytes) all among in
+    let of : IsOfInjected w ms (Fragment (record { 0 = h }) version i count large bytes) = each-among (IsOfInjected w ms) ps (Fragment (record { 0 = h }) version i count large bytes) all among in
     let same : of.0 ≡ image = one-injected w ms h version of.0 image one of.1 was in
     (of.2 ∙ ap count_of same, of.3 ∙ ap (λ (xs : List ℕ). piece_at xs i) same)
 
@@ -109,7 +104,7 @@ first-of w ms h hs made all is = by (target_parts h hs) refl is where
   by (part ∷ ps) parts given =
       let among : Among part (filter_map (part_in h (target_version h hs)) (heard_since h hs)) = subst (λ (xs : List TargetFragment). Among part xs) (sym parts) (inl refl) in
       let found = among-filter_map (part_in h (target_version h hs)) part (heard_since h hs) among in
-      part-of w ms h (target_version h hs) found.0 part found.2 (each-of w ms (heard_since h hs) found.0 all found.1)
+      part-of w ms h (target_version h hs) found.0 part found.2 (each-among (IsOfInjected w ms) (heard_since h hs) found.0 all found.1)
 
 -- what is collected is an injected program
 pub collected-injected : (w : World) (ms : List Moment) (h : ℕ) (hs : List Happening) (made : ArrayVec ℕ) → IsOneImage w → AreOfInjected w ms (heard_since h hs) → collected_image h hs ≡ Some made

@@ -6,33 +6,28 @@ use Rattle.mate_journal.specs.Journal.{JournalEntry, Installed, Seen, NodeState,
 use Rattle.mate_journal.specs.Pace.{Pace, paced_all}
 use Rattle.capsule_exchange.specs.Happenings.{held_version}
 use Rattle.world_rules.specs.World.{World}
-use Rattle.world_rules.specs.Effect.{Node, Deed, Nothing, Installing, Posting, Answering, Showing, Resetting, event_node}
+use Rattle.world_rules.specs.Effect.{Node, Deed, Installing, event_node}
 use Rattle.world_rules.specs.State.{Moment, WorldState, node_at, effect_at, state}
 use Rattle.world_rules.specs.Run.{DeedMakes, HaveCome}
 use Rattle.world_laws.specs.Installs.{TellsInstall, InstallsItsOwn, WasInstalled, HeldWasInstalled, HeldNeverFalls, InstallsRise}
 use Rattle.mate_num.specs.Lists.{Among}
-use Rattle.mate_num.proofs.ListLemmas.{among-right, among-append}
+use Rattle.mate_num.proofs.ListLemmas.{each-among, among-right, among-append}
 use Rattle.world_laws.proofs.Points.{nodes-here, nodes-other, earlier-come}
-use Rattle.world_laws.proofs.Agree.{NoInstall, NoneInstall, HeldAfter, by_made, occasions-none, installs-rest, settles-none, moves, held_agrees}
+use Rattle.journal_laws.proofs.Plain.{NoInstall, NoneInstall}
+use Rattle.world_laws.proofs.Agree.{HeldAfter, deed-none, installs-rest, settles-none, moves, held_agrees}
 
 -- ---- an event's installs are its deed's
 
 none-installs : (told : List JournalEntry) (p : HeldProgram) → NoneInstall told → Among (Installed p) told → ⊥
-none-installs [] p none a = a
-none-installs (t ∷ told) p none (inl e) = subst NoInstall e none.0
-none-installs (t ∷ told) p none (inr a) = none-installs told p none.1 a
+none-installs told p none a = each-among NoInstall told (Installed p) none a
 
 deed-installs : (m : Machine) (r : NodeState) (q : Pace) (d : Deed) (told : List JournalEntry) (p : HeldProgram) → DeedMakes m d r q told → Among (Installed p) told → d ≡ Installing p
-deed-installs m r q Nothing told p is a = absurd (none-installs told p (by_made told [] is tt) a)
-deed-installs m r q (Posting hs payload) told p is a = absurd (none-installs told p (occasions-none m payload hs r q told is) a)
-deed-installs m r q (Answering inv value) told p is a = absurd (none-installs told p (by_made told _ is (tt, tt)) a)
-deed-installs m r q Showing told p is a = absurd (none-installs told p (by_made told _ is.made (tt, tt)) a)
-deed-installs m r q Resetting told p is a = absurd (none-installs told p (by_made told _ is.made (tt, (tt, tt))) a)
 deed-installs m r q (Installing x) told p is a = by (subst (λ (ts : List JournalEntry). Among (Installed p) ts) is.made a) where
   by : Among (Installed p) (Seen is.seen ∷ Installed x ∷ is.rest) → Installing x ≡ Installing p
   by (inl e) = cc
   by (inr (inl e)) = cc
   by (inr (inr b)) = absurd (none-installs is.rest p (installs-rest m r q x told is) b)
+deed-installs m r q d told p is a = absurd (none-installs told p (deed-none m r q d told is) a)
 
 tells-among : (told : List JournalEntry) (p : HeldProgram) → TellsInstall told p → Among (Installed p) told
 tells-among told p t = subst (λ (ts : List JournalEntry). Among (Installed p) ts) (sym t.split) (among-right (Installed p) t.front (Installed p ∷ t.rest) (inl refl))

@@ -1,10 +1,10 @@
 -- The journals of nodes, event by event.
 use Rattle.std.proofs.Common.{◌≡◌, ◌≢◌, ℕ, List, [], ◌∷◌, ◌++◌, map, refl, sym, ◌∙◌, ap, subst, inl, inr}
 use Rattle.std.proofs.lemmas.List.{append-nil}
+use Rattle.std.proofs.lemmas.List.Folds.{fold-map}
 use Rattle.std.proofs.lemmas.Bool.Decides.{eqb_tells}
 use Rattle.mate_journal.specs.Machine.{Machine}
-use Rattle.mate_journal.specs.Journal.{JournalEntry, NodeState, first_state, next_state, state_after_all}
-use Rattle.mate_journal.specs.Journal.{TimedEntry as Entered}
+use Rattle.mate_journal.specs.Journal.{JournalEntry, TimedEntry, NodeState, first_state, next_state, state_after_all}
 use Rattle.mate_journal.proofs.JournalLemmas.{heard_all-append}
 use Rattle.mate_num.specs.declared.call.Stamp.{Stamp}
 use Rattle.world_rules.specs.World.{World}
@@ -17,8 +17,9 @@ use Rattle.world_laws.proofs.Points.{nodes-here, nodes-other}
 
 -- a list of entries of one event is heard as what it tells
 hear-stamped : (m : Machine) (r : NodeState) (at : Stamp) (told : List JournalEntry) → state_after_all m r (map (λ (t : JournalEntry). record { stamp = at; told = t }) told) ≡ state_after_entries m r told
-hear-stamped m r at [] = refl
-hear-stamped m r at (t ∷ told) = hear-stamped m (next_state m r t) at told
+hear-stamped m r at told =
+    let stamped : JournalEntry → TimedEntry = λ t. record { stamp = at; told = t } in
+    fold-map (λ s e. next_state m s e.told) stamped r told
 
 -- the journal of a node of which the event isn't
 pub journal-other : (w : World) (k : ℕ) (m : Moment) (before : List Moment) → k ≢ event_node w m.cause → journal w k (m ∷ before) ≡ journal w k before

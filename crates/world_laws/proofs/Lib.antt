@@ -19,6 +19,7 @@ pub mod Injected
 pub mod Versions
 pub mod Agree
 pub mod Installs
+pub mod JournalRules
 pub mod Newest
 pub mod Lines
 pub mod Newer

@@ -18,7 +18,7 @@ use Rattle.world_rules.specs.State.{Moment, WorldState, Scheduled, of_interval, 
 use Rattle.world_rules.specs.Run.{IsNext, MayCome, HaveCome}
 use Rattle.world_laws.specs.Times.{IsRightSet, last_time, StandsIn, NeverResets, Fires, FiresInTime}
 use Rattle.mate_num.specs.Lists.{Among}
-use Rattle.mate_num.proofs.ListLemmas.{among-left, among-right, among-append, among-flat_map, none-among}
+use Rattle.mate_num.proofs.ListLemmas.{each_over-behind, among-left, among-right, among-append, among-flat_map, none-among}
 use Rattle.world_laws.proofs.OfTime.{among-of_time, among-un_of_time, apart}
 use Rattle.world_laws.proofs.Timers.{IsSameInterval, timer_kept, timer_begun, Begins, shortened, again, expired, why_begun, few}
 use Rattle.world_laws.proofs.Due.{at, Outlasts, due-keeps, due-from, due-new, kind, Source, period, interval, delivery, pump, answer, source, begun-scheduled}
@@ -523,8 +523,7 @@ along w i by before (m ∷ later) right below come never on = elim (along w i by
 ]
 
 pub earlier-come : (w : World) (before later : List Moment) → HaveCome w (later ++ before) → HaveCome w before
-earlier-come w before [] come = come
-earlier-come w before (m ∷ later) come = earlier-come w before later come.0
+earlier-come w before later come = each_over-behind _ later before come
 
 pub fires_in_time : (w : World) → IsRightSet w.description.trickle → FiresInTime w
 fires_in_time w right i time before later below come last never done =

@@ -13,7 +13,6 @@ use Rattle.packet_codec.specs.declared.packet.Packet.{Packet}
 use Rattle.packet_codec.specs.declared.packet.Packet.TheVariants.{Vector}
 use Rattle.trickle_timer.specs.Intervals as trickle
 use Rattle.capsule_exchange.specs.Happenings.{Happening, Hears, held_version, held_image, held_versions, heard_since, target_version, TargetFragment, part_in, target_parts, complete_version, completed_by, asks_after, is_marked_slot, next_slot, fragment_for}
-use Rattle.world_rules.specs.Cause.{Cause}
 use Rattle.world_rules.specs.Cause as event
 use Rattle.world_rules.specs.World.{World, handlers, receiver, links_from}
 use Rattle.world_rules.specs.Effect.{of_fragment, of_point, of_slot, event_node}
@@ -24,8 +23,9 @@ use Rattle.world_laws.specs.Times.{last_time, NeverResets, Fires}
 use Rattle.world_laws.specs.Slots.{AreSparing, SendsSlot}
 use Rattle.world_laws.specs.Causes.{HasEvent}
 use Rattle.world_laws.specs.Newest.{Version, IsWorldVersion, IsNewest}
-use Rattle.world_laws.specs.Spread.{IsOpenWorld, AreQuiet, HopsInTime}
+use Rattle.world_laws.specs.Spread.{IsOpenWorld, IsQuiet, AreQuiet, HopsInTime}
 use Rattle.mate_num.specs.Lists.{Among}
+use Rattle.mate_num.proofs.ListLemmas.{each_over-weaker}
 use Rattle.world_laws.proofs.Points.{fires_in_time}
 use Rattle.world_laws.proofs.Pumps.{sends_in_time}
 use Rattle.world_laws.proofs.Collect.{IsTame, AreTame, Has, parts-alike, target-stays, parts-grow, has-got, complete-all, at-range}
@@ -294,8 +294,7 @@ fire-sends w s m a is loud =
     subst Goal (sym same) (subst Sends (sym loud) (inl refl))
 
 never-resets : (w : World) (h a : ℕ) (now rest : List Moment) → AreQuiet w h now rest → NeverResets w a now rest
-never-resets w h a now [] quiet = tt
-never-resets w h a now (m ∷ rest) quiet = (never-resets w h a now rest quiet.0, λ here. quiet.1.no_reset)
+never-resets w h a now rest quiet = each_over-weaker (λ m later. IsQuiet w h (state w (later ++ now)) m) _ (λ m later is here. is.no_reset) rest quiet
 
 stage-fire : (w : World) (v : Version) (a b i time : ℕ) (before later : List Moment) → IsOpenWorld w → IsWorldVersion w v → Onward w v before later (time + 3 * longest w.description.trickle) → a < w.nodes → HasLink w.links a b → HasLink w.links b a
     → last_time before ≤ time → i < count_of v.image → At w (Holding v) a before → At w (Seeks v (λ k. k ≡ i)) b (later ++ before)

@@ -8,7 +8,7 @@ use Rattle.arrayvec.specs.ArrayVec.{ArrayVec}
 use Rattle.mate_num.specs.declared.id.HandlerId.{HandlerId}
 use Rattle.capsule_codec.specs.Fragments.{count_of}
 use Rattle.mate_journal.specs.Machine.{HeldProgram}
-use Rattle.mate_journal.specs.Journal.{JournalEntry, Posted, Dropped, Started, Asked, Answered, Ended, Installed, Reset, Seen, Void}
+use Rattle.mate_journal.specs.Journal.{JournalEntry, Asked}
 use Rattle.packet_codec.specs.declared.packet.Packet.{Packet}
 use Rattle.packet_codec.specs.declared.packet.Packet.TheVariants.{Vector, Status, Fragment, App}
 use Rattle.trickle_timer.specs.Intervals as trickle
@@ -18,18 +18,18 @@ use Rattle.capsule_exchange.specs.Happenings.{Happening, Hears, Installs, held_v
 use Rattle.mate_journal.specs.Pace.{no_pace}
 use Rattle.world_rules.specs.Cause.{Cause}
 use Rattle.world_rules.specs.Cause as event
-use Rattle.world_rules.specs.World.{World, PlannedLine, Want, Inject, Post, Show, ResetNode, Noise, handlers}
+use Rattle.world_rules.specs.World.{World, PlannedLine, Want, Inject, handlers}
 use Rattle.world_rules.specs.Effect.{Node, NodeEffect, Installing, no_effect, node_effect, of_line, of_packet, of_fragment, of_point, of_slot, event_node}
 use Rattle.world_rules.specs.State.{Moment, WorldState, Scheduled, Sending, of_interval, numbered_sendings, messages, message_in, is_send_kind, packets_of, node_at, effect_at, node_after, after_moment, start_node, lines_from, first_of, world_start, state}
 use Rattle.world_rules.specs.Run.{MayCome, HaveCome}
 use Rattle.world_laws.specs.Newest.{Version, IsWorldVersion, IsNewest}
 use Rattle.mate_num.specs.Lists.{Among}
-use Rattle.mate_num.proofs.ListLemmas.{among-append, among-flat_map}
+use Rattle.mate_num.proofs.ListLemmas.{each-push, among-append, among-flat_map}
 use Rattle.world_laws.proofs.OfTime.{among-un_of_time, apart}
 use Rattle.world_laws.proofs.Due.{at, due-from, kind, Source, period, interval, delivery, pump, answer, source}
 use Rattle.world_laws.proofs.Points.{nodes-here, nodes-other, among-next, among-filter_map, line-kind, period-kind}
 use Rattle.world_laws.proofs.Happens.{Happens, nothing, injected, heard, completed, forgot, sent, happens}
-use Rattle.world_laws.proofs.Collect.{IsTame, AreTame, tame-push, complete-stays, complete-other, at-range}
+use Rattle.world_laws.proofs.Collect.{IsTame, AreTame, complete-stays, complete-other, at-range}
 
 -- ---- one node
 
@@ -81,7 +81,7 @@ node-step w v hs c e how tame keeps old = by how where
   hears p one none = record {
     held = old.held;
     image = old.image;
-    heard_tame = tame-push v (heard_since v.handler hs) p old.heard_tame one;
+    heard_tame = each-push (IsTame v) (heard_since v.handler hs) p old.heard_tame one;
     none_waits = complete-stays v.handler p hs none old.none_waits;
   }
 
@@ -95,7 +95,7 @@ node-step w v hs c e how tame keeps old = by how where
   by (completed j number packet p cause is deed complete same) = subst Goal (sym is) (elim (eqb_tells p.handler.0 v.handler) [
     | inl own ↦ node-installs-own v p.handler.0 p.version p.image.items (Hears packet ∷ hs) own.1 (keeps p deed own.1)
     | inr other ↦ node-installs-other v p.handler.0 p.version p.image.items (Hears packet ∷ hs) other.1 old.held old.image
-        (tame-push v (heard_since v.handler hs) packet old.heard_tame (tame j number packet cause)) (complete-other v.handler packet hs p.handler complete other.1 old.none_waits)
+        (each-push (IsTame v) (heard_since v.handler hs) packet old.heard_tame (tame j number packet cause)) (complete-other v.handler packet hs p.handler complete other.1 old.none_waits)
   ])
   by (forgot is deed) = subst Goal (sym is) (record { held = old.held; image = old.image; heard_tame = tt; none_waits = refl })
   by (sent k slot cause is next) = subst Goal (sym is) (record { held = old.held; image = old.image; heard_tame = old.heard_tame; none_waits = old.none_waits })

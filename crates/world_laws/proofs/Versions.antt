@@ -17,13 +17,13 @@ use Rattle.capsule_exchange.specs.Happenings.{Happening, Hears, Installs, held_v
 use Rattle.mate_journal.specs.Pace.{no_pace}
 use Rattle.world_rules.specs.Cause.{Cause}
 use Rattle.world_rules.specs.Cause as event
-use Rattle.world_rules.specs.World.{World, PlannedLine, Want, Inject, Post, Show, ResetNode, Noise, handlers}
+use Rattle.world_rules.specs.World.{World, PlannedLine, Want, Inject, handlers}
 use Rattle.world_rules.specs.Effect.{Node, Installing, no_effect, node_effect, of_line, of_packet, of_fragment, of_point, of_slot, collected, event_node}
 use Rattle.world_rules.specs.State.{Moment, WorldState, Scheduled, of_interval, messages, message_in, packets_of, node_at, effect_at, node_after, start_node, lines_from, first_of, world_start, state}
 use Rattle.world_rules.specs.Run.{MayCome, HaveCome}
 use Rattle.world_laws.specs.Versions.{WasInjected, IsOneImage, InstallsInjected}
 use Rattle.mate_num.specs.Lists.{Among}
-use Rattle.mate_num.proofs.ListLemmas.{among-append, among-flat_map}
+use Rattle.mate_num.proofs.ListLemmas.{each-push, each-weaker, among-append, among-flat_map}
 use Rattle.world_laws.proofs.OfTime.{among-un_of_time, apart}
 use Rattle.world_laws.proofs.Due.{at, due-from, kind, Source, period, interval, delivery, pump, answer, source}
 use Rattle.world_laws.proofs.Points.{nodes-here, nodes-other, among-next, among-filter_map, line-kind, period-kind}
@@ -41,22 +41,14 @@ later-packet : (w : World) (m : Moment) (ms : List Moment) (p : Packet) → IsOf
 later-packet w m ms (Fragment g version index count large bytes) of = (of.0, later-injected w m ms g.0 version of.0 of.1, of.2, of.3)
 later-packet w m ms _ of = tt
 
-later-packets : (w : World) (m : Moment) (ms : List Moment) (ps : List Packet) → AreOfInjected w ms ps → AreOfInjected w (m ∷ ms) ps
-later-packets w m ms [] all = tt
-later-packets w m ms (p ∷ ps) all = (later-packet w m ms p all.0, later-packets w m ms ps all.1)
-
 later-node : (w : World) (m : Moment) (ms : List Moment) (hs : List Happening) → IsInjectedNode w ms hs → IsInjectedNode w (m ∷ ms) hs
 later-node w m ms hs old = record {
   holds = λ h. elim (old.holds h) [ inl none ↦ inl none | inr was ↦ inr (later-injected w m ms h (held_version h hs) (held_image h hs) was) ];
-  heard_of = λ h. later-packets w m ms (heard_since h hs) (old.heard_of h);
+  heard_of = λ h. each-weaker (IsOfInjected w ms) (IsOfInjected w (m ∷ ms)) (later-packet w m ms) (heard_since h hs) (old.heard_of h);
 }
 
-push-packet : (w : World) (ms : List Moment) (ps : List Packet) (p : Packet) → AreOfInjected w ms ps → IsOfInjected w ms p → AreOfInjected w ms (ps ++ p ∷ [])
-push-packet w ms [] p all one = (one, tt)
-push-packet w ms (q ∷ ps) p all one = (all.0, push-packet w ms ps p all.1 one)
-
 pub node-hears : (w : World) (ms : List Moment) (hs : List Happening) (p : Packet) → IsInjectedNode w ms hs → IsOfInjected w ms p → IsInjectedNode w ms (Hears p ∷ hs)
-node-hears w ms hs p old one = record { holds = old.holds; heard_of = λ h. push-packet w ms (heard_since h hs) p (old.heard_of h) one }
+node-hears w ms hs p old one = record { holds = old.holds; heard_of = λ h. each-push (IsOfInjected w ms) (heard_since h hs) p (old.heard_of h) one }
 
 node-installs : (w : World) (ms : List Moment) (hs : List Happening) (g version : ℕ) (image : List ℕ) → IsInjectedNode w ms hs → WasInjected w ms g version image → IsInjectedNode w ms (Installs g version image ∷ hs)
 node-installs w ms hs g version image old was = record { holds = λ h. held h; heard_of = λ h. heard_by h } where

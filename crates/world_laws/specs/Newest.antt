@@ -1,6 +1,7 @@
 -- A version of a handler, and that nothing newer was installed.
-use Rattle.std.specs.Prelude.{◌≡◌, ℕ, ◌<◌, ◌≤◌, List, [], ◌∷◌}
+use Rattle.std.specs.Prelude.{◌≡◌, ℕ, ◌<◌, ◌≤◌, List}
 use Rattle.mate_num.specs.declared.bounds.TheConstants.{FRAGMENTS_MAX}
+use Rattle.mate_num.specs.Lists.{EachOver}
 use Rattle.mate_journal.specs.Machine.{HeldProgram}
 use Rattle.capsule_codec.specs.Fragments.{count_of}
 use Rattle.world_rules.specs.World.{World, handlers}
@@ -21,8 +22,6 @@ pub record IsWorldVersion (w : World) (v : Version) : Type 0 where
 
 -- the newest that was installed for its handler, and of this version only with this image
 abbrev pub IsNewest : World → Version → List Moment → Type 0
-IsNewest w v [] = Unit {0}
-IsNewest w v (m ∷ before) =
-    IsNewest w v before
-    × ((p : HeldProgram) → (effect_at w (state w before) m).deed ≡ Installing p → p.handler.0 ≡ v.handler
+IsNewest w v = EachOver (λ m before.
+    (p : HeldProgram) → (effect_at w (state w before) m).deed ≡ Installing p → p.handler.0 ≡ v.handler
     → (p.version ≤ v.version) × (p.version ≡ v.version → p.image.items ≡ v.image))

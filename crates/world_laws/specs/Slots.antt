@@ -1,8 +1,8 @@
 -- When a node sends the fragments that it was asked for.
-use Rattle.std.specs.Prelude.{◌≡◌, ℕ, ◌+◌, ◌*◌, ◌/◌, ◌<◌, ◌≤◌, false, IsTrue, List, [], ◌∷◌, ◌++◌, Some}
+use Rattle.std.specs.Prelude.{◌≡◌, ℕ, ◌+◌, ◌*◌, ◌/◌, ◌<◌, ◌≤◌, false, IsTrue, List, ◌∷◌, ◌++◌, Some}
 use Rattle.mate_num.specs.declared.bounds.TheConstants.{FRAGMENTS_MAX}
+use Rattle.mate_num.specs.Lists.{EachOver}
 use Rattle.capsule_exchange.specs.Happenings.{next_slot, is_marked_slot}
-use Rattle.world_rules.specs.Cause.{Cause}
 use Rattle.world_rules.specs.Cause as event
 use Rattle.world_rules.specs.World.{World, handlers}
 use Rattle.world_rules.specs.Effect.{Installing, event_node, resets}
@@ -16,8 +16,7 @@ pub record IsSparing (w : World) (s : WorldState) (m : Moment) (i h : ℕ) : Typ
   pub no_install : (p : _) → event_node w m.cause ≡ i → (effect_at w s m).deed ≡ Installing p → p.handler.0 ≡ h → ⊥
 
 abbrev pub AreSparing : World → ℕ → ℕ → List Moment → List Moment → Type 0
-AreSparing w i h before [] = Unit {0}
-AreSparing w i h before (m ∷ later) = AreSparing w i h before later × IsSparing w (state w (later ++ before)) m i h
+AreSparing w i h before = EachOver (λ m later. IsSparing w (state w (later ++ before)) m i h)
 
 -- among the events `later`, on top of `before`, a pump of the node sends the slot, at this time at the latest
 pub record SendsSlot (w : World) (i slot by : ℕ) (before later : List Moment) : Type 0 where

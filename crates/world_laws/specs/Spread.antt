@@ -1,9 +1,9 @@
 -- How a version spreads: one hop, and many.
-use Rattle.std.specs.Prelude.{◌≡◌, ℕ, ◌+◌, ◌*◌, ◌<◌, ◌≤◌, false, List, [], ◌∷◌, ◌++◌, Contains}
+use Rattle.std.specs.Prelude.{◌≡◌, ℕ, ◌+◌, ◌*◌, ◌<◌, ◌≤◌, false, List, ◌++◌, Contains}
+use Rattle.mate_num.specs.Lists.{EachOver}
 use Rattle.vm_desc.specs.Limits.{longest, round_time}
 use Rattle.mate_journal.specs.Machine.{HeldProgram}
 use Rattle.capsule_exchange.specs.Happenings.{held_version}
-use Rattle.world_rules.specs.Cause.{Cause}
 use Rattle.world_rules.specs.Cause as event
 use Rattle.world_script.specs.declared.world.Link.{Link}
 use Rattle.world_rules.specs.World.{World, handlers, loss}
@@ -28,8 +28,7 @@ pub record IsQuiet (w : World) (h : ℕ) (s : WorldState) (m : Moment) : Type 0 
   pub no_inject : (line : ℕ) (p : HeldProgram) → m.cause ≡ event.Planned line → (effect_at w s m).deed ≡ Installing p → p.handler.0 ≡ h → ⊥
 
 abbrev pub AreQuiet : World → ℕ → List Moment → List Moment → Type 0
-AreQuiet w h before [] = Unit {0}
-AreQuiet w h before (m ∷ later) = AreQuiet w h before later × IsQuiet w h (state w (later ++ before)) m
+AreQuiet w h before = EachOver (λ m later. IsQuiet w h (state w (later ++ before)) m)
 
 abbrev pub HoldsVersion : World → Version → ℕ → List Moment → Type 0
 HoldsVersion w v k ms = held_version v.handler ((state w ms).nodes k).exchange ≡ v.version

@@ -1,8 +1,8 @@
 -- When things happen in a world.
 use Rattle.std.specs.Prelude.{◌≡◌, ℕ, ◌+◌, ◌*◌, ◌<◌, ◌≤◌, false, List, [], ◌∷◌, ◌++◌}
+use Rattle.mate_num.specs.Lists.{EachOver}
 use Rattle.vm_desc.specs.declared.settings.TrickleSet.{TrickleSet}
 use Rattle.vm_desc.specs.Limits.{longest}
-use Rattle.world_rules.specs.Cause.{Cause}
 use Rattle.world_rules.specs.Cause as event
 use Rattle.world_rules.specs.World.{World}
 use Rattle.world_rules.specs.Effect.{event_node, resets}
@@ -30,9 +30,7 @@ pub record StandsIn (later : List Moment) (m : Moment) : Type 0 where
 
 -- none of the events `later`, on top of `before`, resets the node
 abbrev pub NeverResets : World → ℕ → List Moment → List Moment → Type 0
-NeverResets w i before [] = Unit {0}
-NeverResets w i before (m ∷ later) =
-    NeverResets w i before later × (event_node w m.cause ≡ i → resets (effect_at w (state w (later ++ before)) m).deed ≡ false)
+NeverResets w i before = EachOver (λ m later. event_node w m.cause ≡ i → resets (effect_at w (state w (later ++ before)) m).deed ≡ false)
 
 -- a point of the node's timer comes, at this time at the latest
 pub record Fires (i : ℕ) (by : ℕ) (later : List Moment) : Type 0 where

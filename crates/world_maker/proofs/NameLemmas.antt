@@ -1,9 +1,9 @@
 -- The names of a machine, as a source's words, and its first sensor among its functions.
-use Rattle.std.proofs.Common.{◌≡◌, ℕ, ◌+◌, ◌≤◌, Bool, true, false, not, ◌&&◌, ◌||◌, ◌==◌, nat_lt, nat_le, cond, List, [], ◌∷◌, ◌++◌, length, map, Option, Some, None, refl, sym, ◌∙◌, ap, subst, arith}
+use Rattle.std.proofs.Common.{◌≡◌, ℕ, ◌+◌, ◌≤◌, Bool, true, false, not, ◌&&◌, ◌||◌, ◌==◌, nat_lt, nat_le, cond, List, [], ◌∷◌, ◌++◌, length, map, Option, Some, None, refl, sym, ◌∙◌, ap, arith}
 use Rattle.std.specs.Option.{option_or}
 use Rattle.std.specs.List.{list_any, list_all}
 use Rattle.std.specs.Str.{bytes_eq}
-use Rattle.std.proofs.lemmas.Bool.{and_parts, ltb-true, not-true, cond-true, cond-false}
+use Rattle.std.proofs.lemmas.Bool.{and_parts, or_parts, ltb-true, cond-true, cond-false}
 use Rattle.std.proofs.lemmas.List.Folds.{list_any-append}
 use Rattle.std.proofs.lemmas.Slice.Eq.{bytes_eq-Decides}
 use Rattle.mate_num.specs.declared.id.FunId.{FunId}
@@ -11,7 +11,7 @@ use Rattle.vm_desc.specs.declared.function.Function.{Function}
 use Rattle.vm_desc.specs.declared.function.FunKind.{FunKind}
 use Rattle.vm_desc.specs.declared.function.FunKind.TheVariants as fun
 use Rattle.vm_desc.specs.Names as desc
-use Rattle.vm_desc.specs.Names.{between, continues_name, reserved_words, is_keyword, has_form, is_name, stands_in, repeat_after}
+use Rattle.vm_desc.specs.Names.{between, continues_name, is_keyword, has_form, is_name, stands_in, repeat_after}
 use Rattle.mate_num.specs.Shapes.{is_device}
 use Rattle.vm_desc.specs.Limits.{is_function, function_args}
 use Rattle.ts_syntax.specs.declared.token.TokenKind.{TokenKind}
@@ -42,14 +42,10 @@ all_pass (c ∷ cs) h =
     let parts = and_parts (continues_name c) (list_all continues_name cs) h in
     (sym (same_continues c) ∙ parts.0, all_pass cs parts.1)
 
-or_none : (a b : Bool) → (a || b) ≡ false → (a ≡ false) × (b ≡ false)
-or_none true b h = absurd cc
-or_none false b h = (refl, h)
-
 none_reads : (ks : List TokenKind) (w : List ℕ) → list_any (λ v. bytes_eq w v) (map token_text ks) ≡ false → NoneReads ks w
 none_reads [] w h = tt
 none_reads (k ∷ ks) w h =
-    let parts = or_none (bytes_eq w (token_text k)) (list_any (λ v. bytes_eq w v) (map token_text ks)) h in
+    let parts = or_parts (bytes_eq w (token_text k)) (list_any (λ v. bytes_eq w v) (map token_text ks)) h in
     (parts.0, none_reads ks w parts.1)
 
 -- bytes that are cut as one name
@@ -113,7 +109,7 @@ not_seen seen (g ∷ fs) f apart e = by (stands_in seen g.name) refl apart (λ a
   where
     last : (b : Bool) → stands_in seen g.name ≡ false → cond b (Some g.name) (first_sensor fs) ≡ Some f → (first_sensor fs ≡ Some f → stands_in (seen ++ g.name ∷ []) f ≡ false) → stands_in seen f ≡ false
     last true own e rest = ap (stands_in seen) (sym (some_name e)) ∙ own
-    last false own e rest = (or_none (stands_in seen f) (stands_in (g.name ∷ []) f) (sym (list_any-append (λ other. bytes_eq f other) seen (g.name ∷ [])) ∙ rest e)).0
+    last false own e rest = (or_parts (stands_in seen f) (stands_in (g.name ∷ []) f) (sym (list_any-append (λ other. bytes_eq f other) seen (g.name ∷ [])) ∙ rest e)).0
 
     by : (b : Bool) → stands_in seen g.name ≡ b → cond b (Some g.name) (repeat_after (seen ++ g.name ∷ []) (map (λ g. g.name) fs)) ≡ None
         → (repeat_after (seen ++ g.name ∷ []) (map (λ g. g.name) fs) ≡ None → first_sensor fs ≡ Some f → stands_in (seen ++ g.name ∷ []) f ≡ false) → stands_in seen f ≡ false
@@ -135,8 +131,8 @@ found_sensor i seen (g ∷ fs) f apart e = by (stands_in seen g.name) apart (λ 
         record { id = record { 0 = i }; found = cond-true (bytes_eq f g.name) _ _ own ∙ ap (λ k. Some (record { 0 = i }, k)) (sensor_is g.kind sense) }
     last false sense e apart rest =
         let unseen : stands_in (seen ++ g.name ∷ []) f ≡ false = not_seen (seen ++ g.name ∷ []) fs f apart e in
-        let parts = or_none (stands_in seen f) (stands_in (g.name ∷ []) f) (sym (list_any-append (λ other. bytes_eq f other) seen (g.name ∷ [])) ∙ unseen) in
-        let other : bytes_eq f g.name ≡ false = (or_none (bytes_eq f g.name) false parts.1).0 in
+        let parts = or_parts (stands_in seen f) (stands_in (g.name ∷ []) f) (sym (list_any-append (λ other. bytes_eq f other) seen (g.name ∷ [])) ∙ unseen) in
+        let other : bytes_eq f g.name ≡ false = (or_parts (bytes_eq f g.name) false parts.1).0 in
         let later : IsSensor (i + 1) fs f = rest e in
         record { id = later.id; found = cond-false (bytes_eq f g.name) _ _ other ∙ later.found }
 

@@ -3,7 +3,7 @@ use Rattle.std.proofs.Common.{◌≡◌, ℕ, suc, ◌<◌, ◌≤◌, List, [],
 use Rattle.std.specs.Prelude.{slice_get, IsSomeAnd, flat_map, unwrap_or}
 use Rattle.std.specs.Global.{Vec}
 use Rattle.std.proofs.lemmas.Option.{slice_get-get_or}
-use Rattle.std.proofs.lemmas.List.{length-map, length-append}
+use Rattle.std.proofs.lemmas.List.{length-append}
 use Rattle.std.proofs.lemmas.List.Elements.{All-nil, All-cons}
 use Rattle.mate_num.specs.declared.call.Stamp.{Stamp}
 use Rattle.mate_journal.specs.Log.{Log}
@@ -48,6 +48,7 @@ use Rattle.sim_run.proofs.WorldLemmas.{some-at, of-machine, shown-machine, whole
 use Rattle.sim_run.proofs.MoteLemmas.{log-at, long-logs, first-mote, tell, keeps-all}
 use Rattle.sim_run.proofs.KeepingLemmas.{forgotten-motes, forgotten-kept}
 use Rattle.world_pieces.proofs.WritingLemmas.{cut-report}
+use Rattle.world_pieces.proofs.RecordingLemmas.{long-journal}
 
 -- a whole journal ends with one entry of the next number
 seen-last : (w : World) (ms : List Moment) (k : ℕ) (es : List Entered) → IsJournalOf w Whole ms k es → (e : Entered) × (es ≡ journal w k ms ++ e ∷ []) × (e.stamp.event ≡ suc (length ms))
@@ -208,9 +209,6 @@ ended-ranges at s mid new f shows air gone has =
 -- ---- what is shown at the end
 
 -- each node has told something then
-length-told : (l : Log) → length (journal_of l) ≡ length l.entries
-length-told l = length-map l.entries (λ (e : _). record { stamp = e.stamp; told = journal_entry l e.entry })
-
 -- each node told something behind what is gone
 pub some-told : (w : World) (ms : List Moment) (at : Stamp) (olds news : List Mote) (nodes : ℕ) → length olds ≡ nodes → ((k : ℕ) → k < nodes → IsSomeAnd (slice_get olds k) (IsMoteAfter w ms k)) → AreAtHand olds → ShowStores at (length olds) olds news
     → ((k : ℕ) (l : Log) → k < length (mote_logs news) → IsJournalOf w Whole ms k (journal_of (get_or (mote_logs news) k l))) → All (λ (m : Mote). m.node.gone.entries < length m.node.log.entries) news
@@ -224,10 +222,10 @@ some-told w ms at olds news nodes count each hand shows journals k m low =
     let more : length (journal_of (get_or (mote_logs news) k l)) ≡ length (journal w k ms ++ last.0 ∷ []) = ap length last.1 in
     let sum = length-append (journal w k ms) (last.0 ∷ []) in
     let one : length (last.0 ∷ []) ≡ 1 = refl in
-    let told = length-told (get_or (mote_logs news) k l) in
+    let told = long-journal (get_or (mote_logs news) k l) in
     let same : length (get_or (mote_logs news) k l).entries ≡ length l.entries = ap (λ (y : Log). length y.entries) (log-at news k l m low) in
     let before = ap length (some-at (IsMoteAfter w ms k) olds k x old_low (each k (omega (arith, old_low, count)))).journal in
-    let old_told = length-told (get_or olds k x).node.log in
+    let old_told = long-journal (get_or olds k x).node.log in
     let within = hand k x old_low in
     let gone : (get_or news k m).node.gone.entries ≡ (get_or olds k x).node.gone.entries
     = ap (λ (g : Gone). g.entries) (shows.each k (get_or olds k x) (get_or news k m) old_low (slice_get-get_or olds k x old_low) (slice_get-get_or news k m low)).tells.gone in

@@ -4,6 +4,7 @@ use Rattle.std.specs.Prelude.{slice_get, unwrap_or}
 use Rattle.std.specs.List.{AllZip}
 use Rattle.std.proofs.Math.Seq.{drop-cons, set-append_seam}
 use Rattle.std.proofs.lemmas.Option.{slice_get-get_or}
+use Rattle.std.proofs.lemmas.List.Elements.{length_all_zip}
 use Rattle.arrayvec.specs.ArrayVec.{ArrayVec}
 use Rattle.mate_num.specs.declared.store.Store.{Store}
 use Rattle.mate_journal.specs.Log.{Log, IsSameLog}
@@ -30,10 +31,7 @@ all-then (x ∷ xs) (y ∷ ys) [] f g = absurd g
 all-then (x ∷ xs) (y ∷ ys) (z ∷ zs) f g = (same-then x y z f.0 g.0, all-then xs ys zs f.1 g.1)
 
 pub all-long : (xs ys : List Log) → AllZip IsSameLog xs ys → length xs ≡ length ys
-all-long [] [] all = refl
-all-long [] (y ∷ ys) all = absurd all
-all-long (x ∷ xs) [] all = absurd all
-all-long (x ∷ xs) (y ∷ ys) all = ap suc (all-long xs ys all.1)
+all-long xs ys all = length_all_zip IsSameLog xs ys all
 
 -- one in place of another on both sides
 pub all-set : (xs ys : List Log) (k : ℕ) (x y : Log) → AllZip IsSameLog xs ys → IsSameLog x y → AllZip IsSameLog (set xs k x) (set ys k y)

@@ -21,6 +21,7 @@ use Rattle.mate_journal.specs.declared.air.Aired.{Aired}
 use Rattle.mate_journal.specs.declared.entry.Entry.{Entry}
 use Rattle.mate_journal.specs.declared.entry.Entry.TheVariants as entry
 use Rattle.mate_journal.specs.declared.entry.Stamped.{Stamped}
+use Rattle.report_reading.proofs.TripLemmas.{zip-sym}
 use Rattle.radio_sim.specs.Radio.{Ether}
 use Rattle.world_pieces.specs.Records.{HasLog, IsEmptyRecord, IsSameRecord, MayAdd, HasAdded, HaveRoom, HasRoomFor, OthersStay}
 use Rattle.world_pieces.specs.declared.record.Record.{Record}
@@ -41,12 +42,6 @@ use Rattle.sim_run.proofs.KeepingLemmas.{alike}
 use Rattle.world_pieces.specs.Recording.{IsRecordOf, IsRecordBefore, HasStoreBehind, HaveStoresBehind, IsRecorded, IsRecordedBefore, AreStoresBefore, StaysRecorded}
 
 -- ---- lists of logs that are the same but for their room
-
-pub all-back : (xs ys : List Log) → AllZip IsSameLog xs ys → AllZip IsSameLog ys xs
-all-back [] [] all = tt
-all-back [] (y ∷ ys) all = absurd all
-all-back (x ∷ xs) [] all = absurd all
-all-back (x ∷ xs) (y ∷ ys) all = (record { entries = sym all.0.entries; images = sym all.0.images; stores = sym all.0.stores }, all-back xs ys all.1)
 
 all-places : (xs ys : List Log) → length xs ≡ length ys → ((k : ℕ) (a b : Log) → slice_get xs k ≡ Some a → slice_get ys k ≡ Some b → IsSameLog a b) → AllZip IsSameLog xs ys
 all-places [] [] long each = tt
@@ -120,7 +115,7 @@ forgotten-logs olds news f = all-places (mote_logs news) (mote_logs olds) (long-
 
 record-as : (r : Record) (logs logs' : List Log) (air air' : List Aired) → AllZip IsSameLog logs' logs → air' ≡ air → IsRecordOf r logs air → IsRecordOf r logs' air'
 record-as r logs logs' air air' same is of = record {
-  logs = all-then r.logs.items logs logs' of.logs (all-back logs' logs same);
+  logs = all-then r.logs.items logs logs' of.logs (zip-sym logs' logs same);
   air = of.air ∙ sym is;
   places = of.places ∙ sym (all-long logs' logs same);
 }
@@ -211,7 +206,7 @@ module _ (r : Record) (old mid new : Simulation) (node number : ℕ) (go : LetsG
         gone = front-gone;
         goes_on = adds.goes_on;
         logs = subst (λ (ls : List Log). AllZip IsSameLog r.logs.items ls) (sym back)
-            (all-then r.logs.items (mote_logs old.motes.items) (mote_logs mid.motes.items) of.logs (all-back (mote_logs mid.motes.items) (mote_logs old.motes.items) (go-logs old mid node go)));
+            (all-then r.logs.items (mote_logs old.motes.items) (mote_logs mid.motes.items) of.logs (zip-sym (mote_logs mid.motes.items) (mote_logs old.motes.items) (go-logs old mid node go)));
         air = air-on;
         places = of.places ∙ long-logs old.motes.items ∙ sym (length-set old.motes.items node go.after) ∙ sym (ap length go.motes) ∙ sym long;
       } where
@@ -310,7 +305,7 @@ few-more a b on na nb one =
           let q = length-below m in
           omega (arith, sum, long, p, q)
 
-long-journal : (l : Log) → length (journal_of l) ≡ length l.entries
+pub long-journal : (l : Log) → length (journal_of l) ≡ length l.entries
 long-journal l = length-map l.entries (λ (e : Stamped). let v : Entered = record { stamp = e.stamp; told = journal_entry l e.entry } in v)
 
 -- each node has its store at hand, behind the log that it had

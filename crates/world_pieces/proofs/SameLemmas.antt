@@ -13,12 +13,12 @@ use Rattle.mate_journal.specs.declared.report.Report.{Report}
 use Rattle.journal_laws.proofs.GrowthLemmas.{same-ranges}
 use Rattle.report_reading.specs.Parts.{IsSameReport}
 use Rattle.report_reading.proofs.BackLemmas.{all_lines_same, text_same}
-use Rattle.report_text.specs.Text.{air_line, entry_line, entry_lines, event_lines}
-use Rattle.mate_journal.specs.declared.entry.Stamped.{Stamped}
+use Rattle.report_text.specs.Text.{air_line, entry_lines, event_lines}
 use Rattle.world_pieces.proofs.RecordLemmas.{all-long}
 use Rattle.report_summary.specs.Writing.{OfRun, IsWrittenPart, IsWrittenShort, IsNothingRun, WritesReport, last_event, lines_before, written_text}
 use Rattle.report_summary.specs.declared.write_fault.WriteFault.{WriteFault}
 use Rattle.report_summary.specs.declared.write_fault.WriteFault.TheVariants.{LogFull, NoMemory, Sink}
+use Rattle.report_reading.proofs.BackLemmas.{node_lines-same}
 use Rattle.vm_desc.specs.declared.description.Description.{Description}
 use Rattle.world_rules.specs.World.{World}
 use Rattle.world_rules.specs.State.{Moment}
@@ -75,19 +75,11 @@ no-nodes (x ∷ xs) (y ∷ ys) all none = absurd (some-none none) where
   some-none : y ∷ ys ≡ [] → ⊥
   some-none e = cc
 
-node-lines : (d : Description) (event node : ℕ) (xs ys : List Log) → AllZip IsSameLog xs ys → entry_lines d event node xs ≡ entry_lines d event node ys
-node-lines d event node [] [] all = refl
-node-lines d event node [] (y ∷ ys) all = absurd all
-node-lines d event node (x ∷ xs) [] all = absurd all
-node-lines d event node (x ∷ xs) (y ∷ ys) all =
-    let own : Log → List ℕ = λ l. flat_map (entry_line d l node) (filter (λ (e : Stamped). e.stamp.event == event) l.entries) in
-    ap (λ (l : Log). own l ++ entry_lines d event (suc node) xs) (alike x y all.0) ∙ ap (λ (bs : List ℕ). own y ++ bs) (node-lines d event (suc node) xs ys all.1)
-
 events-lines : (d : Description) (a b : Report) → IsSameReport a b → (events : List ℕ) → flat_map (event_lines d a) events ≡ flat_map (event_lines d b) events
 events-lines d a b same [] = refl
 events-lines d a b same (k ∷ events) =
     let air : List Aired → List ℕ = λ xs. flat_map air_line (filter (λ (x : Aired). x.stamp.event == k) xs) in
-    let one : event_lines d a k ≡ event_lines d b k = ap (λ (xs : List Aired). air xs ++ entry_lines d k 0 a.nodes) same.air ∙ ap (λ (bs : List ℕ). air b.air ++ bs) (node-lines d k 0 a.nodes b.nodes same.nodes) in
+    let one : event_lines d a k ≡ event_lines d b k = ap (λ (xs : List Aired). air xs ++ entry_lines d k 0 a.nodes) same.air ∙ ap (λ (bs : List ℕ). air b.air ++ bs) (node_lines-same d k 0 a.nodes b.nodes same.nodes) in
     ap (λ (bs : List ℕ). bs ++ flat_map (event_lines d a) events) one ∙ ap (λ (bs : List ℕ). event_lines d b k ++ bs) (events-lines d a b same events)
 
 module _ (d : Description) (Is Has : OfRun) (out out' : Option (List ℕ)) (a b : Report) (same : IsSameReport a b) (has : (how : RunEnd) → Is how b → Has how a) where

@@ -5,6 +5,7 @@ use Rattle.mate_journal.specs.Log.{Log, IsSameLog, GoesOn}
 use Rattle.mate_journal.specs.OpenLog.{gone_of}
 use Rattle.mate_journal.specs.Tidy.{NumbersInOrder}
 use Rattle.mate_journal.specs.declared.air.Aired.{Aired}
+use Rattle.mate_journal.specs.declared.report.TheConstants.{ENTRIES_MAX}
 use Rattle.world_pieces.specs.Records.{HasLog, IsSameRecord}
 use Rattle.world_pieces.specs.declared.record.Record.{Record}
 use Rattle.sim_mote.specs.declared.mote.Mote.{Mote}
@@ -35,7 +36,7 @@ pub record HasStoreBehind (own : Log) (m : Mote) : Type 0 where
   pub gone : m.node.gone ≡ gone_of front
   pub goes_on : GoesOn front m.node.log
   pub numbered : NumbersInOrder m.node.log
-  pub few : length m.node.log.entries < 4000000000
+  pub few : length m.node.log.entries < ENTRIES_MAX
   pub small : length goes_on.entries + length goes_on.images + length goes_on.stores ≤ 2
 
 -- so it is of each node

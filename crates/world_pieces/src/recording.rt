@@ -8,12 +8,10 @@ ghost use Rattle.world_pieces.specs.Recording.{IsRecordOf, IsRecordBefore, HaveS
 ghost use Rattle.world_pieces.specs.Recording.{StaysRecorded, has_record};
 
 use crate::record::Record;
+use mate_journal::ENTRIES_MAX;
 use mate_num::NoMemory;
 use sim_mote::Mote;
 use sim_run::Simulation;
-
-/// How many entries a node's log has at most in a record.
-const ENTRIES_MAX: usize = 4000000000;
 
 /// Records what a node and the radio have at hand, if a record is kept. `NoMemory` leaves it as it was, but for its room.
 pub fn record_event(

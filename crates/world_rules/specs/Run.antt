@@ -4,6 +4,7 @@ use Rattle.std.specs.List.{range_with_len}
 use Rattle.arrayvec.specs.ArrayVec.{ArrayVec}
 use Rattle.mate_num.specs.declared.id.HandlerId.{HandlerId}
 use Rattle.mate_num.specs.declared.call.Stamp.{Stamp}
+use Rattle.mate_num.specs.Lists.{EachOver}
 use Rattle.mate_journal.specs.Machine.{Machine}
 use Rattle.mate_journal.specs.Journal.{JournalEntry, Answered, NodeState, state_after_entries}
 use Rattle.mate_journal.specs.Journal.{TimedEntry as Entered}
@@ -60,8 +61,7 @@ pub record MayCome (w : World) (s : WorldState) (m : Moment) : Type 0 where
 
 -- these events came, the latest first
 abbrev pub HaveCome : World → List Moment → Type 0
-HaveCome w [] = Unit {0}
-HaveCome w (m ∷ before) = HaveCome w before × MayCome w (state w before) m
+HaveCome w = EachOver (λ m before. MayCome w (state w before) m)
 
 -- nothing is due any more up to this time
 abbrev pub IsDone : WorldState → ℕ → Type 0

@@ -1,22 +1,23 @@
 -- What a node holds along its journal in a run: held versions never fall.
-use Rattle.std.proofs.Common.{◌≡◌, ◌<◌, ◌≤◌, ℕ, List, [], ◌∷◌, ◌++◌, map, Option, Some, None, refl, sym, ◌∙◌, ap, subst, arith, inl, inr, append_assoc}
+use Rattle.std.proofs.Common.{◌≡◌, ◌<◌, ◌≤◌, ℕ, List, [], ◌∷◌, ◌++◌, map, Some, refl, sym, ◌∙◌, ap, subst, arith, inl, inr, append_assoc}
 use Rattle.std.specs.Prelude.{◌==◌, if◌then◌else◌, Bool}
 use Rattle.std.proofs.lemmas.Bool.Decides.{eqb_tells}
 use Rattle.mate_num.specs.declared.call.Stamp.{Stamp}
 use Rattle.mate_num.specs.declared.id.HandlerId.{HandlerId}
+use Rattle.mate_num.proofs.ListLemmas.{along-parts}
 use Rattle.mate_journal.specs.Machine.{Machine, HeldProgram}
-use Rattle.mate_journal.specs.Journal.{JournalEntry, Posted, Dropped, Started, Asked, Answered, Ended, Installed, Reset, Seen, Void, NodeState, first_state, next_state, state_after_entries, state_after_all, held, AtEachEntry, AtEachPlace}
+use Rattle.mate_journal.specs.Journal.{JournalEntry, Installed, NodeState, first_state, next_state, state_after_all, held, AtEachEntry, AtEachPlace}
 use Rattle.mate_journal.specs.Journal.{TimedEntry as Entered}
-use Rattle.mate_journal.specs.Pace.{Pace, paced_all}
-use Rattle.mate_journal.specs.Turns.{Settles}
-use Rattle.mate_journal.specs.NodeScript.{RunEnd, Whole, Full, Cut}
+use Rattle.mate_journal.specs.NodeScript.{RunEnd}
 use Rattle.world_rules.specs.World.{World}
-use Rattle.world_rules.specs.Effect.{Deed, Nothing, Installing, Posting, Answering, Showing, Resetting, event_node}
-use Rattle.world_rules.specs.State.{Moment, node_at, effect_at, state}
-use Rattle.world_rules.specs.Run.{FirstThen, DeedMakes, HaveCome, EndsJournal, IsJournalOf, stamp_of, journal}
-use Rattle.world_laws.proofs.Journals.{journal-here, journal-other, reads_journals}
+use Rattle.world_rules.specs.Effect.{event_node}
+use Rattle.world_rules.specs.State.{Moment}
+use Rattle.world_rules.specs.Run.{HaveCome, IsJournalOf, stamp_of, journal}
+use Rattle.world_laws.proofs.Journals.{journal-here}
 use Rattle.world_laws.specs.Installs.{TellsInstall}
-use Rattle.world_laws.proofs.Agree.{NoInstall, NoneInstall, by_made, occasions-none, installs-rest, settles-none, held-of, held-is}
+use Rattle.journal_laws.proofs.Plain.{NoInstall}
+use Rattle.world_laws.proofs.Agree.{held-of, held-is}
+use Rattle.world_laws.proofs.JournalRules.{journal-along}
 
 -- ---- one entry
 
@@ -51,77 +52,18 @@ holds-installed m r p h is = subst (λ (g : HandlerId). held (next_state m r (In
     | inr other ↦ absurd (other.1 refl)
   ]
 
--- ---- what one event tells
-
-abbrev Climbs : Machine → NodeState → List JournalEntry → Type 0
-Climbs m r [] = Unit {0}
-Climbs m r (t ∷ told) = NoFall m r t × Climbs m (next_state m r t) told
-
-climbs-none : (m : Machine) (r : NodeState) (told : List JournalEntry) → NoneInstall told → Climbs m r told
-climbs-none m r [] none = tt
-climbs-none m r (t ∷ told) none = (none-falls m r t none.0, climbs-none m (next_state m r t) told none.1)
-
-climbs-append : (m : Machine) (r : NodeState) (xs ys : List JournalEntry) → Climbs m r xs → Climbs m (state_after_entries m r xs) ys → Climbs m r (xs ++ ys)
-climbs-append m r [] ys first more = more
-climbs-append m r (x ∷ xs) ys first more = (first.0, climbs-append m (next_state m r x) xs ys first.1 more)
-
-deed-climbs : (m : Machine) (r : NodeState) (q : Pace) (d : Deed) (told : List JournalEntry) → DeedMakes m d r q told → Climbs m r told
-deed-climbs m r q Nothing told is = climbs-none m r told (by_made told [] is tt)
-deed-climbs m r q (Posting hs payload) told is = climbs-none m r told (occasions-none m payload hs r q told is)
-deed-climbs m r q (Answering inv value) told is = climbs-none m r told (by_made told _ is (tt, tt))
-deed-climbs m r q Showing told is = climbs-none m r told (by_made told _ is.made (tt, tt))
-deed-climbs m r q Resetting told is = climbs-none m r told (by_made told _ is.made (tt, (tt, tt)))
-deed-climbs m r q (Installing p) told is = subst (λ (ts : List JournalEntry). Climbs m r ts) (sym is.made)
-    (none-falls m r (Seen is.seen) tt, (newer-falls m r p is.newer, climbs-none m (next_state m r (Installed p)) is.rest (installs-rest m r q p told is)))
-
-event-climbs : (m : Machine) (r : NodeState) (q : Pace) (d : Deed) (told : List JournalEntry) (after : Pace) → FirstThen m (DeedMakes m d) (λ s p xs. Settles m s p xs after) r q told → Climbs m r told
-event-climbs m r q d told after both = subst (λ (ts : List JournalEntry). Climbs m r ts) (sym both.made)
-    (climbs-append m r both.front both.rest (deed-climbs m r q d both.front both.by_first)
-    (climbs-none m (state_after_entries m r both.front) both.rest (settles-none m (state_after_entries m r both.front) (paced_all q both.front) both.rest after both.by_second)))
-
--- ---- journals
+-- ---- a whole journal
 
 abbrev stamped : Stamp → List JournalEntry → List Entered
 stamped at told = map (λ (t : JournalEntry). record { stamp = at; told = t }) told
 
-climbs-stamped : (m : Machine) (r : NodeState) (at : Stamp) (told : List JournalEntry) → Climbs m r told → AtEachEntry (NoFall m) m r (stamped at told)
-climbs-stamped m r at [] climbs = tt
-climbs-stamped m r at (t ∷ told) climbs = (climbs.0, climbs-stamped m (next_state m r t) at told climbs.1)
-
-entries-append : (m : Machine) (r : NodeState) (xs ys : List Entered) → AtEachEntry (NoFall m) m r xs → AtEachEntry (NoFall m) m (state_after_all m r xs) ys → AtEachEntry (NoFall m) m r (xs ++ ys)
-entries-append m r [] ys first more = more
-entries-append m r (x ∷ xs) ys first more = (first.0, entries-append m (next_state m r x.told) xs ys first.1 more)
-
-run-climbs : (w : World) (k : ℕ) (ms : List Moment) → HaveCome w ms → AtEachEntry (NoFall w.machine) w.machine (first_state w.machine) (journal w k ms)
-run-climbs w k [] come = tt
-run-climbs w k (m ∷ before) come = elim (eqb_tells k (event_node w m.cause)) [
-  | inl same ↦ subst (λ (j : ℕ). AtEachEntry (NoFall w.machine) w.machine (first_state w.machine) (journal w j (m ∷ before))) (sym same.1) (here (run-climbs w (event_node w m.cause) before come.0))
-  | inr other ↦ subst (λ (es : List Entered). AtEachEntry (NoFall w.machine) w.machine (first_state w.machine) es) (sym (journal-other w k m before other.1)) (run-climbs w k before come.0)
-] where
-  own : Climbs w.machine (node_at w (state w before) m).reading m.told
-  own = event-climbs w.machine (node_at w (state w before) m).reading (node_at w (state w before) m).pace (effect_at w (state w before) m).deed m.told m.pace come.1.makes
-
-  here : AtEachEntry (NoFall w.machine) w.machine (first_state w.machine) (journal w (event_node w m.cause) before) → AtEachEntry (NoFall w.machine) w.machine (first_state w.machine) (journal w (event_node w m.cause) (m ∷ before))
-  here earlier = subst (λ (es : List Entered). AtEachEntry (NoFall w.machine) w.machine (first_state w.machine) es) (sym (journal-here w m before))
-      (entries-append w.machine (first_state w.machine) (journal w (event_node w m.cause) before) (stamped (stamp_of m before) m.told) earlier
-      (subst (λ (r : NodeState). AtEachEntry (NoFall w.machine) w.machine r (stamped (stamp_of m before) m.told)) (reads_journals w (event_node w m.cause) before)
-      (climbs-stamped w.machine (node_at w (state w before) m).reading (stamp_of m before) m.told own)))
-
-ends-climb : (w : World) (k : ℕ) (how : RunEnd) (ms : List Moment) (last : List Entered) (r : NodeState) → EndsJournal w k how ms last → AtEachEntry (NoFall w.machine) w.machine r last
-ends-climb w k Whole ms last r ends = subst (λ (es : List Entered). AtEachEntry (NoFall w.machine) w.machine r es) (sym ends.stamped)
-    (climbs-stamped w.machine r _ ends.told (climbs-none w.machine r ends.told (by_made ends.told _ ends.shown.made (tt, tt))))
-ends-climb w k Full ms last r ends = subst (λ (es : List Entered). AtEachEntry (NoFall w.machine) w.machine r es) (sym ends) tt
-ends-climb w k Cut ms last r ends = subst (λ (es : List Entered). AtEachEntry (NoFall w.machine) w.machine r es) (sym ends) tt
-
 -- along a node's whole journal no held version falls
 pub journal-climbs : (w : World) (how : RunEnd) (ms : List Moment) (k : ℕ) (es : List Entered) → HaveCome w ms → IsJournalOf w how ms k es → AtEachEntry (NoFall w.machine) w.machine (first_state w.machine) es
-journal-climbs w how ms k es come of = subst (λ (xs : List Entered). AtEachEntry (NoFall w.machine) w.machine (first_state w.machine) xs) (sym of.journal_is)
-    (entries-append w.machine (first_state w.machine) (journal w k ms) of.last (run-climbs w k ms come)
-    (ends-climb w k how ms of.last (state_after_all w.machine (first_state w.machine) (journal w k ms)) of.ends))
+journal-climbs w how ms k es come of =
+    journal-along (NoFall w.machine) (none-falls w.machine) w how ms k es (λ m before come p r deed newer. newer-falls w.machine r p newer) come of
 
 pub entries-behind : (m : Machine) (r : NodeState) (front : List Entered) (e : Entered) (rest : List Entered) → AtEachEntry (NoFall m) m r (front ++ e ∷ rest) → AtEachEntry (NoFall m) m (next_state m (state_after_all m r front) e.told) rest
-entries-behind m r [] e rest all = all.1
-entries-behind m r (x ∷ front) e rest all = entries-behind m (next_state m r x.told) front e rest all.1
+entries-behind m r front e rest all = (along-parts _ _ r front (e ∷ rest) all).1.1
 
 pub holds-on : (m : Machine) (h : HandlerId) (version : ℕ) (r : NodeState) (es : List Entered) → version ≤ held r h → AtEachEntry (NoFall m) m r es → AtEachPlace (λ (s : NodeState). version ≤ held s h) m r es
 holds-on m h version r [] first all = first

@@ -9,7 +9,7 @@ use Rattle.mate_num.specs.declared.id.FunId.{FunId}
 use Rattle.mate_journal.specs.Journal.{JournalEntry, Asked}
 use Rattle.mate_journal.specs.Pace.{no_pace}
 use Rattle.packet_codec.specs.declared.packet.Packet.{Packet}
-use Rattle.packet_codec.specs.declared.packet.Packet.TheVariants.{Vector, Status, Fragment, App}
+use Rattle.packet_codec.specs.declared.packet.Packet.TheVariants.{Vector, App}
 use Rattle.capsule_exchange.specs.Happenings.{Happening, held_version, asks_after}
 use Rattle.world_rules.specs.Cause.{Cause}
 use Rattle.world_rules.specs.Cause as event
@@ -19,7 +19,7 @@ use Rattle.world_rules.specs.State.{Moment, WorldState, Scheduled, of_interval, 
 use Rattle.world_rules.specs.Run.{IsNext, HaveCome}
 use Rattle.world_laws.specs.Packets.{SendsFor, TellsVersions, AsksFor, OwesFragment, IsMessage}
 use Rattle.mate_num.specs.Lists.{Among}
-use Rattle.mate_num.proofs.ListLemmas.{among-append, among-right, among-flat_map}
+use Rattle.mate_num.proofs.ListLemmas.{each-among, among-append, among-right, among-flat_map}
 use Rattle.world_laws.proofs.OfTime.{among-un_of_time, apart}
 use Rattle.world_laws.proofs.Due.{at, due-from, kind, Source, period, interval, delivery, pump, answer, source}
 use Rattle.world_laws.proofs.Happens.{Happens, nothing, injected, heard, completed, forgot, sent, happens}
@@ -53,11 +53,6 @@ held-fits w k h ms one programs come = elim (cases_lt 0 (held_version h ((state 
 
 -- ---- the packets of an event
 
-fit-among : (w : World) (ps : List Packet) → AreFitPackets w ps → EachFit w ps
-fit-among w [] fit p a = absurd a
-fit-among w (q ∷ ps) fit p (inl e) = subst (λ (x : Packet). IsFitPacket w x) e fit.0
-fit-among w (q ∷ ps) fit p (inr a) = fit-among w ps fit.1 p a
-
 -- a call's message is among the messages
 message-among : (w : World) (told : List JournalEntry) (t : JournalEntry) (p : Packet) → Among t told → message_in w t ≡ Some p → Among p (messages w told)
 message-among w [] t p a is = absurd a
@@ -85,7 +80,7 @@ sent-fit w ms s m node told got p a = by (packets_have_reasons w s m (place-of (
       asked-fit w ms (node_at w s m).exchange heard_it node came.0 came.1 p (among-get (asks_after (handlers w) heard_it (node_at w s m).exchange) i p stands)
   by (OwesFragment k slot cause next is) = subst (λ (x : Packet). IsFitPacket w x) (sym is) (owed-fit w ms (node_at w s m).exchange slot node next)
   by (IsMessage front rest n f args split sends is) =
-      subst (λ (x : Packet). IsFitPacket w x) (sym is) (fit-among w (messages w m.told) told (App args)
+      subst (λ (x : Packet). IsFitPacket w x) (sym is) (each-among (IsFitPacket w) (messages w m.told) (App args) told
       (message-among w m.told (Asked n f args) (App args) (subst (λ (ts : List JournalEntry). Among (Asked n f args) ts) (sym split) (among-right (Asked n f args) front (Asked n f args ∷ rest) (inl refl))) (message-is w n f args sends)))
 
 -- ---- the world
@@ -101,11 +96,11 @@ heard-step w hs c e how got old = by how where
 
   by : Happens w hs c e → AreFitHeard w (e.happened ++ hs)
   by (nothing is) = subst Goal (sym is) old
-  by (injected x p from is deed) = subst Goal (sym is) old
+  by (injected x p from is deed) = subst Goal (sym is) (tt, old)
   by (heard j number packet cause is none) = subst Goal (sym is) (got j number packet cause, old)
-  by (completed j number packet p cause is deed complete same) = subst Goal (sym is) (got j number packet cause, old)
-  by (forgot is deed) = subst Goal (sym is) old
-  by (sent k slot cause is next) = subst Goal (sym is) old
+  by (completed j number packet p cause is deed complete same) = subst Goal (sym is) (tt, (got j number packet cause, old))
+  by (forgot is deed) = subst Goal (sym is) (tt, old)
+  by (sent k slot cause is next) = subst Goal (sym is) (tt, old)
 
 new-fit : (w : World) (s : WorldState) (m : Moment) (t j number : ℕ) (p : Packet) → EachFit w (packets_of w s m) → Source w s m (at t (event.Deliver j number p)) → IsFitPacket w p
 new-fit w s m t j number p each (period is later) = absurd (apart 6 1 refl is)

@@ -1,7 +1,6 @@
 -- What an event tells follows what was heard before, where the node's journal is well formed; and what such journals keep.
-use Rattle.std.proofs.Common.{◌≡◌, ◌<◌, ◌≤◌, ℕ, ◌+◌, List, [], ◌∷◌, map, refl, sym, ap, subst, arith, inl, inr}
+use Rattle.std.proofs.Common.{◌≡◌, ◌<◌, ◌≤◌, ℕ, ◌+◌, List, [], ◌∷◌, map, refl, sym, ap, subst, arith}
 use Rattle.std.specs.Prelude.{Option, Some, None, ◌==◌, if◌then◌else◌, slice_get}
-use Rattle.std.proofs.lemmas.Bool.Decides.{eqb_tells}
 use Rattle.mate_num.specs.declared.bounds.TheConstants.{CONTEXTS_MAX}
 use Rattle.vm_desc.specs.declared.description.Description.{Description}
 use Rattle.vm_desc.specs.declared.handler.Handler.{Handler}
@@ -9,48 +8,37 @@ use Rattle.vm_desc.specs.Contexts.{first_context}
 use Rattle.vm_desc.specs.Whole.{context_count}
 use Rattle.vm_desc.proofs.DescriptionLemmas.{bounds_of, first_context-within}
 use Rattle.std.proofs.lemmas.Option.{slice_get_within, get_or_from_slice_get}
-use Rattle.mate_num.specs.declared.call.Stamp.{Stamp}
-use Rattle.mate_journal.specs.Machine.{Machine, Meaning}
+use Rattle.mate_journal.specs.Machine.{Meaning}
 use Rattle.mate_journal.specs.Described.{machine_of, contexts_of}
 use Rattle.mate_journal.specs.Journal.{JournalEntry, TimedEntry, NodeState, first_state, next_state, state_after_all, AtEachEntry}
 use Rattle.mate_journal.specs.WellFormed.{MayFollow}
 use Rattle.journal_laws.specs.Waiting.{AreFollowing, HasFewContexts, WaitApart, WaitSmall}
 use Rattle.journal_laws.proofs.Staying.{numbered-after}
 use Rattle.journal_laws.proofs.WaitsApart.{apart-after, nothing_heard-apart, live-waits_apart, small-after, nothing_heard-small, live-waits_small}
-use Rattle.journal_laws.proofs.Append.{AtEachEntry-front, AtEachEntry-back}
+use Rattle.mate_num.proofs.ListLemmas.{along-parts, along-unmap}
 use Rattle.journal_laws.proofs.Apart.{IsNumbered}
 use Rattle.world_rules.specs.World.{World}
 use Rattle.world_rules.specs.Effect.{event_node}
 use Rattle.world_rules.specs.State.{Moment, node_at, state}
 use Rattle.world_rules.specs.Run.{stamp_of, journal}
-use Rattle.world_laws.proofs.Journals.{reads_journals}
+use Rattle.world_laws.proofs.Journals.{journal-here, reads_journals}
 
 -- the entries of a node's journal follow one another
 abbrev pub IsFollowed : World → ℕ → List Moment → Type 0
 IsFollowed w k ms = AtEachEntry (MayFollow w.machine) w.machine (first_state w.machine) (journal w k ms)
 
 pub followed-before : (w : World) (k : ℕ) (m : Moment) (before : List Moment) → IsFollowed w k (m ∷ before) → IsFollowed w k before
-followed-before w k m before follow =
-    AtEachEntry-front (MayFollow w.machine) w.machine (first_state w.machine) (journal w k before)
-    (if k == event_node w m.cause then map (λ (t : JournalEntry). record { stamp = stamp_of m before; told = t }) m.told else []) follow
-
-stamped-following : (m : Machine) (r : NodeState) (at : Stamp) (told : List JournalEntry) → AtEachEntry (MayFollow m) m r (map (λ (t : JournalEntry). record { stamp = at; told = t }) told) → AreFollowing m r told
-stamped-following m r at [] follow = tt
-stamped-following m r at (t ∷ told) follow = (follow.0, stamped-following m (next_state m r t) at told follow.1)
+followed-before w k m before follow = (along-parts _ _ (first_state w.machine) (journal w k before)
+    (if k == event_node w m.cause then map (λ (t : JournalEntry). record { stamp = stamp_of m before; told = t }) m.told else []) follow).0
 
 pub followed-told : (w : World) (m : Moment) (before : List Moment) → IsFollowed w (event_node w m.cause) (m ∷ before) → AreFollowing w.machine (node_at w (state w before) m).reading m.told
-followed-told w m before follow = stamped-following w.machine (node_at w (state w before) m).reading (stamp_of m before) m.told
-    (subst (λ (r : NodeState). AtEachEntry (MayFollow w.machine) w.machine r own) (sym (reads_journals w (event_node w m.cause) before)) (elim (eqb_tells (event_node w m.cause) (event_node w m.cause)) [
-      | inl same ↦ rw same.0 at back
-      | inr other ↦ absurd (other.1 refl)
-    ])) where
-      own : List TimedEntry
-      own = map (λ (t : JournalEntry). record { stamp = stamp_of m before; told = t }) m.told
-
-      back : AtEachEntry (MayFollow w.machine) w.machine (state_after_all w.machine (first_state w.machine) (journal w (event_node w m.cause) before))
-          (if event_node w m.cause == event_node w m.cause then map (λ (t : JournalEntry). record { stamp = stamp_of m before; told = t }) m.told else [])
-      back = AtEachEntry-back (MayFollow w.machine) w.machine (first_state w.machine) (journal w (event_node w m.cause) before)
-          (if event_node w m.cause == event_node w m.cause then map (λ (t : JournalEntry). record { stamp = stamp_of m before; told = t }) m.told else []) follow
+followed-told w m before follow =
+    let stamped : JournalEntry → TimedEntry = λ t. record { stamp = stamp_of m before; told = t } in
+    let i = event_node w m.cause in
+    let all = subst (λ (es : List TimedEntry). AtEachEntry (MayFollow w.machine) w.machine (first_state w.machine) es) (journal-here w m before) follow in
+    along-unmap stamped (λ r e. MayFollow w.machine r e.told) (λ r e. next_state w.machine r e.told) _ m.told
+    (subst (λ (r : NodeState). AtEachEntry (MayFollow w.machine) w.machine r (map stamped m.told)) (sym (reads_journals w i before))
+    (along-parts _ _ (first_state w.machine) (journal w i before) (map stamped m.told) all).1)
 
 -- ---- along a journal
 

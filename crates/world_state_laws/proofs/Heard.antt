@@ -4,7 +4,7 @@ use Rattle.std.specs.Prelude.{Option, Some, None, ◌==◌, if◌then◌else◌,
 use Rattle.std.specs.List.{filter, find, range_with_len}
 use Rattle.std.specs.Option.{option_or}
 use Rattle.std.proofs.lemmas.Bool.{cases_lt, ltb-true}
-use Rattle.std.proofs.lemmas.List.Elements.{All-head, All-tail, All-map}
+use Rattle.std.proofs.lemmas.List.Elements.{All-head, All-tail, All-map, recursion_from_All}
 use Rattle.std.proofs.lemmas.List.FromFn.{length-map-range_with_len}
 use Rattle.arrayvec.specs.ArrayVec.{ArrayVec}
 use Rattle.vm_desc.proofs.DescriptionLemmas.{bounds_of}
@@ -28,8 +28,8 @@ use Rattle.capsule_exchange.proofs.KnowledgeLemmas.{vector_learned}
 use Rattle.capsule_exchange.proofs.AnswerLemmas.{vector_asks, asks_right}
 use Rattle.world_rules.specs.World.{World, handlers}
 use Rattle.world_rules.specs.State.{Moment}
-use Rattle.mate_num.specs.Lists.{Among}
-use Rattle.mate_num.proofs.ListLemmas.{among-append}
+use Rattle.mate_num.specs.Lists.{Each, Among}
+use Rattle.mate_num.proofs.ListLemmas.{each-among, among-append}
 use Rattle.world_laws.proofs.Points.{among-filter_map}
 use Rattle.world_laws.specs.Versions.{InjectsAt, IsOneImage}
 use Rattle.world_laws.proofs.Injected.{HoldsInjected, marked-within}
@@ -47,13 +47,13 @@ pub record IsFitProgram (w : World) (p : HeldProgram) : Type 0 where
 abbrev pub AreProgramsFit : World → Type 0
 AreProgramsFit w = (i : ℕ) (p : HeldProgram) → InjectsAt w i p → IsFitProgram w p
 
+abbrev IsFitHeard : World → Happening → Type 0
+IsFitHeard w (Hears packet) = IsFitPacket w packet
+IsFitHeard w _ = Unit {0}
+
 -- each packet that was heard is fit
 abbrev pub AreFitHeard : World → List Happening → Type 0
-AreFitHeard w [] = Unit {0}
-AreFitHeard w (Hears packet ∷ hs) = IsFitPacket w packet × AreFitHeard w hs
-AreFitHeard w (Sends slot ∷ hs) = AreFitHeard w hs
-AreFitHeard w (Installs g version image ∷ hs) = AreFitHeard w hs
-AreFitHeard w (Forgets ∷ hs) = AreFitHeard w hs
+AreFitHeard w = Each (IsFitHeard w)
 
 -- what a node's packets rest on
 pub record IsFitNode (w : World) (ms : List Moment) (hs : List Happening) : Type 0 where
@@ -77,8 +77,8 @@ since-fit w h (Hears packet ∷ hs) fit p a = elim (among-append p (heard_since 
   | inr (inl e) ↦ subst (λ (x : Packet). IsFitPacket w x) e fit.0
   | inr (inr none) ↦ absurd none
 ]
-since-fit w h (Sends slot ∷ hs) fit p a = since-fit w h hs fit p a
-since-fit w h (Installs g version image ∷ hs) fit p a = by (g == h) (since-fit w h hs fit p) a where
+since-fit w h (Sends slot ∷ hs) fit p a = since-fit w h hs fit.1 p a
+since-fit w h (Installs g version image ∷ hs) fit p a = by (g == h) (since-fit w h hs fit.1 p) a where
   by : (b : Bool) → (Among p (heard_since h hs) → IsFitPacket w p) → Among p (if b then [] else heard_since h hs) → IsFitPacket w p
   by true since none = absurd none
   by false since old = since old
@@ -157,11 +157,6 @@ each-ask p hs [] a = absurd a
 each-ask p hs (h ∷ hds) (inl e) = (h, e)
 each-ask p hs (h ∷ hds) (inr a) = each-ask p hs hds a
 
-pub all-among : {X : Type 0} (P : X → Type 0) (xs : List X) (x : X) → All P xs → Among x xs → P x
-all-among P [] x all a = absurd a
-all-among P (y ∷ xs) x all (inl e) = subst P e (All-head P y xs all)
-all-among P (y ∷ xs) x all (inr a) = all-among P xs x (All-tail P y xs all) a
-
 pub asks-fit : (w : World) (ms : List Moment) (versions : ArrayVec ℕ) (before : List Happening) → IsFitNode w ms before → IsInjectedNode w ms (Hears (Vector versions) ∷ before) → IsFitPacket w (Vector versions)
     → EachFit w (asks_after (handlers w) (Vector versions) before)
 asks-fit w ms versions before node injected got p a = by (each-ask p hs (filter (λ h. nat_lt (held_version h before) (slice_index versions.items h)) (range_with_len 0 (handlers w))) a) where
@@ -187,7 +182,7 @@ asks-fit w ms versions before node injected got p a = by (each-ask p hs (filter 
       (asks_right old new versions asks refl sound refl (handlers w) before refl (λ h below. open-node w ms h before node.one (λ i q injects. (node.programs i q injects).low) node.injected (node.none h)))
 
   right : IsRightPacket (handlers w) p
-  right = all-among (IsRightPacket (handlers w)) (asks_after (handlers w) (Vector versions) before) p rights a
+  right = each-among (IsRightPacket (handlers w)) (asks_after (handlers w) (Vector versions) before) p (recursion_from_All _ _ rights) a
 
   by : (h : ℕ) × (ask_for (Hears (Vector versions) ∷ before) h ≡ p) → IsFitPacket w p
   by found = subst (λ (x : Packet). IsFitPacket w x) found.1 (fit (subst (λ (x : Packet). IsRightPacket (handlers w) x) (sym found.1) right)) where

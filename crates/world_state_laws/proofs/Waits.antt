@@ -1,36 +1,26 @@
 -- Who waits, and who calls, along what an event tells in a well-formed journal.
-use Rattle.std.proofs.Common.{◌≡◌, ◌≢◌, ◌≤◌, ℕ, ◌+◌, false, List, [], ◌∷◌, ◌++◌, refl, sym, ◌∙◌, ap, subst, arith, inl, inr, ◌⊎◌}
+use Rattle.std.proofs.Common.{append_assoc, ◌≡◌, ◌≢◌, ◌≤◌, ℕ, ◌+◌, false, List, [], ◌∷◌, ◌++◌, refl, sym, ◌∙◌, ap, subst, arith, inl, inr, ◌⊎◌}
 use Rattle.std.specs.Prelude.{ℤ, ◌==◌, if◌then◌else◌}
 use Rattle.std.proofs.lemmas.Bool.Decides.{eqb_tells}
-use Rattle.std.proofs.lemmas.Bool.{cases_Bool, MatchBool-at_true, MatchBool-at_false}
 use Rattle.arrayvec.specs.ArrayVec.{ArrayVec}
-use Rattle.mate_num.specs.declared.id.HandlerId.{HandlerId}
 use Rattle.mate_num.specs.declared.id.FunId.{FunId}
 use Rattle.mate_num.specs.declared.store.Store.{Store}
+use Rattle.mate_num.proofs.ListLemmas.{each-append, along-parts}
 use Rattle.mate_journal.specs.Machine.{Machine}
-use Rattle.mate_journal.specs.Journal.{JournalEntry, Posted, Dropped, Started, Asked, Answered, Ended, Installed, Reset, Seen, Void, Ready, Waiting, NodeState, next_state, state_after_entries}
+use Rattle.mate_journal.specs.Journal.{JournalEntry, Asked, Answered, Installed, Reset, Seen, Ready, Waiting, NodeState, next_state, state_after_entries}
 use Rattle.mate_journal.specs.WellFormed.{IsWaiting, MayFollow}
-use Rattle.mate_journal.specs.NodeScript.{Occasion}
 use Rattle.mate_journal.specs.Pace.{Pace, paced_all}
 use Rattle.mate_journal.specs.Turns.{Settles}
+use Rattle.mate_journal.proofs.JournalLemmas.{heard_told-append}
 use Rattle.journal_laws.specs.Waiting.{AreFollowing, ends_wait}
-use Rattle.journal_laws.proofs.Staying.{waits-same, goes_on-told, follow-front, follow-back}
-use Rattle.journal_laws.proofs.Settling.{IsOfTurn, AreOfTurns, starts-of_turns, settles-of_turns}
+use Rattle.journal_laws.proofs.Staying.{waits-same, goes_on-told}
+use Rattle.journal_laws.proofs.Settling.{settles-of_turns}
+use Rattle.journal_laws.proofs.Plain.{IsPlain, ArePlain, turns-plain, installs-plain}
 use Rattle.journal_laws.proofs.Moves.{asked-Moves, answered-Moves}
 use Rattle.journal_laws.proofs.Apart.{IsNumbered, numbered-step}
 use Rattle.world_rules.specs.Effect.{Deed, Nothing, Installing, Posting, Answering, Showing, Resetting, cuts}
-use Rattle.world_rules.specs.Run.{FirstThen, Occasions, DeedMakes}
-
--- the entry neither answers a call nor begins an era
-abbrev pub IsPlain : JournalEntry → Type 0
-IsPlain (Answered n value) = ⊥
-IsPlain (Installed p) = ⊥
-IsPlain Reset = ⊥
-IsPlain _ = Unit {0}
-
-abbrev pub ArePlain : List JournalEntry → Type 0
-ArePlain [] = Unit {0}
-ArePlain (t ∷ told) = IsPlain t × ArePlain told
+use Rattle.world_rules.specs.Run.{FirstThen, DeedMakes}
+use Rattle.world_laws.proofs.Agree.{occasions-plain}
 
 -- how often the invocation calls
 abbrev pub calls_by : ℕ → JournalEntry → ℕ
@@ -96,35 +86,6 @@ plain-waits m r (t ∷ told) n follow plain right some = elim (calls-one m r t n
   | inr calls ↦ waits-same (next_state m r t) (state_after_entries m (next_state m r t) told) n (plain-keep m (next_state m r t) told n follow.1 plain.1 (numbered-step m r t follow.0 right) calls.1).0 calls.1
 ]
 
--- ---- turns and occasions tell plain entries
-
-plain-append : (xs ys : List JournalEntry) → ArePlain xs → ArePlain ys → ArePlain (xs ++ ys)
-plain-append [] ys a b = b
-plain-append (x ∷ xs) ys a b = (a.0, plain-append xs ys a.1 b)
-
-pub plain-as : (xs ys : List JournalEntry) → xs ≡ ys → ArePlain ys → ArePlain xs
-plain-as xs ys is plain = subst ArePlain (sym is) plain
-
-turn-plain : (t : JournalEntry) → IsOfTurn t → IsPlain t
-turn-plain (Answered n value) a = a
-turn-plain (Installed p) a = a
-turn-plain Reset a = a
-turn-plain _ a = tt
-
-turns-plain : (told : List JournalEntry) → AreOfTurns told → ArePlain told
-turns-plain [] all = tt
-turns-plain (t ∷ told) all = (turn-plain t all.0, turns-plain told all.1)
-
-occasion-plain : (m : Machine) (r : NodeState) (h : HandlerId) (payload : ArrayVec ℤ) (told : List JournalEntry) → Occasion m r h payload told → ArePlain told
-occasion-plain m r h payload told (inl a) = plain-as told _ a.made (tt, tt)
-occasion-plain m r h payload told (inr (inl a)) = plain-as told _ a.made (tt, tt)
-occasion-plain m r h payload told (inr (inr a)) = plain-as told _ a.made (tt, turns-plain a.starts (starts-of_turns a.starts a.are_starts))
-
-occasions-plain : (m : Machine) (payload : ArrayVec ℤ) (hs : List HandlerId) (r : NodeState) (p : Pace) (told : List JournalEntry) → Occasions m payload hs r p told → ArePlain told
-occasions-plain m payload [] r p told is = plain-as told [] is tt
-occasions-plain m payload (h ∷ hs) r p told both =
-    plain-as told (both.front ++ both.rest) both.made (plain-append both.front both.rest (occasion-plain m r h payload both.front both.by_first) (occasions-plain m payload hs (state_after_entries m r both.front) (paced_all p both.front) both.rest both.by_second))
-
 -- ---- an event tells first what its deed is, and then plain entries
 
 abbrev pub IsFirstOf : Deed → List JournalEntry → Type 0
@@ -141,25 +102,18 @@ pub record BeginsWith (d : Deed) (told : List JournalEntry) : Type 0 where
   pub plain : ArePlain rest
 
 deed-begins : (m : Machine) (r : NodeState) (p : Pace) (d : Deed) (told : List JournalEntry) → DeedMakes m d r p told → BeginsWith d told
-deed-begins m r p Nothing told is = record { first = []; rest = told; split = refl; begins = refl; plain = plain-as told [] is tt }
+deed-begins m r p Nothing told is = record { first = []; rest = told; split = refl; begins = refl; plain = subst ArePlain (sym is) tt }
 deed-begins m r p (Posting hs payload) told is = record { first = []; rest = told; split = refl; begins = refl; plain = occasions-plain m payload hs r p told is }
 deed-begins m r p (Answering inv value) told is = record { first = Answered inv value ∷ []; rest = []; split = is; begins = refl; plain = tt }
-deed-begins m r p Showing told is = record { first = []; rest = told; split = refl; begins = refl; plain = plain-as told (Seen is.seen ∷ []) is.made (tt, tt) }
+deed-begins m r p Showing told is = record { first = []; rest = told; split = refl; begins = refl; plain = subst ArePlain (sym is.made) (tt, tt) }
 deed-begins m r p Resetting told is = record { first = Seen is.seen ∷ Reset ∷ []; rest = []; split = is.made; begins = (is.seen, refl); plain = tt }
 deed-begins m r p (Installing x) told is = record {
   first = Seen is.seen ∷ Installed x ∷ [];
   rest = is.rest;
   split = is.made;
   begins = (is.seen, refl);
-  plain = elim (cases_Bool (m.runs_once x.handler)) [
-    | inl once ↦ occasion-plain m (next_state m r (Installed x)) x.handler (record { items = [] }) is.rest (MatchBool-at_true _ _ once is.follows)
-    | inr never ↦ plain-as is.rest [] (MatchBool-at_false _ _ never is.follows) tt
-  ];
+  plain = installs-plain m r p x told is;
 }
-
-regrouped : (xs ys zs : List JournalEntry) → (xs ++ ys) ++ zs ≡ xs ++ (ys ++ zs)
-regrouped [] ys zs = refl
-regrouped (x ∷ xs) ys zs = ap (λ (ts : List JournalEntry). x ∷ ts) (regrouped xs ys zs)
 
 pub event-begins : (m : Machine) (r : NodeState) (p : Pace) (d : Deed) (told : List JournalEntry) (after : Pace) → FirstThen m (DeedMakes m d) (λ s q xs. Settles m s q xs after) r p told → BeginsWith d told
 event-begins m r p d told after both =
@@ -167,9 +121,9 @@ event-begins m r p d told after both =
     record {
       first = deed.first;
       rest = deed.rest ++ both.rest;
-      split = both.made ∙ ap (λ (ts : List JournalEntry). ts ++ both.rest) deed.split ∙ regrouped deed.first deed.rest both.rest;
+      split = both.made ∙ ap (λ (ts : List JournalEntry). ts ++ both.rest) deed.split ∙ append_assoc deed.first deed.rest both.rest;
       begins = deed.begins;
-      plain = plain-append deed.rest both.rest deed.plain (turns-plain both.rest (settles-of_turns m (state_after_entries m r both.front) (paced_all p both.front) both.rest after both.by_second));
+      plain = each-append IsPlain deed.rest both.rest deed.plain (turns-plain both.rest (settles-of_turns m (state_after_entries m r both.front) (paced_all p both.front) both.rest after both.by_second));
     }
 
 -- ---- the whole event
@@ -181,10 +135,6 @@ AnswersOther _ n = Unit {0}
 
 following-as : (m : Machine) (r : NodeState) (xs ys : List JournalEntry) → xs ≡ ys → AreFollowing m r xs → AreFollowing m r ys
 following-as m r xs ys is follow = subst (λ (ts : List JournalEntry). AreFollowing m r ts) is follow
-
-heard-parts : (m : Machine) (r : NodeState) (xs ys : List JournalEntry) → state_after_entries m r (xs ++ ys) ≡ state_after_entries m (state_after_entries m r xs) ys
-heard-parts m r [] ys = refl
-heard-parts m r (x ∷ xs) ys = heard-parts m (next_state m r x) xs ys
 
 calls-parts : (n : ℕ) (xs ys : List JournalEntry) → calls_of n (xs ++ ys) ≡ calls_of n xs + calls_of n ys
 calls-parts n [] ys = omega arith
@@ -212,21 +162,19 @@ pub event-keeps : (m : Machine) (r : NodeState) (d : Deed) (told : List JournalE
     → ((state_after_entries m r told).invocations n ≡ r.invocations n) × (calls_of n told ≡ 0)
 event-keeps m r d told n parts follow right stays other w =
     let both = following-as m r told (parts.first ++ parts.rest) parts.split follow in
-    let first_follow = follow-front m r parts.first parts.rest both in
-    let rest_follow = follow-back m r parts.first parts.rest both in
+    let follows = along-parts _ _ r parts.first parts.rest both in
     let first : (state_after_entries m r parts.first).invocations n ≡ r.invocations n = first-keep m r d parts.first n parts.begins stays other in
-    let rest = plain-keep m (state_after_entries m r parts.first) parts.rest n rest_follow parts.plain (numbered-told m r parts.first first_follow right) (waits-same r (state_after_entries m r parts.first) n first w) in
+    let rest = plain-keep m (state_after_entries m r parts.first) parts.rest n follows.1 parts.plain (numbered-told m r parts.first follows.0 right) (waits-same r (state_after_entries m r parts.first) n first w) in
     let none : calls_of n parts.first ≡ 0 = first-calls d parts.first n parts.begins in (
-      ap (λ (ts : List JournalEntry). (state_after_entries m r ts).invocations n) parts.split ∙ ap (λ (s : NodeState). s.invocations n) (heard-parts m r parts.first parts.rest) ∙ rest.0 ∙ first,
+      ap (λ (ts : List JournalEntry). (state_after_entries m r ts).invocations n) parts.split ∙ ap (λ (s : NodeState). s.invocations n) (heard_told-append m r parts.first parts.rest) ∙ rest.0 ∙ first,
       ap (calls_of n) parts.split ∙ calls-parts n parts.first parts.rest ∙ omega (arith, none, rest.1),
     )
 
 pub event-once : (m : Machine) (r : NodeState) (d : Deed) (told : List JournalEntry) (n : ℕ) → BeginsWith d told → AreFollowing m r told → IsNumbered r → calls_of n told ≤ 1
 event-once m r d told n parts follow right =
     let both = following-as m r told (parts.first ++ parts.rest) parts.split follow in
-    let first_follow = follow-front m r parts.first parts.rest both in
-    let rest_follow = follow-back m r parts.first parts.rest both in
-    let rest : calls_of n parts.rest ≤ 1 = plain-once m (state_after_entries m r parts.first) parts.rest n rest_follow parts.plain (numbered-told m r parts.first first_follow right) in
+    let follows = along-parts _ _ r parts.first parts.rest both in
+    let rest : calls_of n parts.rest ≤ 1 = plain-once m (state_after_entries m r parts.first) parts.rest n follows.1 parts.plain (numbered-told m r parts.first follows.0 right) in
     let none : calls_of n parts.first ≡ 0 = first-calls d parts.first n parts.begins in
     let sum : calls_of n told ≡ calls_of n parts.first + calls_of n parts.rest = ap (calls_of n) parts.split ∙ calls-parts n parts.first parts.rest in
     omega (arith, rest, none, sum)
@@ -234,12 +182,11 @@ event-once m r d told n parts follow right =
 pub event-waits : (m : Machine) (r : NodeState) (d : Deed) (told : List JournalEntry) (n : ℕ) → BeginsWith d told → AreFollowing m r told → IsNumbered r → 1 ≤ calls_of n told → IsWaiting (state_after_entries m r told) n
 event-waits m r d told n parts follow right some =
     let both = following-as m r told (parts.first ++ parts.rest) parts.split follow in
-    let first_follow = follow-front m r parts.first parts.rest both in
-    let rest_follow = follow-back m r parts.first parts.rest both in
+    let follows = along-parts _ _ r parts.first parts.rest both in
     let none : calls_of n parts.first ≡ 0 = first-calls d parts.first n parts.begins in
     let sum : calls_of n told ≡ calls_of n parts.first + calls_of n parts.rest = ap (calls_of n) parts.split ∙ calls-parts n parts.first parts.rest in
-    let rest : IsWaiting (state_after_entries m (state_after_entries m r parts.first) parts.rest) n = plain-waits m (state_after_entries m r parts.first) parts.rest n rest_follow parts.plain (numbered-told m r parts.first first_follow right) (omega (arith, none, sum, some)) in
-    subst (λ (s : NodeState). IsWaiting s n) (sym (ap (state_after_entries m r) parts.split ∙ heard-parts m r parts.first parts.rest)) rest
+    let rest : IsWaiting (state_after_entries m (state_after_entries m r parts.first) parts.rest) n = plain-waits m (state_after_entries m r parts.first) parts.rest n follows.1 parts.plain (numbered-told m r parts.first follows.0 right) (omega (arith, none, sum, some)) in
+    subst (λ (s : NodeState). IsWaiting s n) (sym (ap (state_after_entries m r) parts.split ∙ heard_told-append m r parts.first parts.rest)) rest
 
 pub asked-calls : (told front rest : List JournalEntry) (n : ℕ) (f : FunId) (args : ArrayVec ℤ) → told ≡ front ++ Asked n f args ∷ rest → 1 ≤ calls_of n told
 asked-calls told front rest n f args is =

@@ -1,16 +1,8 @@
 -- The state between the events of a right world: whatever comes next finds what it needs.
-use Rattle.std.specs.Prelude.{◌≡◌, ℕ, ◌<◌, ◌≤◌, List, [], ◌∷◌, length, slice_get, IsSomeAnd, All, ⊤}
-use Rattle.mate_num.specs.Lists.{Each}
-use Rattle.vm_desc.specs.declared.description.Description.{Description}
+use Rattle.std.specs.Prelude.{ℕ, ◌<◌, ◌≤◌, List}
+use Rattle.mate_num.specs.Lists.{Each, EachOver}
 use Rattle.mate_journal.specs.Journal.{first_state}
 use Rattle.mate_journal.specs.WellFormed.{IsWellFormed}
-use Rattle.mate_journal.specs.declared.program.Program.{Program}
-use Rattle.node_programs.specs.WorldPrograms.{AreProgramsOfWorld}
-use Rattle.world_script.specs.declared.world.World.{World as Script}
-use Rattle.world_script.specs.declared.world.Planned.{Planned}
-use Rattle.world_script.specs.declared.world.What.{What}
-use Rattle.world_script.specs.declared.world.What.TheVariants as what
-use Rattle.world_script.specs.World.{IsRightWorld}
 use Rattle.capsule_exchange.specs.Happenings.{IsOpen}
 use Rattle.journal_laws.specs.Waiting.{WaitApart, WaitSmall}
 use Rattle.world_rules.specs.Cause.{Cause}
@@ -36,8 +28,7 @@ AreOfNodes w = Each (λ c. event_node w c < w.nodes)
 
 -- the messages of the calls that these events recorded are right for the machine
 abbrev pub HaveFitMessages : World → List Moment → Type 0
-HaveFitMessages w [] = Unit {0}
-HaveFitMessages w (m ∷ before) = HaveFitMessages w before × AreFitPackets w (messages w m.told)
+HaveFitMessages w = EachOver (λ m before. AreFitPackets w (messages w m.told))
 
 -- the node made a well-formed journal in these events
 abbrev pub HasWellFormed : World → ℕ → List Moment → Type 0
