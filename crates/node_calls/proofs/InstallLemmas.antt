@@ -11,7 +11,7 @@ use Rattle.mate_num.specs.Store.{zero_store}
 use Rattle.mate_num.specs.declared.call.Stamp.{Stamp}
 use Rattle.mate_num.specs.declared.id.HandlerId.{HandlerId}
 use Rattle.mate_num.specs.declared.shape.Shape.{Shape}
-use Rattle.mate_num.specs.declared.bounds.TheConstants.{CODE_MAX}
+use Rattle.mate_num.specs.declared.bounds.TheConstants.{CODE_MAX, IMAGE_MAX}
 use Rattle.mate_num.specs.declared.lock_set.LockSet.{LockSet}
 use Rattle.capsule_codec.specs.declared.capsule.CapsuleRef.{CapsuleRef}
 use Rattle.capsule_codec.specs.Image.{CapsuleParts, parts_in_place, capsule_image, IsOfMachine}

@@ -1,6 +1,5 @@
 -- What nodes of one machine share.
 use Rattle.std.specs.Prelude.{All}
-use Rattle.vm_desc.specs.declared.description.Description.{Description}
 use Rattle.node_calls.specs.Installing.{IsReadyOn}
 use Rattle.open_node.specs.declared.shared_machine.Machine.{Machine}
 

@@ -1,5 +1,5 @@
 -- What known sources gave.
-use Rattle.std.proofs.Common.{◌≡◌, ◌≤◌, ◌<◌, ◌∷◌, ℕ, Bool, true, false, List, length, drop, take, get_or, Option, Some, None, Result, Ok, Err, refl, inr, sym, ◌∙◌, subst}
+use Rattle.std.proofs.Common.{◌≡◌, ◌≤◌, ◌<◌, ◌∷◌, ℕ, Bool, true, false, List, length, drop, take, get_or, Option, Some, None, Result, Ok, Err, refl, inr, sym, subst}
 use Rattle.std.specs.Prelude.{All, IfOk, IsErrAnd, IsSomeAnd, insert, slice_get, if◌then◌else◌}
 use Rattle.std.proofs.lemmas.List.Elements.{All-cons, All-append, All-drop, All-take}
 use Rattle.std.specs.Str.{bytes_eq}
