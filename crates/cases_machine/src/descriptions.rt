@@ -2,22 +2,20 @@
 
 use cases_files::{device_words, marked_bytes, shape_words};
 use mate_num::ContextId;
+use opcode_gen::table;
 use std::alloc::{AllocError, Global};
 use vm_desc::{
     DescFault, Description, FunKind, Function, Handler, HandlerKind, RadioSet, TrickleSet, shape,
 };
 use vm_reader::read;
 
-/// The number of instructions that the machine of a case has, or why its text describes none: there are 28, six more
-/// with a buffer, and one for each function. After the text comes the end of its line.
+/// The number of instructions that the machine of a case has, or why its text describes none. After the text comes the
+/// end of its line.
 pub fn instructions(alloc: Global, case: &str) -> Result<String, AllocError> {
     let mut bytes = marked_bytes(alloc, case)?;
     bytes.push(b'\n')?;
     match read(alloc, bytes.as_slice()) {
-        Ok(desc) => {
-            let buffers = if desc.buffers.is_empty() { 0 } else { 6 };
-            format!(in alloc; "ok {}", 28 + buffers + desc.functions.len())
-        }
+        Ok(desc) => format!(in alloc; "ok {}", table(&desc).len()),
         Err(fault) => fault_words(alloc, &fault),
     }
 }

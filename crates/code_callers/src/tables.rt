@@ -20,7 +20,7 @@ pub fn an_unknown_opcode_is_told_with_its_own_place(table: &Table) -> Result<Ins
     requires { table.now ≡ record { buffer = false; sends = [] } }
     ensures { result ≡ Err (BadOpcode 2) }
 {
-    decode(table, &[2, 5, 28])
+    decode(table, &[2, 5, 255])
 }
 
 pub fn a_function_that_sends_has_a_buffer(table: &Table) -> Option<Kind>

@@ -1,5 +1,5 @@
 -- The kinds of tokens that texts are cut into.
-use Rattle.std.proofs.Common.{◌≡◌, ℕ, ◌+◌, ◌<◌, ◌≤◌, Bool, true, false, ◌==◌, nat_lt, if◌then◌else◌, ◌⊎◌, inl, inr, List, [], ◌∷◌, ◌++◌, length, Option, Some, Result, Ok, Err, refl, sym, ◌∙◌, subst, length-append, arith}
+use Rattle.std.proofs.Common.{◌≡◌, ℕ, ◌+◌, ◌<◌, ◌≤◌, Bool, true, false, ◌==◌, nat_lt, if◌then◌else◌, ◌⊎◌, inl, inr, List, [], ◌∷◌, ◌++◌, length, Option, Some, Result, Ok, Err, refl, sym, ◌∙◌, subst, length-append, arith, rules}
 use Rattle.std.specs.Str.{bytes_eq}
 use Rattle.std.proofs.lemmas.List.{map-append}
 use Rattle.std.proofs.lemmas.Bool.{false≢true, cond_both, or_left, ltb-true, ltb-false}
@@ -61,7 +61,7 @@ among_cases (k ∷ ks) p w = picked (bytes_eq w (token_text k)) (among_cases ks 
     picked false rest = rest
 
 keywords_fixed : Each IsFixed keywords
-keywords_fixed = (tt, (tt, (tt, (tt, (tt, (tt, (tt, (tt, (tt, (tt, (tt, (tt, (tt, (tt, (tt, (tt, (tt, (tt, tt))))))))))))))))))
+keywords_fixed = search rules
 
 word_kind-IsKind : (w : List ℕ) → IsWord w → IsKind (word_kind w)
 unfolding word_kind
@@ -87,8 +87,7 @@ grown w b h c short = record { begins = first w h.begins; passes = all w h.passe
 sign_turn-IsTurn : (i b : ℕ) → IsTurn (sign_turn i (sign_of b))
 sign_turn-IsTurn i b =
     let P : Option TokenKind → Type 0 = λ o. IsTurn (sign_turn i o) in
-    let one : IsTurn (sign_turn i (Some kind.Semi)) = ((tt, tt), tt) in
-    sign-is P b (one, (one, (one, (one, (one, (one, (one, (one, (one, (one, (one, (one, tt)))))))))))) tt
+    sign-is P b (search rules) tt
 
 fresh-IsTurn : (i b : ℕ) → IsTurn (fresh i b)
 fresh-IsTurn i b =

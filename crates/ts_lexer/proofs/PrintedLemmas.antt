@@ -135,26 +135,9 @@ token_again kind.Ne h i rest s = less_again kind.Ne i 62 rest refl
 token_again kind.Ge h i rest s = greater_again i rest
 token_again (kind.Name w) h i rest s = word_again (kind.Name w) i w rest h.fits.begins h.fits.passes h.fits.short h.named s
 token_again (kind.Num n) h i rest s = number_again n i rest h s
-token_again kind.Shared h i rest s = keyword_again kind.Shared i rest refl refl refl refl s
-token_again kind.Private h i rest s = keyword_again kind.Private i rest refl refl refl refl s
-token_again kind.Buffer h i rest s = keyword_again kind.Buffer i rest refl refl refl refl s
-token_again kind.If h i rest s = keyword_again kind.If i rest refl refl refl refl s
-token_again kind.Then h i rest s = keyword_again kind.Then i rest refl refl refl refl s
-token_again kind.Else h i rest s = keyword_again kind.Else i rest refl refl refl refl s
-token_again kind.End h i rest s = keyword_again kind.End i rest refl refl refl refl s
-token_again kind.For h i rest s = keyword_again kind.For i rest refl refl refl refl s
-token_again kind.To h i rest s = keyword_again kind.To i rest refl refl refl refl s
-token_again kind.Step h i rest s = keyword_again kind.Step i rest refl refl refl refl s
-token_again kind.Next h i rest s = keyword_again kind.Next i rest refl refl refl refl s
-token_again kind.While h i rest s = keyword_again kind.While i rest refl refl refl refl s
-token_again kind.And h i rest s = keyword_again kind.And i rest refl refl refl refl s
-token_again kind.Or h i rest s = keyword_again kind.Or i rest refl refl refl refl s
-token_again kind.Not h i rest s = keyword_again kind.Not i rest refl refl refl refl s
-token_again kind.Size h i rest s = keyword_again kind.Size i rest refl refl refl refl s
-token_again kind.Clear h i rest s = keyword_again kind.Clear i rest refl refl refl refl s
-token_again kind.Msg h i rest s = keyword_again kind.Msg i rest refl refl refl refl s
 token_again kind.Proc h i rest s = absurd h
 token_again kind.Do h i rest s = absurd h
+token_again k h i rest s = keyword_again k i rest refl refl refl refl s
 
 -- all tokens
 

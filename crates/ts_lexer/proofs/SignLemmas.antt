@@ -1,5 +1,5 @@
 -- What a sign is at the front of bytes.
-use Rattle.std.proofs.Common.{◌≡◌, ℕ, ◌+◌, ◌<◌, ◌≤◌, Bool, true, false, ◌||◌, ◌==◌, if◌then◌else◌, List, [], ◌∷◌, length, drop, Option, Some, None, Result, Err, MatchResult, refl, sym, ◌∙◌, ap, subst, arith}
+use Rattle.std.proofs.Common.{◌≡◌, ℕ, ◌+◌, ◌<◌, ◌≤◌, Bool, true, false, ◌||◌, ◌==◌, if◌then◌else◌, List, [], ◌∷◌, length, drop, Option, Some, None, Result, Err, MatchResult, refl, sym, ◌∙◌, ap, subst, arith, rules}
 use Rattle.std.specs.Option.{option_map}
 use Rattle.std.proofs.lemmas.Bool.{false≢true, cond-true, cond-false, cond_both, or_from, or_parts, eqb-true, ne_eqb, not-true, not_from_false}
 use Rattle.ts_syntax.specs.declared.token.TokenKind.{TokenKind}
@@ -125,8 +125,7 @@ SignStays None = Unit {0}
 SignStays (Some s) = procedure_kind s.0 ≡ s.0
 
 sign_of-Stays : (b : ℕ) → Stays (sign_of b)
-sign_of-Stays b =
-    sign-is Stays b (refl, (refl, (refl, (refl, (refl, (refl, (refl, (refl, (refl, (refl, (refl, (refl, tt)))))))))))) tt
+sign_of-Stays b = sign-is Stays b (search rules) tt
 
 short_stays : (o : Option TokenKind) → Stays o → SignStays (option_map (λ k. (k, 1)) o)
 short_stays None h = tt

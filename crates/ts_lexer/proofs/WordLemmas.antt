@@ -1,8 +1,8 @@
 -- Names and keywords as texts.
-use Rattle.std.proofs.Common.{◌≡◌, ℕ, ◌<◌, Bool, cond, length, ap, true, false, ◌&&◌, ◌||◌, ◌==◌, nat_le, inl, inr, Option, Some, None, List, [], ◌∷◌, refl, sym, ◌∙◌, arith}
-use Rattle.std.specs.List.{find}
+use Rattle.std.proofs.Common.{◌≡◌, ℕ, zero, suc, ◌<◌, ◌≤◌, Bool, cond, length, ap, true, false, ◌&&◌, ◌||◌, ◌==◌, nat_le, nat_lt, inl, inr, Option, Some, None, List, [], ◌∷◌, refl, sym, ◌∙◌, arith}
+use Rattle.std.specs.List.{find, list_all, AllByRecursion}
 use Rattle.std.specs.Str.{IsUtf8, IsAscii, bytes_eq}
-use Rattle.std.proofs.lemmas.Bool.{or_cases, and_parts, leb-true, eqb-true, eqb-false, cond-false, cond_both, false_from_ne_true}
+use Rattle.std.proofs.lemmas.Bool.{or_cases, and_parts, leb-true, ltb-true, eqb-true, eqb-false, ne_eqb, cond-false, cond_both, false_from_ne_true}
 use Rattle.std.proofs.lemmas.Str.{IsUtf8-from_ascii}
 use Rattle.std.proofs.lemmas.Str.Ascii.{IsAscii-nil, IsAscii-cons}
 use Rattle.std.proofs.lemmas.Slice.Eq.{bytes_eq-Decides}
@@ -78,11 +78,26 @@ among_its_length [] w = refl
 among_its_length (k ∷ ks) w = of_its_length ks k w (length (token_text k) == length w) refl (among_its_length ks w)
 
 -- a word that is shorter than each keyword, or longer, is none
-pub of_no_length : (w : List ℕ) → (length w ≡ 2 → ⊥) → (length w ≡ 3 → ⊥) → (length w ≡ 4 → ⊥) → (length w ≡ 5 → ⊥) → (length w ≡ 6 → ⊥) → (length w ≡ 7 → ⊥)
-    → keyword_among keywords w ≡ kind.Name w
-of_no_length w not2 not3 not4 not5 not6 not7 =
-    let other : (v : List ℕ) → (length w ≡ length v → ⊥) → bytes_eq w v ≡ false = λ v h. unlike w v (λ same. h (ap length same)) in
-    among_none keywords w (other _ not6, (other _ not7, (other _ not6, (other _ not2, (other _ not4, (other _ not4, (other _ not3, (other _ not3, (other _ not2, (other _ not4, (other _ not4, (other _ not5, (other _ not3, (other _ not2, (other _ not3, (other _ not4, (other _ not5, (other _ not3, tt))))))))))))))))))
+none_short : (n : ℕ) → n < 2 → of_length n keywords ≡ []
+none_short zero h = refl
+none_short (suc zero) h = refl
+none_short (suc (suc n)) h = absurd (omega arith)
+
+none_long : (n : ℕ) (ks : List TokenKind) → list_all (λ k. nat_lt (length (token_text k)) 8) ks ≡ true → 8 ≤ n → of_length n ks ≡ []
+none_long n [] short h = refl
+none_long n (k ∷ ks) short h =
+    let both = and_parts (nat_lt (length (token_text k)) 8) (list_all (λ k. nat_lt (length (token_text k)) 8) ks) short in
+    let first : length (token_text k) < 8 = ltb-true (length (token_text k)) 8 both.0 in
+    cond-false (length (token_text k) == n) _ _ (ne_eqb (length (token_text k)) n (λ same. omega (arith, first, same))) ∙ none_long n ks both.1 h
+
+no_keyword : (w : List ℕ) → of_length (length w) keywords ≡ [] → keyword_among keywords w ≡ kind.Name w
+no_keyword w none = among_its_length keywords w ∙ ap (λ ks. keyword_among ks w) none
+
+pub short_word_none : (w : List ℕ) → length w < 2 → keyword_among keywords w ≡ kind.Name w
+short_word_none w h = no_keyword w (none_short (length w) h)
+
+pub long_word_none : (w : List ℕ) → 8 ≤ length w → keyword_among keywords w ≡ kind.Name w
+long_word_none w h = no_keyword w (none_long (length w) keywords refl h)
 
 -- a kind that is no name of a dialect's own keyword is the same in each dialect
 pub same_in : (d : Dialect) (k : TokenKind) → procedure_kind k ≡ k → k ≡ kind_in d k

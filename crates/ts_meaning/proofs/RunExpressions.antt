@@ -6,11 +6,10 @@ use Rattle.std.proofs.Math.Seq.{take-append_seam, drop-append_seam}
 use Rattle.std.proofs.lemmas.Bool.{and_parts}
 use Rattle.std.proofs.lemmas.List.{reverse-reverse, reverse-append, length-reverse}
 use Rattle.arrayvec.specs.ArrayVec.{ArrayVec}
-use Rattle.mate_num.specs.Number.{wrap, is_truth, quotient, remainder}
+use Rattle.mate_num.specs.Number.{wrap, is_truth}
 use Rattle.mate_num.specs.Store.{payload, buffer_at, item_of}
 use Rattle.mate_num.specs.declared.call.FaultKind.{FaultKind}
 use Rattle.mate_num.specs.declared.id.FunId.{FunId}
-use Rattle.mate_num.specs.declared.num16.Num16.{Num16}
 use Rattle.mate_num.specs.declared.shape.Shape.{Shape}
 use Rattle.mate_num.specs.declared.shape.FunShape.{FunShape}
 use Rattle.mate_code.specs.declared.instr.Instr.{Instr}
@@ -20,7 +19,7 @@ use Rattle.mate_code.specs.declared.uses.Use.TheVariants.{Calls}
 use Rattle.mate_code.specs.declared.uses.Use.{Use}
 use Rattle.mate_num.specs.Uses.{function_shape}
 use Rattle.mate_code.specs.Effect.{Effect, Asks, asks, gives, args_of}
-use Rattle.mate_num.specs.Operators.{or_div_zero, truth_value, or_div_zero as quotient_or_fault}
+use Rattle.mate_num.specs.Operators.{truth_value}
 use Rattle.mate_code.specs.Instr.{size_of}
 use Rattle.mate_code.specs.Run.{Code, Run, asked as asked_of, executed, run_by}
 use Rattle.ts_checked.specs.Expression.{Expression, Arguments, no_arguments, argument, Num, Shared, Private, Item, Size, MsgItem, MsgSize, Call, SendBuf, Neg, Not, Two}
@@ -45,21 +44,11 @@ number-executed shape (pos n) place stack s count = by (nat_lt n 256) where
   by false = refl
 number-executed shape (negsuc n) place stack s count = refl
 
--- the two definitions of a quotient or a fault agree
-same_fault : (q : Option Num16) → or_div_zero q ≡ quotient_or_fault q
-same_fault None = refl
-same_fault (Some n) = refl
-
 -- what an operator makes of the topmost two values
 pub operator-executed : (shape : Shape) (o : BinOp) (a b : ℤ) (place : ℕ) (stack : List ℤ) (s : ScriptState) (count : ℕ)
     → let r : Run = run_at place (b ∷ a ∷ stack) s count in
     executed shape (operator_code o) r ≡ run_by (gives (applied o a b) (own_at (place + size_of (operator_code o)) stack s)) (use_of (operator_code o)) r
-operator-executed shape op.Div a b place stack s count =
-    let r : Run = run_at place (b ∷ a ∷ stack) s count in
-    ap (λ (x : Result ℤ FaultKind). run_by (gives x (own_at (place + size_of instr.Div) stack s)) (use_of instr.Div) r) (same_fault (quotient a b))
-operator-executed shape op.Rem a b place stack s count =
-    let r : Run = run_at place (b ∷ a ∷ stack) s count in
-    ap (λ (x : Result ℤ FaultKind). run_by (gives x (own_at (place + size_of instr.Mod) stack s)) (use_of instr.Mod) r) (same_fault (remainder a b))
+operator-executed shape op.Or a b place stack s count = refl
 operator-executed shape _ a b place stack s count = refl
 
 -- values, each pushed above those before it
