@@ -12,7 +12,7 @@ use std::rt::Env;
 use std::{env, io};
 
 /// How many bytes are written to standard output at once.
-const OUT_BLOCK: usize = 65_536;
+const OUT_BLOCK: usize = 16_384;
 
 /// How many bytes the line of a refusal has room for before it takes more memory.
 const LINE: usize = 256;

@@ -46,7 +46,7 @@ fn turn(
     ensures { HasTurn (held_at handlers.now.programs) contexts.old heap.old ctx n result contexts.new heap.new }
 {
     let place = usize::from(ctx.0);
-    let Some(mut seat) = contexts.seats[place].take() else {
+    let Some(mut seat) = contexts.seats.take(place) else {
         unreachable!()
     };
     let Some(held) = handlers.get(seat.handler) else {
@@ -54,6 +54,6 @@ fn turn(
     };
     let ran = run(&held.code, &mut seat.machine, heap, n);
     seat.count += u64::from(ran.instructions);
-    contexts.seats[place] = Some(seat);
+    contexts.seats.put(place, seat);
     ran
 }

@@ -2,7 +2,7 @@
 use Rattle.std.proofs.lemmas.Bool.{cases_eq, cases_lt}
 use Rattle.std.specs.Prelude.{◌⊎◌, IfSome, slice_get, slice_index_or, Result, Ok, Err, MatchResult, OnOk, OnErr}
 use Rattle.std.proofs.Common.{◌≡◌, ◌≢◌, ℕ, zero, suc, ◌+◌, ◌<◌, ◌≤◌, ℤ, Bool, true, false, inl, inr, List, [], ◌∷◌, ◌++◌, length, get_or, set, Option, Some, None, refl, sym, ◌∙◌, ap, subst, arith, get_or-set_same, get_or-set_other}
-use Rattle.std.proofs.lemmas.List.{set-get_or, get_or_past}
+use Rattle.std.proofs.lemmas.List.{set-get_or}
 use Rattle.std.specs.List.{Contains}
 use Rattle.std.specs.Option.{is_some}
 use Rattle.std.proofs.lemmas.List.Elements.{Contains-append_right}
@@ -30,17 +30,11 @@ use Rattle.node_contexts.specs.Executing.{IsSameSeat, with_seat, HasTurn, IsAnsw
 
 -- ---- idle contexts
 
-none-at : (seats : List (Option Seat)) (n : ℕ) → length seats ≡ n → ((k : ℕ) → k < n → get_or seats k None ≡ None) → (k : ℕ) → get_or seats k None ≡ None
-none-at seats n len none k = by (cases_lt k n) where
-  by : (k < n) ⊎ (n ≤ k) → get_or seats k None ≡ None
-  by (inl below) = none k below
-  by (inr past) = get_or_past seats k None (omega arith)
-
 -- no seat is taken, no locks are claimed, none is ready, and none waits with a call
-pub AreIdle-from : (s : Contexts) (n : ℕ) → length s.seats ≡ n → ((k : ℕ) → k < n → get_or s.seats k None ≡ None) → s.locks ≡ no_claims → s.ring ≡ [] → AreNone s.pending → AreIdle s
-AreIdle-from s n len none locks ring calls = record {
+pub AreIdle-from : (s : Contexts) → ((k : ℕ) → get_or s.seats k None ≡ None) → s.locks ≡ no_claims → s.ring ≡ [] → AreNone s.pending → AreIdle s
+AreIdle-from s none locks ring calls = record {
   each = λ c.
-      ap (λ (o : Option Seat). record (at s c) { seat = o }) (none-at s.seats n len none c.0)
+      ap (λ (o : Option Seat). record (at s c) { seat = o }) (none c.0)
       ∙ ap (λ (l : Claims). record (at s c) { seat = None; waits = set_of l.waiting c; holds = set_of l.started c }) locks
       ∙ ap (λ (r : List ContextId). record { seat = None; waits = None; holds = None; ready = holds r c; call = call_at s.pending c }) ring
       ∙ ap (λ (o : Option Asked). record { seat = None; waits = None; holds = None; ready = false; call = o }) (calls.each c);

@@ -1,2 +1,3 @@
 pub mod ContextLemmas
+mod SeatLemmas
 mod HandlerLemmas

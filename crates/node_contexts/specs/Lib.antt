@@ -1,3 +1,4 @@
 pub mod At
+pub mod Seats
 pub mod Programs
 pub mod Executing

@@ -1,13 +1,14 @@
 //! The contexts of a node: the invocation in each, the locks that it waits for or holds, whether it is ready,
 //! and the call whose answer it waits for.
 
-ghost use Rattle.std.specs.Prelude.{◌≡◌, ℕ, ◌<◌, ◌++◌, ◌∷◌, [], Some, None, IfOk, MatchBool, MatchOption, IsSome, IfSome, slice_get, slice_index_or, true};
+ghost use Rattle.std.specs.Prelude.{◌≡◌, ℕ, ◌<◌, ◌++◌, ◌∷◌, [], Some, None, IfOk, MatchBool, MatchOption, IsSome, IfSome, slice_get, true};
 ghost use Rattle.std.specs.Option.{option_copied};
 ghost use Rattle.mate_num.specs.declared.id.ContextId.{ContextId as Context};
 ghost use Rattle.lock_manager.specs.Claims.{AreOnce, Enqueues, Grants, GrantsNone, Releases};
 ghost use Rattle.context_sched.specs.Ready.{without, AreContexts};
 
 use crate::seat::Seat;
+use crate::seats::Seats;
 use context_sched::Ring;
 use lock_manager::Locks;
 use mate_num::{CONTEXTS_MAX, ContextId, FunId, LockSet, NoMemory, Payload};
@@ -17,7 +18,7 @@ use std::alloc::Global;
 /// The contexts of a node.
 #[derive(Drop)]
 pub struct Contexts {
-    pub seats: [Option<Seat>; CONTEXTS_MAX],
+    pub seats: Seats,
     pub locks: Locks,
     pub ring: Ring,
     pub pending: Pending,
@@ -32,8 +33,9 @@ impl Contexts {
         ensures { IfOk result AreIdle }
     {
         let ring = Ring::new(alloc)?;
+        let seats = Seats::new(alloc)?;
         Ok(Contexts {
-            seats: Default::default(),
+            seats,
             locks: Locks::new(),
             ring,
             pending: Pending::new(),
@@ -45,7 +47,7 @@ impl Contexts {
         requires { ctx.0 < CONTEXTS_MAX }
         ensures { MatchBool result ((at self.now ctx).seat ≡ None) (IsSome (at self.now ctx).seat) }
     {
-        self.seats[usize::from(ctx.0)].is_none()
+        self.seats.get(usize::from(ctx.0)).is_none()
     }
 
     /// The invocation in the context.
@@ -53,7 +55,7 @@ impl Contexts {
         requires { ctx.0 < CONTEXTS_MAX }
         ensures { option_copied result ≡ (at self.now ctx).seat }
     {
-        self.seats[usize::from(ctx.0)].as_ref()
+        self.seats.get(usize::from(ctx.0))
     }
 
     /// Puts an invocation into the idle context. It waits for its locks.
@@ -64,7 +66,7 @@ impl Contexts {
         ensures locks { Enqueues self.old.locks self.new.locks ctx set }
         ensures ring { self.new.ring ≡ self.old.ring }
     {
-        self.seats[usize::from(ctx.0)] = Some(seat);
+        self.seats.put(usize::from(ctx.0), seat);
         self.locks.enqueue(ctx, set);
     }
 
@@ -107,7 +109,7 @@ impl Contexts {
         requires started { IsSome (at self.old ctx).holds }
         ensures { Ends self.old self.new ctx }
     {
-        self.seats[usize::from(ctx.0)] = None;
+        let _ = self.seats.take(usize::from(ctx.0));
         self.locks.release(ctx);
         self.ring.remove(ctx);
     }
@@ -123,7 +125,7 @@ impl Contexts {
     pub fn first_waiting(&self) -> Option<ContextId>
         ensures { MatchOption result (IsNoneAsking self.now) (IsAsking self.now) }
     {
-        let _last = self.seats[15].is_none();
+        let _places = self.seats.len();
         for place in 0..CONTEXTS_MAX as u8 {
             if self.asked(ContextId(place)).is_some() {
                 return Some(ContextId(place));
@@ -156,20 +158,9 @@ impl Contexts {
     pub fn clear(&mut self)
         ensures { AreIdle self.new }
     {
-        leave_all(&mut self.seats);
+        self.seats.clear();
         self.locks.clear();
         self.ring.clear();
         self.pending.cancel();
-    }
-}
-
-/// Takes the invocations from their seats. Where there is none, nothing is written.
-fn leave_all(seats: &mut [Option<Seat>])
-    ensures { (k : ℕ) → slice_index_or seats.new k None ≡ None }
-{
-    for place in 0..seats.len() {
-        if seats[place].is_some() {
-            seats[place] = None;
-        }
     }
 }

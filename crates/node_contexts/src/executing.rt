@@ -29,14 +29,14 @@ pub fn answer(contexts: &mut Contexts, handlers: &Handlers, ctx: ContextId, valu
     ensures { IsAnswered contexts.old contexts.new ctx value }
 {
     let place = usize::from(ctx.0);
-    let Some(mut seat) = contexts.seats[place].take() else {
+    let Some(mut seat) = contexts.seats.take(place) else {
         unreachable!()
     };
     let Some(held) = handlers.get(seat.handler) else {
         unreachable!()
     };
     resume(&held.code, &mut seat.machine, value);
-    contexts.seats[place] = Some(seat);
+    contexts.seats.put(place, seat);
     let _ = contexts.pending.answer(ctx);
     contexts.ring.ready(ctx);
 }

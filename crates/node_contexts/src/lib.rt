@@ -5,10 +5,12 @@ pub mod contexts;
 pub mod executing;
 pub mod handlers;
 pub mod seat;
+pub mod seats;
 pub mod shared;
 
 pub use contexts::Contexts;
 pub use executing::{answer, number};
 pub use handlers::{Handlers, Held};
 pub use seat::Seat;
+pub use seats::Seats;
 pub use shared::SharedHeld;

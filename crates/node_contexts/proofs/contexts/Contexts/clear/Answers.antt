@@ -1,9 +1,8 @@
 -- All seats are taken away, and so are the locks, the ring and the calls.
-use Rattle.std.proofs.Common.{refl}
 use Rattle.node_contexts.proofs.ContextLemmas.{AreIdle-from}
 use Rattle.node_contexts.proofs.contexts.Contexts.clear.Goals as goal
 
 pub returns : goal.returns
 returns c =
-    AreIdle-from record { seats = c.leave_all.new.seats; locks = c.clear.new.self; ring = c.clear-2.new.self; pending = c.cancel.new.self } _
-    refl (λ k below. c.leave_all.ensures k) c.clear.ensures c.clear-2.ensures c.cancel.ensures
+    AreIdle-from record { seats = c.clear.new.self; locks = c.clear-2.new.self; ring = c.clear-3.new.self; pending = c.cancel.new.self }
+    c.clear.ensures c.clear-2.ensures c.clear-3.ensures c.cancel.ensures
