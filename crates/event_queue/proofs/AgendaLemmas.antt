@@ -6,7 +6,7 @@ use Rattle.std.proofs.lemmas.Bool.Decides.{eqb_tells}
 use Rattle.std.proofs.lemmas.List.{append-nil, map-append}
 use Rattle.std.proofs.lemmas.List.Elements.{filter_map-append, filter-append}
 use Rattle.event_queue.specs.declared.queue.Timed.{Timed}
-use Rattle.event_queue.specs.Agenda.{inserted, item_at, due_at}
+use Rattle.event_queue.specs.Agenda.{Agenda, inserted, scheduled, scheduled_all, item_at, due_at}
 use Rattle.event_queue.specs.View.{at_time, in_order}
 
 pub in_order_cong : {T : Type 0} (f g : ℕ → List T) (n : ℕ) → ((t : ℕ) → t < n → f t ≡ g t) → in_order f n ≡ in_order g n
@@ -143,3 +143,11 @@ due_at-in_order {T} f (suc n) t low =
       | inr other ↦ ap (λ (xs : List T). xs ++ due_at t (at_time n (f n))) (due_at-in_order f n t (omega (arith, low, other)))
           ∙ ap (λ (xs : List T). f t ++ xs) (due_at-at_time_other n t (f n) other) ∙ append-nil (f t)
     ]
+
+-- items more that come too late to be kept
+pub scheduled_all_late : {T : Type 0} (q : Agenda T) (t : ℕ) (xs : List T) → q.until < t → scheduled_all q t xs ≡ q
+scheduled_all_late q t [] after = refl
+scheduled_all_late {T} q t (x ∷ xs) after =
+    let choice : Bool → Agenda T = λ b. if b then record q { items = inserted (record { time = t; item = x }) q.items } else q in
+    let same : scheduled q t x ≡ q = ap choice (lt-leb t q.until after) in
+    ap (λ (b : Agenda T). scheduled_all b t xs) same ∙ scheduled_all_late q t xs after

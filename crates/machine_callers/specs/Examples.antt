@@ -13,8 +13,7 @@ use Rattle.mate_code.specs.declared.instr.Instr.TheVariants.{BSize, BClear, Fun,
 use Rattle.mate_code.specs.Run.{Code, code_run, call_marks}
 use Rattle.mate_code.specs.declared.fault.VerifyFault.{VerifyFault}
 use Rattle.mate_code.specs.declared.fault.VerifyFault.TheVariants.{BadTarget, BackJump, Underflow, Overflow, DepthDiffers, BadIndex, NoHalt}
-use Rattle.mate_code.specs.Verification.{Marks, depth_at}
-use Rattle.mate_code.specs.Verification.{verification}
+use Rattle.mate_code.specs.Verification.{Marks, depth_at, verification}
 
 abbrev pub a_store : List ℤ → List (List ℤ) → Store
 a_store shared buffers = record { shared = record { items = shared }; buffers = record { items = map payload buffers } }

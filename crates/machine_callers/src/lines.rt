@@ -5,7 +5,7 @@ ghost use Rattle.script_reader.specs.declared.fault.Cause.TheVariants.{Word};
 ghost use Rattle.script_reader.specs.declared.fault.ScriptFault.TheVariants.{BadLine, NoMemory};
 
 use mate_num::ContextId;
-use report_fields::numbers::unsigned;
+use report_reader::numbers::unsigned;
 use script_reader::{Cause, ScriptFault, Steps, Words, node_script};
 use std::alloc::Global;
 use vm_desc::{Description, builtin};

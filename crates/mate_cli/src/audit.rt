@@ -16,9 +16,9 @@ use mate_refusals::{Refusal, Refutation};
 use mate_steps::read_file;
 use report_audit::Verdict;
 use report_reading::TextFault;
+use script_programs::programs_named;
 use std::alloc::Global;
 use vm_desc::Description;
-use script_programs::programs_named;
 
 /// The document that says that the report shows serial behaviour of what the script runs; or why it doesn't.
 #[inline(never)]

@@ -11,8 +11,8 @@ use command_line::MadeRun;
 use mate_documents::{BoxedMachine, Output};
 use mate_files::Files;
 use mate_refusals::Refusal;
-use std::alloc::Global;
 use script_programs::made_world;
+use std::alloc::Global;
 
 /// The report of the run of a number's world, or its summary.
 #[inline(never)]

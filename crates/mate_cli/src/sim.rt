@@ -10,8 +10,8 @@ use command_line::ScriptRun;
 use mate_documents::{BoxedMachine, Output};
 use mate_files::Files;
 use mate_refusals::Refusal;
-use std::alloc::Global;
 use script_programs::{programs_of_world, world_of};
+use std::alloc::Global;
 
 /// The report of the run of a script's world, or its summary.
 #[inline(never)]

@@ -6,9 +6,8 @@ ghost use Rattle.report_reader.specs.Reading.{line_with};
 ghost use Rattle.report_reader.specs.declared.line.Told.TheVariants.{OnAir};
 
 use mate_num::Store;
-use report_fields::fields::next_node;
-use report_fields::{Words, store_of};
-use report_reader::{Line, line_of};
+use report_reader::fields::next_node;
+use report_reader::{Line, Words, line_of, store_of};
 use vm_desc::Description;
 
 #[tactic(auto, unfolding(report_reader::specs::Reading::told_of, report_reader::specs::Verbs::verb_of))]

@@ -17,17 +17,17 @@ use Rattle.mate_journal.specs.Entries.{AreValues}
 use Rattle.mate_journal.specs.Ranges.{IsByteList, HasStoreRanges}
 use Rattle.mate_journal.specs.Tidy.{IsStoreOf}
 use Rattle.report_text.specs.Words.{drop_word, fault_word, handler_name, function_name}
-use Rattle.report_fields.specs.Words.{first, rest}
-use Rattle.report_fields.specs.Fields.{payload_of}
-use Rattle.report_fields.specs.Stores.{store_of}
-use Rattle.report_fields.proofs.OptionLemmas.{steps}
-use Rattle.report_fields.proofs.NumberLemmas.{Tells, decimal-below_of, signed-value_of}
-use Rattle.report_fields.proofs.ChoiceLemmas.{named_among-word}
-use Rattle.report_fields.proofs.FieldLemmas.{maps, next, handler_of-name, function_of-name, context_of-number, number_of-word, node_of-word, drop_of-word, fault_of-word, hex_of-word, TellsBytes, payload_of-words}
-use Rattle.report_fields.proofs.StoreLemmas.{joined, only_end, store_of-words}
-use Rattle.report_fields.proofs.WrittenWords.{is_written, written-decimal}
-use Rattle.report_fields.proofs.WrittenFields.{Reads, reads-next, number_of-decimal, node_of-decimal, context_of-decimal, reads-handler, reads-function, reads-drop, reads-fault, reads-bytes, reads-value, payload_of-written, written-values}
-use Rattle.report_fields.proofs.WrittenStores.{store_list, store_of-written, joined-store, written-store}
+use Rattle.report_reader.specs.Words.{first, rest}
+use Rattle.report_reader.specs.Fields.{payload_of}
+use Rattle.report_reader.specs.Stores.{store_of}
+use Rattle.report_reader.proofs.OptionLemmas.{steps}
+use Rattle.report_reader.proofs.NumberLemmas.{Tells, decimal-below_of, signed-value_of}
+use Rattle.report_reader.proofs.ChoiceLemmas.{named_among-word}
+use Rattle.report_reader.proofs.FieldLemmas.{maps, next, handler_of-name, function_of-name, context_of-number, number_of-word, node_of-word, drop_of-word, fault_of-word, hex_of-word, TellsBytes, payload_of-words}
+use Rattle.report_reader.proofs.StoreLemmas.{joined, only_end, store_of-words}
+use Rattle.report_reader.proofs.WrittenWords.{is_written, written-decimal}
+use Rattle.report_reader.proofs.WrittenFields.{Reads, reads-next, number_of-decimal, node_of-decimal, context_of-decimal, reads-handler, reads-function, reads-drop, reads-fault, reads-bytes, reads-value, payload_of-written, written-values}
+use Rattle.report_reader.proofs.WrittenStores.{store_list, store_of-written, joined-store, written-store}
 use Rattle.report_reader.specs.declared.line.Told.{Told}
 use Rattle.report_reader.specs.Forms.{VoidVerb, ready, waiting, newer, void_word, Field, number, node, handler, function, context, value, dropping, faulting, image, packet, voiding, FieldOf, field_of, Form, Then, Values, Stored, Ends, read_by}
 use Rattle.report_reader.specs.Verbs.{void_form, void_by, void_of}
@@ -70,7 +70,7 @@ record FieldRead (d : Description) (k : Field) (w : List ℕ) (a : FieldOf k) : 
   word : w ≡ field_word d k a
   fits : FieldFits d k a
 
-bytes-read : (most : ℕ) (w : List ℕ) (v : ArrayVec ℕ) → Rattle.report_fields.specs.Hex.hex_of most w ≡ Some v → (w ≡ encode_lower v.items) × AreSome most v
+bytes-read : (most : ℕ) (w : List ℕ) (v : ArrayVec ℕ) → Rattle.report_reader.specs.Hex.hex_of most w ≡ Some v → (w ≡ encode_lower v.items) × AreSome most v
 bytes-read most w v h =
     let t : TellsBytes w v.items = hex_of-word most w v h in
     let b : AreBytes most v.items = hex-bytes most w v h in

@@ -19,8 +19,8 @@ use Rattle.mate_journal.specs.Entries.{HasVoidRanges, HasEntryRanges}
 use Rattle.mate_journal.specs.Ranges.{HasAirRanges}
 use Rattle.mate_journal.specs.Log.{Log}
 use Rattle.report_text.specs.Words.{number, values, word, entry_words, drop_word, fault_word, handler_name, function_name, image_word}
-use Rattle.report_fields.proofs.StoreLemmas.{joined}
-use Rattle.report_fields.proofs.WrittenStores.{joined-store}
+use Rattle.report_reader.proofs.StoreLemmas.{joined}
+use Rattle.report_reader.proofs.WrittenStores.{joined-store}
 use Rattle.report_reader.specs.declared.line.Told.{Told}
 use Rattle.report_reader.specs.declared.line.Told.TheVariants as told
 use Rattle.report_reader.specs.declared.verb.Verb.{Verb}

@@ -5,3 +5,16 @@ pub mod KindLemmas
 pub mod LineLemmas
 pub mod WrittenLines
 pub mod LineOf
+pub mod OptionLemmas
+pub mod WordsLemmas
+pub mod NumberLemmas
+pub mod NumeralLemmas
+pub mod ChoiceLemmas
+pub mod HexLemmas
+pub mod FieldLemmas
+pub mod StoreLemmas
+pub mod ItemLemmas
+pub mod WrittenWords
+pub mod WrittenFields
+pub mod WrittenStores
+pub mod SpellingLemmas

@@ -8,16 +8,16 @@ use Rattle.report_text.specs.Words.{number}
 use Rattle.report_reader.specs.declared.line.Told.{Told}
 use Rattle.report_reader.specs.declared.line.Line.{Line}
 use Rattle.report_reader.specs.declared.verb.Verb.{Verb}
-use Rattle.report_fields.specs.Words.{words_of, first, rest}
-use Rattle.report_fields.specs.Numbers.{unsigned_of}
-use Rattle.report_fields.specs.Fields.{number_of, node_of}
+use Rattle.report_reader.specs.Words.{words_of, first, rest}
+use Rattle.report_reader.specs.Numbers.{unsigned_of}
+use Rattle.report_reader.specs.Fields.{number_of, node_of}
 use Rattle.report_reader.specs.Verbs.{verb_word, verb_of, form_of}
 use Rattle.report_reader.specs.Told.{told_words, line_words, IsRightLine, HasLineRanges}
 use Rattle.report_reader.specs.Reading.{told_by, told_of, line_with, line_in}
-use Rattle.report_fields.proofs.OptionLemmas.{steps}
-use Rattle.report_fields.proofs.NumberLemmas.{decimal-unsigned_of}
-use Rattle.report_fields.proofs.FieldLemmas.{maps, next, number_of-word, node_of-word}
-use Rattle.report_fields.proofs.StoreLemmas.{joined}
+use Rattle.report_reader.proofs.OptionLemmas.{steps}
+use Rattle.report_reader.proofs.NumberLemmas.{decimal-unsigned_of}
+use Rattle.report_reader.proofs.FieldLemmas.{maps, next, number_of-word, node_of-word}
+use Rattle.report_reader.proofs.StoreLemmas.{joined}
 use Rattle.report_reader.proofs.VerbLemmas.{word-verb_of}
 use Rattle.report_reader.proofs.Ranges.{first-told, small-number, small-unsigned}
 use Rattle.report_reader.proofs.FormLemmas.{told_from, FormRead, form-read}

@@ -1,30 +1,29 @@
 -- What was read of a field is in the range of its type.
 use Rattle.std.proofs.Common.{◌≡◌, ℕ, zero, suc, ◌+◌, ◌*◌, ◌^◌, ◌<◌, ◌≤◌, ◌==◌, nat_lt, nat_le, ◌&&◌, List, [], ◌∷◌, ◌++◌, length, Option, Some, None, sym, ap, subst, ◌∙◌, arith, inl, inr, length-append}
-use Rattle.std.specs.Prelude.{ℤ, pos, negsuc, All, FitsSigned}
+use Rattle.std.specs.Prelude.{ℤ, pos, negsuc, All, FitsSigned, codes}
 use Rattle.std.specs.Int.{w16}
 use Rattle.std.specs.Option.{option_and_then, option_map}
 use Rattle.std.proofs.lemmas.Bool.{cases_Bool, cond-true, cond-false, and_parts, ltb-true, leb-true}
 use Rattle.std.proofs.lemmas.List.Elements.{All-nil, All-push}
 use Rattle.std.specs.Str.{bytes_eq}
-use Rattle.std.specs.Prelude.{codes}
 use Rattle.arrayvec.specs.ArrayVec.{ArrayVec}
 use Rattle.hex.specs.Hex.{lower_digits}
 use Rattle.hex.proofs.HexLemmas.{length-encode_with}
 use Rattle.mate_num.specs.declared.store.Store.{Store}
 use Rattle.vm_desc.specs.declared.description.Description.{Description}
-use Rattle.report_fields.specs.Words.{first, rest}
-use Rattle.report_fields.specs.Numbers.{below_limit, unsigned_of, below_of, negative, positive, value_of, values_after}
-use Rattle.report_fields.specs.Fields.{number_of, payload_of}
+use Rattle.report_reader.specs.Words.{first, rest}
+use Rattle.report_reader.specs.Numbers.{below_limit, unsigned_of, below_of, negative, positive, value_of, values_after}
+use Rattle.report_reader.specs.Fields.{number_of, payload_of}
 use Rattle.capsule_codec.specs.HexText.{bytes_of_digits}
-use Rattle.report_fields.specs.Hex.{is_hex_word, hex_of}
-use Rattle.report_fields.specs.Stores.{after, closed, shared_value, shared_after, item, items_after, opened, buffer_of, buffers_after, store_with, store_of}
+use Rattle.report_reader.specs.Hex.{is_hex_word, hex_of}
+use Rattle.report_reader.specs.Stores.{after, closed, shared_value, shared_after, item, items_after, opened, buffer_of, buffers_after, store_with, store_of}
 use Rattle.mate_journal.specs.Entries.{AreValues}
 use Rattle.mate_journal.specs.Ranges.{IsByteList, HasStoreRanges}
-use Rattle.report_fields.proofs.OptionLemmas.{steps, when_some, below_some}
-use Rattle.report_fields.proofs.NumberLemmas.{decimal-below_of}
-use Rattle.report_fields.proofs.HexLemmas.{encode_lower-bytes_of_digits, small-bytes_of_digits}
-use Rattle.report_fields.proofs.FieldLemmas.{maps}
-use Rattle.report_fields.proofs.StoreLemmas.{only_end}
+use Rattle.report_reader.proofs.OptionLemmas.{steps, when_some, below_some}
+use Rattle.report_reader.proofs.NumberLemmas.{decimal-below_of}
+use Rattle.report_reader.proofs.HexLemmas.{encode_lower-bytes_of_digits, small-bytes_of_digits}
+use Rattle.report_reader.proofs.FieldLemmas.{maps}
+use Rattle.report_reader.proofs.StoreLemmas.{only_end}
 
 -- ---- numbers
 
@@ -37,7 +36,7 @@ small-number ws n h = first-told number_of (λ m. m < 2 ^ 32) (λ w m e. (decima
 
 pub small-unsigned : (w : List ℕ) (n : ℕ) → unsigned_of w ≡ Some n → n < 2 ^ 64
 small-unsigned w n h =
-    let numeral = when_some (Rattle.report_fields.specs.Numbers.is_plain_numeral w) (below_limit (2 ^ 64) (Rattle.std.specs.Str.Parse.digits_value 10 w)) n h in
+    let numeral = when_some (Rattle.report_reader.specs.Numbers.is_plain_numeral w) (below_limit (2 ^ 64) (Rattle.std.specs.Str.Parse.digits_value 10 w)) n h in
     let below = below_some (Rattle.std.specs.Str.Parse.digits_value 10 w) (2 ^ 64) n numeral.1 in
     let P : ℕ → Type 0 = λ m. m < 2 ^ 64 in subst P below.1 below.0
 

@@ -3,7 +3,7 @@ use Rattle.std.proofs.Common.{◌≡◌, ◌≤◌, ◌<◌, ℕ, List, length, 
 use Rattle.std.specs.Prelude.{slice_index_or}
 use Rattle.report_reader.specs.declared.verb.Verb.{Verb}
 use Rattle.report_reader.specs.declared.verb.Verb.TheVariants as verb
-use Rattle.report_fields.proofs.ChoiceLemmas.{named_among-word}
+use Rattle.report_reader.proofs.ChoiceLemmas.{named_among-word}
 use Rattle.report_reader.specs.Verbs.{verb_word, verbs, likely, verb_of}
 
 pub verb_of-word : (v : Verb) → verb_of (verb_word v) ≡ Some v

@@ -10,17 +10,17 @@ use Rattle.report_reader.specs.declared.line.Told.{Told}
 use Rattle.report_reader.specs.declared.line.Line.{Line}
 use Rattle.report_reader.specs.declared.verb.Verb.{Verb}
 use Rattle.report_reader.specs.declared.verb.Verb.TheVariants as verb
-use Rattle.report_fields.specs.Words.{words_of, reads}
-use Rattle.report_fields.specs.Numbers.{unsigned_of}
-use Rattle.report_fields.specs.Fields.{number_of, node_of}
+use Rattle.report_reader.specs.Words.{words_of, reads}
+use Rattle.report_reader.specs.Numbers.{unsigned_of}
+use Rattle.report_reader.specs.Fields.{number_of, node_of}
 use Rattle.report_reader.specs.Forms.{number, node}
 use Rattle.report_reader.specs.Verbs.{verb_word, verb_of, form_of}
 use Rattle.report_reader.specs.Told.{told_words, line_words, IsRightLine, HasLineRanges}
 use Rattle.report_reader.specs.Reading.{told_by, told_of, line_with, line_of_words, line_in}
-use Rattle.report_fields.proofs.NumberLemmas.{unsigned_of-decimal}
-use Rattle.report_fields.proofs.StoreLemmas.{joined}
-use Rattle.report_fields.proofs.WrittenWords.{is_written, in_line, words_of-joined, line-in_line, written-decimal}
-use Rattle.report_fields.proofs.WrittenFields.{Reads, reads-next}
+use Rattle.report_reader.proofs.NumberLemmas.{unsigned_of-decimal}
+use Rattle.report_reader.proofs.StoreLemmas.{joined}
+use Rattle.report_reader.proofs.WrittenWords.{is_written, in_line, words_of-joined, line-in_line, written-decimal}
+use Rattle.report_reader.proofs.WrittenFields.{Reads, reads-next}
 use Rattle.report_reader.proofs.VerbLemmas.{verb_of-word}
 use Rattle.report_reader.proofs.FormLemmas.{words_from, field-written, form-reads, form-written}
 use Rattle.report_reader.proofs.KindLemmas.{spelled, Says, says}

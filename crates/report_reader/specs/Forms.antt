@@ -9,12 +9,12 @@ use Rattle.mate_num.specs.declared.id.ContextId.{ContextId}
 use Rattle.mate_num.specs.declared.store.Store.{Store}
 use Rattle.vm_desc.specs.declared.description.Description.{Description}
 use Rattle.mate_journal.specs.declared.entry.DropCause.{DropCause}
-use Rattle.report_fields.specs.Words.{reads, only_at_end}
-use Rattle.report_fields.specs.Numbers.{value_of}
-use Rattle.report_fields.specs.Fields.{named_among, number_of, node_of, drop_of, fault_of, payload_of}
-use Rattle.report_fields.specs.Hex.{image_of, packet_of}
-use Rattle.report_fields.specs.Names.{handler_of, function_of, context_of}
-use Rattle.report_fields.specs.Stores.{store_of}
+use Rattle.report_reader.specs.Words.{reads, only_at_end}
+use Rattle.report_reader.specs.Numbers.{value_of}
+use Rattle.report_reader.specs.Fields.{named_among, number_of, node_of, drop_of, fault_of, payload_of}
+use Rattle.report_reader.specs.Hex.{image_of, packet_of}
+use Rattle.report_reader.specs.Names.{handler_of, function_of, context_of}
+use Rattle.report_reader.specs.Stores.{store_of}
 use Rattle.report_reader.specs.declared.line.Told.{Told}
 
 -- why a step did nothing

@@ -3,3 +3,11 @@ pub mod Forms
 pub mod Verbs
 pub mod Reading
 pub mod LightLine
+pub mod Words
+pub mod Numbers
+pub mod Numerals
+pub mod Hex
+pub mod Names
+pub mod Fields
+pub mod Stores
+pub mod Spelling

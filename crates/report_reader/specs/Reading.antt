@@ -2,9 +2,9 @@
 use Rattle.std.specs.Prelude.{ℕ, List, Option}
 use Rattle.std.specs.Option.{option_map}
 use Rattle.vm_desc.specs.declared.description.Description.{Description}
-use Rattle.report_fields.specs.Words.{words_of, reads}
-use Rattle.report_fields.specs.Numbers.{unsigned_of}
-use Rattle.report_fields.specs.Fields.{number_of, node_of}
+use Rattle.report_reader.specs.Words.{words_of, reads}
+use Rattle.report_reader.specs.Numbers.{unsigned_of}
+use Rattle.report_reader.specs.Fields.{number_of, node_of}
 use Rattle.report_reader.specs.declared.line.Told.{Told}
 use Rattle.report_reader.specs.declared.line.Line.{Line}
 use Rattle.report_reader.specs.declared.verb.Verb.{Verb}

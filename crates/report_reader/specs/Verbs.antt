@@ -4,8 +4,8 @@ use Rattle.mate_journal.specs.declared.air.Air.TheVariants as air
 use Rattle.mate_journal.specs.declared.entry.VoidCause.TheVariants as void
 use Rattle.mate_journal.specs.declared.entry.Entry.{Entry}
 use Rattle.mate_journal.specs.declared.entry.Entry.TheVariants as entry
-use Rattle.report_fields.specs.Words.{reads, only_at_end}
-use Rattle.report_fields.specs.Fields.{named_among, number_of}
+use Rattle.report_reader.specs.Words.{reads, only_at_end}
+use Rattle.report_reader.specs.Fields.{named_among, number_of}
 use Rattle.report_reader.specs.Forms.{VoidVerb, ready, waiting, newer, void_word, number, node, handler, function, context, value, dropping, faulting}
 use Rattle.report_reader.specs.Forms.{image, packet, voiding, Form, Then, Values, Stored, Ends}
 use Rattle.report_reader.specs.declared.line.Told.{Told}

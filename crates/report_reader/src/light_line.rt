@@ -8,12 +8,12 @@ ghost use Rattle.report_reader.specs.declared.line.Line.{Line};
 ghost use Rattle.report_reader.specs.LightLine.{told_with, bulky_line};
 ghost use Rattle.report_reader.specs.Reading.{told_of, line_of_words, line_in};
 
+use crate::fields::{next_event, next_node, next_number};
 use crate::verb::{next_verb, told_by};
+use crate::words::Words;
 use arrayvec::ArrayVec;
 use mate_journal::{Air, Entry};
 use mate_num::{HandlerId, Image, Stamp, Store};
-use report_fields::Words;
-use report_fields::fields::{next_event, next_node, next_number};
 use vm_desc::Description;
 
 /// What happened. The image or the store that it names is in a `Bulk` beside it.

@@ -4,7 +4,7 @@ ghost use Rattle.std.specs.Prelude.{◌≡◌, ◌++◌, ℕ, List};
 ghost use Rattle.std.specs.Option.{option_map};
 ghost use Rattle.vm_desc.specs.declared.description.Description.{Description as Described};
 ghost use Rattle.mate_journal.specs.Log.{Log};
-ghost use Rattle.report_fields.specs.Words.{first, rest, only_at_end};
+ghost use Rattle.report_reader.specs.Words.{first, rest, only_at_end};
 ghost use Rattle.report_text.specs.Words.{word, entry_words};
 ghost use Rattle.report_reader.specs.declared.light_line.Bulk.{Bulk as WithBulk};
 ghost use Rattle.report_reader.specs.declared.verb.Verb.TheVariants as verbs;
@@ -13,14 +13,14 @@ ghost use Rattle.report_reader.specs.LightLine.{told_with};
 ghost use Rattle.report_reader.specs.Reading.{told_by};
 ghost use Rattle.report_reader.specs.Verbs.{verb_word, entry_verb, likely, verb_of, void_by, void_of};
 
-use crate::light_line::{Bulk, LightTold};
-use mate_journal::{Air, Entry, VoidCause};
-use report_fields::fields::{
+use crate::fields::{
     next_context, next_drop, next_fault, next_function, next_handler, next_image, next_node,
     next_number, next_packet, next_value, payload,
 };
-use report_fields::words::same_bytes;
-use report_fields::{Words, store_of};
+use crate::light_line::{Bulk, LightTold};
+use crate::store_words::store_of;
+use crate::words::{Words, same_bytes};
+use mate_journal::{Air, Entry, VoidCause};
 use vm_desc::Description;
 
 /// What kind of record a line is of.

@@ -8,15 +8,15 @@ use Rattle.std.proofs.lemmas.Bool.{cases_Bool, cond-true, cond-false, and_from}
 use Rattle.std.proofs.lemmas.List.Splits.{join_with_byte-slice_split}
 use Rattle.std.proofs.lemmas.Slice.Eq.{bytes_eq-Decides}
 use Rattle.report_text.specs.Text.{end_word}
-use Rattle.report_fields.specs.Words.{words_of, first, rest, reads, only_at_end}
-use Rattle.report_fields.specs.Numbers.{unsigned_of}
-use Rattle.report_fields.proofs.OptionLemmas.{steps}
-use Rattle.report_fields.proofs.NumberLemmas.{decimal-unsigned_of, unsigned_of-decimal}
-use Rattle.report_fields.proofs.FieldLemmas.{next}
-use Rattle.report_fields.proofs.StoreLemmas.{joined, only_end}
+use Rattle.report_reader.specs.Words.{words_of, first, rest, reads, only_at_end}
+use Rattle.report_reader.specs.Numbers.{unsigned_of}
+use Rattle.report_reader.proofs.OptionLemmas.{steps}
+use Rattle.report_reader.proofs.NumberLemmas.{decimal-unsigned_of, unsigned_of-decimal}
+use Rattle.report_reader.proofs.FieldLemmas.{next}
+use Rattle.report_reader.proofs.StoreLemmas.{joined, only_end}
 use Rattle.report_reader.proofs.LineLemmas.{join_words}
-use Rattle.report_fields.proofs.WrittenWords.{is_written, in_line, words_of-joined, line-in_line, written-decimal}
-use Rattle.report_fields.proofs.WrittenFields.{reads-next}
+use Rattle.report_reader.proofs.WrittenWords.{is_written, in_line, words_of-joined, line-in_line, written-decimal}
+use Rattle.report_reader.proofs.WrittenFields.{reads-next}
 use Rattle.report_reading.specs.LastLines.{is_whole_word, last_with, last_of_words, last_in, last_words, HasLastRanges}
 use Rattle.report_reading.specs.declared.last_line.LastLine.{LastLine}
 

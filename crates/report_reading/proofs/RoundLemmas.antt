@@ -8,9 +8,8 @@ use Rattle.arrayvec.specs.ArrayVec.{ArrayVec}
 use Rattle.vm_desc.specs.declared.description.Description.{Description}
 use Rattle.mate_num.specs.declared.store.Store.{Store}
 use Rattle.mate_journal.specs.Log.{Log}
-use Rattle.mate_journal.specs.Entries.{HasEntryRanges}
+use Rattle.mate_journal.specs.Entries.{HasEntryRanges, IsEntryInRange}
 use Rattle.mate_journal.specs.Ranges.{HasStampedRanges, HasLogRanges, HasReportRanges}
-use Rattle.mate_journal.specs.Entries.{IsEntryInRange}
 use Rattle.mate_journal.specs.Tidy.{image_named, store_named, names_in, below, IsStoreOf, EventsRise, entry_event, NumbersInOrder, HasFullImages}
 use Rattle.mate_journal.specs.declared.air.Air.{Air}
 use Rattle.mate_journal.specs.declared.air.Air.TheVariants as air

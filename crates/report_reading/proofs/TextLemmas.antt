@@ -9,8 +9,8 @@ use Rattle.vm_desc.specs.declared.description.Description.{Description}
 use Rattle.mate_journal.specs.declared.report.Report.{Report}
 use Rattle.report_reader.specs.declared.line.Line.{Line}
 use Rattle.report_reader.specs.Told.{line_words, line_text}
-use Rattle.report_fields.specs.Words.{reads}
-use Rattle.report_fields.specs.Fields.{number_of, node_of}
+use Rattle.report_reader.specs.Words.{reads}
+use Rattle.report_reader.specs.Fields.{number_of, node_of}
 use Rattle.report_reader.specs.Reading.{told_of, line_with, line_in}
 use Rattle.report_reader.proofs.WrittenLines.{line_is_read, IsRead}
 use Rattle.report_reading.specs.LastLines.{last_words, last_text, last_in, HasLastRanges}

@@ -3,8 +3,8 @@ use Rattle.std.specs.Prelude.{ℕ, ◌<◌, ◌^◌, Bool, true, false, if◌the
 use Rattle.std.specs.Str.{bytes_eq}
 use Rattle.report_text.specs.Words.{number}
 use Rattle.report_text.specs.Text.{end_word}
-use Rattle.report_fields.specs.Words.{words_of, reads, only_at_end}
-use Rattle.report_fields.specs.Numbers.{unsigned_of}
+use Rattle.report_reader.specs.Words.{words_of, reads, only_at_end}
+use Rattle.report_reader.specs.Numbers.{unsigned_of}
 use Rattle.report_reading.specs.declared.last_line.LastLine.{LastLine}
 
 -- the words of a last line, as they are written, without the LF at its end

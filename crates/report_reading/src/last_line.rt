@@ -1,13 +1,13 @@
 //! The last line of a report.
 
 ghost use Rattle.std.specs.Prelude.{◌≡◌, IfSome, IfNone};
-ghost use Rattle.report_fields.specs.Words.{first, rest, only_at_end};
-ghost use Rattle.report_fields.specs.Numbers.{unsigned_of};
+ghost use Rattle.report_reader.specs.Words.{first, rest, only_at_end};
+ghost use Rattle.report_reader.specs.Numbers.{unsigned_of};
 ghost use Rattle.report_reading.specs.LastLines.{is_whole_word, last_of_words, last_in, last_words, HasLastRanges};
 ghost use Rattle.report_reading.specs.declared.last_line.LastLine.{LastLine};
 
-use report_fields::Words;
-use report_fields::numbers::unsigned;
+use report_reader::Words;
+use report_reader::numbers::unsigned;
 
 /// What the last line of a report says.
 #[derive(Clone, Copy)]

@@ -20,29 +20,29 @@ use Rattle.script_programs.specs.Numbers.{file_of, NamesNext, IsNumbered, NamesI
 -- ---- readings
 
 -- whatever a reading gives, this holds of it
-abbrev Gives : {A : Type 0} → (A → Type 0) → WordReading A → Type 0
+abbrev pub Gives : {A : Type 0} → (A → Type 0) → WordReading A → Type 0
 Gives {A} P reading = (words : List (List ℕ)) (t : TakenWords A) → reading words ≡ Ok t → P t.value
 
-Gives-any : {A : Type 0} (r : WordReading A) → Gives (λ _. Unit {0}) r
+pub Gives-any : {A : Type 0} (r : WordReading A) → Gives (λ _. Unit {0}) r
 Gives-any r words t is = tt
 
-Gives-give : {A : Type 0} (P : A → Type 0) (a : A) → P a → Gives P (give a)
+pub Gives-give : {A : Type 0} (P : A → Type 0) (a : A) → P a → Gives P (give a)
 Gives-give {A} P a h words t is =
     let u : TakenWords A = record { value = a; rest = words } in
     let same : u ≡ t = cc in
     subst (λ (v : TakenWords A). P v.value) same h
 
-Gives-then : {A B : Type 0} (Q : A → Type 0) (P : B → Type 0) (r : WordReading A) (k : A → WordReading B) → Gives Q r → ((a : A) → Q a → Gives P (k a)) → Gives P (r >>= k)
+pub Gives-then : {A B : Type 0} (Q : A → Type 0) (P : B → Type 0) (r : WordReading A) (k : A → WordReading B) → Gives Q r → ((a : A) → Q a → Gives P (k a)) → Gives P (r >>= k)
 Gives-then {A} {B} Q P r k first next words t is = by (r words) refl is where
   by : (x : Result (TakenWords A) Cause) → r words ≡ x → and_then k x ≡ Ok t → P t.value
   by (Ok u) got is = next u.value (first words u got) u.rest t is
   by (Err cause) got is = cc
 
 -- whatever comes first
-Gives-behind : {A B : Type 0} (P : B → Type 0) (r : WordReading A) (k : A → WordReading B) → ((a : A) → Gives P (k a)) → Gives P (r >>= k)
+pub Gives-behind : {A B : Type 0} (P : B → Type 0) (r : WordReading A) (k : A → WordReading B) → ((a : A) → Gives P (k a)) → Gives P (r >>= k)
 Gives-behind P r k next = Gives-then (λ _. Unit {0}) P r k (Gives-any r) (λ a q. next a)
 
-Gives-if : {A : Type 0} (P : A → Type 0) (b : Bool) (r s : WordReading A) → Gives P r → Gives P s → Gives P (if b then r else s)
+pub Gives-if : {A : Type 0} (P : A → Type 0) (b : Bool) (r s : WordReading A) → Gives P r → Gives P s → Gives P (if b then r else s)
 Gives-if P true r s yes' no' = yes'
 Gives-if P false r s yes' no' = no'
 
@@ -101,11 +101,11 @@ a_line-names d newest n =
 
 -- ---- the script so far
 
-length-with_file : (files : List (List ℕ)) (o : Option (List ℕ)) → files_after (length files) o ≡ length (with_file files o)
+pub length-with_file : (files : List (List ℕ)) (o : Option (List ℕ)) → files_after (length files) o ≡ length (with_file files o)
 length-with_file files None = refl
 length-with_file files (Some file) = sym (length_push files file)
 
-NamesNext-map : (o : Option ℕ) (n : ℕ) (P Q : ℕ → Type 0) → ((m : ℕ) → P m → Q m) → NamesNext o n P → NamesNext o n Q
+pub NamesNext-map : (o : Option ℕ) (n : ℕ) (P Q : ℕ → Type 0) → ((m : ℕ) → P m → Q m) → NamesNext o n P → NamesNext o n Q
 NamesNext-map None n P Q f h = f n h
 NamesNext-map (Some k) n P Q f h = (h.0, f (n + 1) h.1)
 

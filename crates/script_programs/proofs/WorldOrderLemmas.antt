@@ -3,18 +3,18 @@ use Rattle.std.proofs.Common.{◌≡◌, ℕ, ◌+◌, Bool, true, false, List, 
 use Rattle.std.specs.Prelude.{if◌then◌else◌, codes, slice_index, flat_map}
 use Rattle.std.specs.Str.{bytes_eq}
 use Rattle.std.proofs.lemmas.Grind.{flat_map-append}
-use Rattle.std.proofs.lemmas.List.{append-nil, length_push}
+use Rattle.std.proofs.lemmas.List.{append-nil}
 use Rattle.vm_desc.specs.declared.description.Description.{Description}
 use Rattle.script_reader.specs.Lines.{split_words, lines, is_skipped}
 use Rattle.script_reader.specs.NodeReader.{files_after}
 use Rattle.script_reader.specs.NodeScript.{with_file}
 use Rattle.script_reader.specs.Script.{numbered, script_from}
-use Rattle.script_reader.specs.Words.{TakenWords, WordReading, ◌>>=◌, and_then, give, found, a_word, nothing_more, a_number, a_payload, a_handler, a_version}
+use Rattle.script_reader.specs.Words.{TakenWords, WordReading, found, a_word, nothing_more, a_number, a_payload, a_handler, a_version}
 use Rattle.script_reader.specs.declared.fault.Cause.{Cause}
 use Rattle.script_reader.specs.declared.fault.Cause.TheVariants.{Word, Range}
 use Rattle.script_reader.specs.declared.fault.ScriptFault.{ScriptFault}
 use Rattle.script_reader.specs.declared.steps.Step.{Step}
-use Rattle.script_programs.specs.Numbers.{file_of, NamesNext, IsNumbered, NamesInOrder}
+use Rattle.script_programs.specs.Numbers.{file_of, IsNumbered}
 use Rattle.world_reader.specs.WorldLines.{WorldSaid, SaysNodes, SaysRandom, SaysUntil, SaysSuppress, SaysLink, SaysSeries, SaysPlanned, WorldProgress, a_switch, a_far_end, a_link, a_series, an_injection, a_posting, a_noise, at_node, behind_time, an_event, by_its_verb, some_nodes, a_random, an_until, a_setting, behind_verb, a_world_line}
 use Rattle.world_reader.specs.WorldWords.{a_node, a_time, a_sensor, some_values, some_noise}
 use Rattle.world_reader.specs.declared.stage.Stage.{Stage}
@@ -24,36 +24,8 @@ use Rattle.world_script.specs.declared.world.Planned.{Planned}
 use Rattle.world_script.specs.declared.world.What.{What}
 use Rattle.world_script.specs.declared.world.What.TheVariants as what
 use Rattle.world_script.specs.declared.world.World.{World}
-use Rattle.script_programs.specs.Injected.{install_of, installs_in, installs, InjectsInOrder}
-
--- ---- readings
-
--- whatever a reading gives, this holds of it
-abbrev Gives : {A : Type 0} → (A → Type 0) → WordReading A → Type 0
-Gives {A} P reading = (words : List (List ℕ)) (t : TakenWords A) → reading words ≡ Ok t → P t.value
-
-Gives-any : {A : Type 0} (r : WordReading A) → Gives (λ _. Unit {0}) r
-Gives-any r words t is = tt
-
-Gives-give : {A : Type 0} (P : A → Type 0) (a : A) → P a → Gives P (give a)
-Gives-give {A} P a h words t is =
-    let u : TakenWords A = record { value = a; rest = words } in
-    let same : u ≡ t = cc in
-    subst (λ (v : TakenWords A). P v.value) same h
-
-Gives-then : {A B : Type 0} (Q : A → Type 0) (P : B → Type 0) (r : WordReading A) (k : A → WordReading B) → Gives Q r → ((a : A) → Q a → Gives P (k a)) → Gives P (r >>= k)
-Gives-then {A} {B} Q P r k first next words t is = by (r words) refl is where
-  by : (x : Result (TakenWords A) Cause) → r words ≡ x → and_then k x ≡ Ok t → P t.value
-  by (Ok u) got is = next u.value (first words u got) u.rest t is
-  by (Err cause) got is = cc
-
--- whatever comes first
-Gives-behind : {A B : Type 0} (P : B → Type 0) (r : WordReading A) (k : A → WordReading B) → ((a : A) → Gives P (k a)) → Gives P (r >>= k)
-Gives-behind P r k next = Gives-then (λ _. Unit {0}) P r k (Gives-any r) (λ a q. next a)
-
-Gives-if : {A : Type 0} (P : A → Type 0) (b : Bool) (r s : WordReading A) → Gives P r → Gives P s → Gives P (if b then r else s)
-Gives-if P true r s yes' no' = yes'
-Gives-if P false r s yes' no' = no'
+use Rattle.script_programs.specs.Injected.{install_of, installs_in, InjectsInOrder}
+use Rattle.script_programs.proofs.OrderLemmas.{Gives, Gives-give, Gives-then, Gives-behind, Gives-if, length-with_file, NamesNext-map}
 
 -- ---- lines
 
@@ -152,14 +124,6 @@ a_world_line-names d p =
     Gives-behind P nothing_more _ (λ ends. Gives-give P said names)))
 
 -- ---- the world so far
-
-length-with_file : (files : List (List ℕ)) (o : Option (List ℕ)) → files_after (length files) o ≡ length (with_file files o)
-length-with_file files None = refl
-length-with_file files (Some file) = sym (length_push files file)
-
-NamesNext-map : (o : Option ℕ) (n : ℕ) (P Q : ℕ → Type 0) → ((m : ℕ) → P m → Q m) → NamesNext o n P → NamesNext o n Q
-NamesNext-map None n P Q f h = f n h
-NamesNext-map (Some k) n P Q f h = (h.0, f (n + 1) h.1)
 
 IsNumbered-append : (n : ℕ) (xs ys : List Step) (m total : ℕ) → IsNumbered n xs m → IsNumbered m ys total → IsNumbered n (xs ++ ys) total
 IsNumbered-append n [] ys m total is names = subst (λ (k : ℕ). IsNumbered k ys total) (sym is) names

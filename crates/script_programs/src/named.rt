@@ -8,8 +8,8 @@ ghost use Rattle.script_programs.specs.Named.{is_of_world, begins_world, program
 ghost use Rattle.script_reader.specs.Lines.{split_words};
 
 use crate::injected::programs_of_world;
-use crate::{programs_of, script_in};
 use crate::world_file::world_in;
+use crate::{programs_of, script_in};
 use mate_files::Files;
 use mate_journal::Programs;
 use mate_refusals::Refusal;

@@ -9,6 +9,4 @@ pub mod writing;
 
 pub use record::Record;
 pub use recording::{add_event, record_event};
-pub use writing::{
-    logs_are_kept, stopped_at, write_ending, write_last, write_piece, write_start,
-};
+pub use writing::{logs_are_kept, stopped_at, write_ending, write_last, write_piece, write_start};
