@@ -4,7 +4,7 @@ ghost use Rattle.std.specs.Prelude.{◌≤◌, length};
 ghost use Rattle.capsule_exchange.specs.Summary.{IsSummaryOf};
 
 use crate::handler_state::HandlerState;
-use crate::handlers::{first_marked, held_versions};
+use crate::handlers::{any_marked, held_versions};
 use arrayvec::ArrayVec;
 
 /// What the states of all handlers say together.
@@ -24,7 +24,7 @@ impl Summary {
     {
         Summary {
             held: held_versions(states),
-            owes: first_marked(states, 0).is_some(),
+            owes: any_marked(states),
         }
     }
 }
