@@ -61,3 +61,14 @@ some_passes p first end = by (find p (range_with_len first (end - first))) refl
         let high = at.high in
         let here : get_or (range_with_len 0 (end - 0)) found 0 ≡ found = get_or-range_with_len 0 (end - 0) found 0 (omega arith) ∙ omega arith in
         sym (list_any_at p (range_with_len 0 (end - 0)) found 0 (omega (arith, length-range_with_len 0 (end - 0))) (ap p here ∙ at.passes))
+
+pub find_none : (p : ℕ → Bool) (first n : ℕ) → ((k : ℕ) → first ≤ k → k < first + n → p k ≡ false) → find p (range_with_len first n) ≡ None
+find_none p first zero none = refl
+find_none p first (suc n) none =
+    let fails = none first (omega arith) (omega arith) in
+    rw fails (find_none p (first + 1) n (λ k low high. none k (omega arith) (omega arith)))
+
+pub some_at : (p : ℕ → Bool) (end found : ℕ) → found < end → p found ≡ true → is_some (find p (range_with_len 0 (end - 0))) ≡ true
+some_at p end found below passes =
+    let here : get_or (range_with_len 0 (end - 0)) found 0 ≡ found = get_or-range_with_len 0 (end - 0) found 0 (omega arith) ∙ omega arith in
+    is_some-find p (range_with_len 0 (end - 0)) ∙ list_any_at p (range_with_len 0 (end - 0)) found 0 (omega (arith, length-range_with_len 0 (end - 0))) (ap p here ∙ passes)

@@ -1,6 +1,6 @@
 -- The summary of the handlers' states, and a Vector of the versions that it has.
 use Rattle.std.proofs.Common.{◌≡◌, ℕ, zero, suc, ◌+◌, ◌<◌, ◌≤◌, ◌-◌, ◌*◌, ◌/◌, ◌%◌, ◌&&◌, Bool, true, false, ltb, List, [], length, map, set, get_or, refl, sym, ap, ◌∙◌, subst, arith, inl, inr}
-use Rattle.std.specs.Prelude.{Option, bytes_eq, is_some}
+use Rattle.std.specs.Prelude.{◌⊎◌, Option, bytes_eq, is_some}
 use Rattle.std.specs.List.{filter, find, refill, range_with_len}
 use Rattle.std.proofs.lemmas.Bool.{cases_eq, cases_lt, cond_both, le-ltb}
 use Rattle.std.proofs.lemmas.List.{ext_get_or, get_or-map, get_or-set_same, get_or-set_other, get_or_default, get_or_past, length-map, length-set}
@@ -14,7 +14,9 @@ use Rattle.capsule_exchange.specs.declared.handler_state.Form.{Form}
 use Rattle.arrayvec.specs.ArrayVec.{ArrayVec}
 use Rattle.capsule_exchange.specs.Steps.{no_state, aimed, kept, hears_fragment, is_marked_in, state_at, aimed_each, asks_upto}
 use Rattle.capsule_exchange.specs.Summary.{IsSummaryOf, AreKept}
-use Rattle.capsule_exchange.proofs.SlotLemmas.{find_same}
+use Rattle.capsule_exchange.specs.Happenings.{slots_from}
+use Rattle.capsule_exchange.specs.Marks.{HasMark, HasNoMark}
+use Rattle.capsule_exchange.proofs.SlotLemmas.{find_same, find_none, some_at}
 use Rattle.capsule_exchange.proofs.SoundLemmas.{refill_same}
 
 pub kept_now : (states seen : List HandlerState) (s : Summary) → seen ≡ states → length seen ≤ 8 → AreSound states → IsSummaryOf seen s → AreKept states s
@@ -153,3 +155,30 @@ pub kept_each : (n : ℕ) (states after : List HandlerState) (step : ℕ → Han
     → AreKept (refill n states after) s
 kept_each n states after step s long is keeps sound kept =
     kept_in n states after s long (ap length is ∙ length-map-range_with_len (λ (h : ℕ). step h (state_at states h)) 0 (length states)) sound (summed_each n states after step s long is keeps kept.summed) kept
+
+-- ---- whether a slot is marked, handler by handler
+
+pub marked_there : (states : List HandlerState) (h : ℕ) (s : HandlerState) → h < length states → state_at states h ≡ s → HasMark s.marks → true ≡ is_some (find (is_marked_in states) (slots_from (length states) 0))
+marked_there states h s below read m =
+    let within = m.within in
+    let slot = 22 * h + m.place in
+    let at : slot / 22 ≡ h = omega (arith, within) in
+    let inside : slot % 22 ≡ m.place = omega (arith, within) in
+    let here : is_marked_in states slot ≡ true =
+    ap (λ (k : ℕ). get_or (state_at states k).marks (slot % 22) false) at
+    ∙ ap (λ (i : ℕ). get_or (state_at states h).marks i false) inside
+    ∙ ap (λ (t : HandlerState). get_or t.marks m.place false) read
+    ∙ m.is in
+    sym (some_at (is_marked_in states) (22 * length states) slot (omega (arith, within, below)) here)
+
+pub marked_nowhere : (states : List HandlerState) (n : ℕ) → length states ≤ n → ((h : ℕ) → h < n → HasNoMark (state_at states h).marks) → false ≡ is_some (find (is_marked_in states) (slots_from (length states) 0))
+marked_nowhere states n all none =
+    sym (ap is_some (find_none (is_marked_in states) 0 (22 * length states - 0) (λ k low high. none (k / 22) (omega (arith, all)) (k % 22) (omega arith))))
+
+pub none_marked_more : (states : List HandlerState) (n : ℕ) (s : HandlerState) → state_at states n ≡ s → HasNoMark s.marks → ((h : ℕ) → h < n → HasNoMark (state_at states h).marks) → (h : ℕ) → h < n + 1 → HasNoMark (state_at states h).marks
+none_marked_more states n s read none before h below = by (cases_lt h n) where
+  by : (h < n) ⊎ (n ≤ h) → HasNoMark (state_at states h).marks
+  by (inl lower) = before h lower
+  by (inr here) =
+      let same : n ≡ h = omega arith in
+      λ place within. ap (λ (k : ℕ). get_or (state_at states k).marks place false) (sym same) ∙ ap (λ (t : HandlerState). get_or t.marks place false) read ∙ none place within

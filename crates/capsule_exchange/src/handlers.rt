@@ -1,9 +1,10 @@
 //! The states of all handlers, in order.
 
-ghost use Rattle.std.specs.Prelude.{◌≡◌, ◌*◌, ◌<◌, ◌≤◌, [], length, map, slice_set, IfSome, IsTrue, find};
+ghost use Rattle.std.specs.Prelude.{◌≡◌, ◌*◌, ◌<◌, ◌≤◌, [], length, map, slice_set, is_some, IfSome, IsTrue, MatchBool, find};
 ghost use Rattle.mate_num.specs.declared.bounds.TheConstants.{FRAGMENTS_MAX, HANDLERS_MAX};
 ghost use Rattle.capsule_exchange.specs.Happenings.{next_place, slots_from};
 ghost use Rattle.capsule_exchange.specs.Sound.{AreSound};
+ghost use Rattle.capsule_exchange.specs.Marks.{HasMark, HasNoMark};
 ghost use Rattle.capsule_exchange.specs.Steps.{state_at, hears_status, hears_fragment, after_sending, installs, forgets, aimed_each, asks_upto, is_marked_in, next_in};
 
 use crate::handler_state::{Form, HandlerState};
@@ -84,8 +85,8 @@ fn place_after(last: Option<u8>) -> usize
     }
 }
 
-/// The first marked slot from `first` on.
-pub(crate) fn first_marked(states: &[HandlerState], first: usize) -> Option<usize>
+// The first marked slot from `first` on.
+fn first_marked(states: &[HandlerState], first: usize) -> Option<usize>
     requires { length states.now ≤ HANDLERS_MAX }
     ensures value { result ≡ find (is_marked_in states.now) (slots_from (length states.now) first) }
     ensures marked { IfSome result (λ slot. (slot < FRAGMENTS_MAX * length states.now) × IsTrue (is_marked_in states.now slot)) }
@@ -96,4 +97,28 @@ pub(crate) fn first_marked(states: &[HandlerState], first: usize) -> Option<usiz
         }
     }
     None
+}
+
+/// Whether a fragment is marked.
+pub(crate) fn any_marked(states: &[HandlerState]) -> bool
+    ensures { result ≡ is_some (find (is_marked_in states.now) (slots_from (length states.now) 0)) }
+{
+    for h in 0..states.len() {
+        if has_mark(&states[h].marks) {
+            return true;
+        }
+    }
+    false
+}
+
+// Whether a place is marked.
+fn has_mark(marks: &[bool; FRAGMENTS_MAX]) -> bool
+    ensures { MatchBool result (HasMark marks.now) (HasNoMark marks.now) }
+{
+    for index in 0..FRAGMENTS_MAX {
+        if marks[index] {
+            return true;
+        }
+    }
+    false
 }

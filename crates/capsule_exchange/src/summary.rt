@@ -5,7 +5,7 @@ ghost use Rattle.mate_num.specs.declared.bounds.TheConstants.{HANDLERS_MAX};
 ghost use Rattle.capsule_exchange.specs.Summary.{IsSummaryOf};
 
 use crate::handler_state::HandlerState;
-use crate::handlers::{first_marked, held_versions};
+use crate::handlers::{any_marked, held_versions};
 use arrayvec::ArrayVec;
 use mate_num::HANDLERS_MAX;
 
@@ -26,7 +26,7 @@ impl Summary {
     {
         Summary {
             held: held_versions(states),
-            owes: first_marked(states, 0).is_some(),
+            owes: any_marked(states),
         }
     }
 }

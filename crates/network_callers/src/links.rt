@@ -5,13 +5,12 @@ ghost use Rattle.mate_journal.specs.declared.air.Air.TheVariants as air_kind;
 ghost use Rattle.trickle_timer.specs.Intervals.{stream, lcg_word};
 
 use mate_journal::Airs;
-use mate_num::{NoMemory, PacketBytes};
-use radio_sim::Cancel;
+use mate_num::NoMemory;
 use radio_sim::wire::{Sending, Wire, Wires};
+use radio_sim::{Cancel, SharedPacket};
 use rand_pcg::Lcg64Xsh32;
 use std::alloc::Global;
 use std::collections::VecDeque;
-use vm_desc::Description;
 use world_script::Link;
 
 pub fn a_pump_is_no_timer() -> u16
@@ -55,9 +54,8 @@ fn a_link(loss: u16, word: u32) -> Wire
 
 pub fn a_word_at_the_loss_is_carried(
     alloc: Global,
-    desc: &Description,
     sending: Sending,
-    bytes: &PacketBytes,
+    packet: &SharedPacket,
     air: &mut Airs,
 ) -> Result<usize, NoMemory>
     ensures { IfOk result (λ carried. carried ≡ 1) }
@@ -65,15 +63,14 @@ pub fn a_word_at_the_loss_is_carried(
     let mut wires = Wires::new(alloc);
     wires.push(a_link(300, 5300))?;
     let mut carried = VecDeque::new(alloc);
-    wires.carry(desc, sending, bytes, air, &mut carried)?;
+    wires.carry(sending, packet, air, &mut carried)?;
     Ok(carried.len())
 }
 
 pub fn a_loss_names_the_end_of_the_link(
     alloc: Global,
-    desc: &Description,
     sending: Sending,
-    bytes: &PacketBytes,
+    packet: &SharedPacket,
     air: &mut Airs,
 ) -> Result<(), NoMemory>
     ensures { IfOk result (λ _. air.new ≡ air.old
@@ -82,5 +79,5 @@ pub fn a_loss_names_the_end_of_the_link(
     let mut wires = Wires::new(alloc);
     wires.push(a_link(300, 5299))?;
     let mut carried = VecDeque::new(alloc);
-    wires.carry(desc, sending, bytes, air, &mut carried)
+    wires.carry(sending, packet, air, &mut carried)
 }

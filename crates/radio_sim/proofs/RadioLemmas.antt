@@ -1,20 +1,26 @@
 -- The links of a world, and the radio after a transmission.
-use Rattle.std.proofs.Common.{◌≡◌, ◌≢◌, ℕ, suc, ◌+◌, ◌*◌, ◌<◌, ◌≤◌, Bool, true, false, List, [], ◌∷◌, ◌++◌, length, map, get_or, set, take, refl, sym, ◌∙◌, ap, subst, arith, inl, inr}
-use Rattle.std.specs.Prelude.{◌==◌, ◌||◌, if◌then◌else◌}
+use Rattle.std.proofs.Common.{◌≡◌, ◌≢◌, ℕ, suc, ◌+◌, ◌*◌, ◌<◌, ◌≤◌, Bool, true, false, List, [], ◌∷◌, ◌++◌, length, map, get_or, set, take, refl, sym, ◌∙◌, ap, subst, arith, inl, inr, append_assoc}
+use Rattle.std.specs.Prelude.{◌==◌, ◌||◌, if◌then◌else◌, Result, Ok, Err, is_err, IfOk, OnOk, MatchResult}
 use Rattle.std.specs.List.{All, AllPairs, AllByRecursion, IsDistinct, list_any}
 use Rattle.std.proofs.lemmas.Bool.{cases_eq, ne_eqb, false≢true}
 use Rattle.std.proofs.lemmas.Bool.Decides.{eqb_tells}
 use Rattle.std.proofs.lemmas.List.{append-nil, take_more, get_or-set_same, get_or-set_other, length-take-le, length-append, length-map, get_or_default, take_all}
 use Rattle.std.proofs.lemmas.List.Sums.{sum_by_push}
 use Rattle.std.proofs.lemmas.Map.Steps.{length-le_from_distinct_below}
+use Rattle.arrayvec.specs.ArrayVec.{ArrayVec}
+use Rattle.event_queue.specs.Agenda.{Agenda, scheduled_all}
+use Rattle.mate_num.specs.declared.no_memory.NoMemory.{NoMemory}
+use Rattle.mate_journal.specs.declared.air.Aired.{Aired}
 use Rattle.world_script.specs.declared.world.Link.{Link}
 use Rattle.world_script.specs.declared.world.World.{World}
 use Rattle.world_script.specs.World.{AreOtherLinks, IsRightWorld}
 use Rattle.vm_desc.specs.declared.description.Description.{Description}
+use Rattle.radio_sim.specs.declared.event.Event.{Event}
+use Rattle.radio_sim.specs.declared.wire.Sending.{Sending}
 use Rattle.radio_sim.specs.declared.wire.Wire.{Wire}
-use Rattle.radio_sim.specs.Wires.{wire_after, leaving, turned_wire}
-use Rattle.radio_sim.specs.Sending.{AreLeaving}
-use Rattle.radio_sim.specs.Radio.{Ether, wires_of, packets, IsEtherOf}
+use Rattle.radio_sim.specs.Wires.{wire_after, leaving, turned_wire, losts, delivered}
+use Rattle.radio_sim.specs.Sending.{AreLeaving, sent_record}
+use Rattle.radio_sim.specs.Radio.{Ether, wires_of, packets, transmitted, IsEtherOf}
 use Rattle.radio_sim.proofs.WireLemmas.{leaving_push, turned_leaving}
 
 -- a link has its number of 4,096
@@ -112,3 +118,35 @@ stands_more w senders e v sender nodes low sent_is wires_is stood =
             ∙ ap (λ (n : ℕ). leaving w.random n node 0 w.links) (sym (packets_other node sender senders other))
       ];
     }
+
+-- ---- what was sent
+
+pub on-ok : (r : Result (Unit {0}) NoMemory) (P : Type 0) → is_err r ≡ false → OnOk r P → P
+on-ok (Ok x) P is holds = holds
+on-ok (Err x) P is holds = cc
+
+pub if-ok : (r : Result (Unit {0}) NoMemory) (P : Type 0) → is_err r ≡ false → IfOk r (λ _. P) → P
+if-ok (Ok x) P is holds = holds
+if-ok (Err x) P is holds = cc
+
+pub match-ok : (r : Result (Unit {0}) NoMemory) (P Q : Type 0) → is_err r ≡ false → MatchResult r (λ _. P) (λ _. Q) → P
+match-ok (Ok x) P Q is holds = holds
+match-ok (Err x) P Q is holds = cc
+
+-- the queue, the records and the links that a transmission leaves
+pub sends-so : (e : Ether) (s : Sending) (bytes : ArrayVec ℕ) (past airs new : List Aired) (ws turned : List Wire) (agenda : Agenda Event) → e.air ≡ past ++ airs → ws ≡ wires_of e s.node
+    → agenda ≡ scheduled_all e.agenda (s.at.time + e.delay) (delivered s bytes ws) → new ≡ airs ++ sent_record s bytes ∷ [] ++ losts s ws → turned ≡ map turned_wire ws
+    → ◌≡◌ {A = Ether} (record { agenda = agenda; air = past ++ new; gone = e.gone; sent = e.sent + 1; delay = e.delay; wires = set e.wires s.node turned }) (transmitted e s bytes)
+sends-so e s bytes past airs new ws turned agenda air_is ws_is agenda_is new_is turned_is =
+    let own = wires_of e s.node in
+    let sent = sent_record s bytes ∷ [] in
+    let lost = losts s own in
+    let E : Agenda Event → List Aired → List Wire → Ether = λ a xs us. record { agenda = a; air = xs; gone = e.gone; sent = e.sent + 1; delay = e.delay; wires = set e.wires s.node us } in
+    let due = agenda_is ∙ ap (λ (us : List Wire). scheduled_all e.agenda (s.at.time + e.delay) (delivered s bytes us)) ws_is in
+    let told : past ++ new ≡ e.air ++ sent ++ lost =
+    ap (λ (xs : List Aired). past ++ xs) (new_is ∙ ap (λ (us : List Wire). airs ++ sent ++ losts s us) ws_is)
+    ∙ sym (append_assoc past (airs ++ sent) lost)
+    ∙ ap (λ (xs : List Aired). xs ++ lost) (sym (append_assoc past airs sent) ∙ ap (λ (xs : List Aired). xs ++ sent) (sym air_is)) in
+    ap (λ (a : Agenda Event). E a (past ++ new) turned) due
+    ∙ ap (λ (xs : List Aired). E (scheduled_all e.agenda (s.at.time + e.delay) (delivered s bytes own)) xs turned) told
+    ∙ ap (λ (us : List Wire). E (scheduled_all e.agenda (s.at.time + e.delay) (delivered s bytes own)) (e.air ++ sent ++ lost) us) (turned_is ∙ ap (λ (us : List Wire). map turned_wire us) ws_is)

@@ -4,6 +4,7 @@
 pub mod event;
 pub mod past;
 pub mod radio;
+mod rooms;
 pub mod shared;
 pub mod waiting;
 pub mod wire;

@@ -16,6 +16,7 @@ ghost use Rattle.radio_sim.specs.Sending.{sent_record, AreLeaving, IsFurther};
 
 use crate::event::{Cancel, Event};
 use crate::past::PastAir;
+use crate::rooms::Rooms;
 use crate::waiting::{Delivery, Flight, Waiting};
 use crate::wire::{Sending, Wire, Wires, copy_of};
 use event_queue::{Queue, Timed};
@@ -24,6 +25,7 @@ use mate_num::{NoMemory, PacketBytes, Stamp};
 use std::alloc::Global;
 use std::collections::VecDeque;
 use std::marker::Model;
+use std::mem;
 use vm_desc::Description;
 use world_script::{Link, World};
 
@@ -40,6 +42,7 @@ pub struct Radio {
     came: u32,
     /// What is still to come then of the transmission whose packet came last.
     coming: VecDeque<Delivery>,
+    rooms: Rooms,
     past: PastAir,
     // how many records are gone
     gone: usize,
@@ -90,6 +93,7 @@ impl Radio {
             queue,
             came: 0,
             coming: VecDeque::new(alloc),
+            rooms: Rooms::new(alloc),
             past: PastAir::new(),
             gone: 0,
             air: Airs::new(alloc),
@@ -148,6 +152,7 @@ impl Radio {
             sending,
             bytes,
             self.delay,
+            &mut self.rooms,
             &mut self.queue,
             &mut self.air,
         );
@@ -172,7 +177,7 @@ impl Radio {
         }
         let Timed { time, item } = self.queue.next()?;
         self.came = time;
-        Some((time, come(item, &mut self.coming)))
+        Some((time, come(item, &mut self.coming, &mut self.rooms)))
     }
 
     /// Cancels events of a node: the others stay, in their order.
@@ -228,7 +233,7 @@ impl Radio {
 }
 
 /// The event that comes first of what waited; what comes behind it is in `coming` then.
-fn come(waiting: Waiting, coming: &mut VecDeque<Delivery>) -> Event
+fn come(waiting: Waiting, coming: &mut VecDeque<Delivery>, rooms: &mut Rooms) -> Event
     requires { coming.old.items ≡ [] }
     ensures first { result ≡ first_event waiting }
     ensures later { coming.new.items ≡ later_deliveries waiting }
@@ -252,7 +257,7 @@ fn come(waiting: Waiting, coming: &mut VecDeque<Delivery>) -> Event
         },
         Waiting::Flight(flight) => {
             let Flight { first, rest } = Box::into_inner(flight);
-            *coming = rest;
+            rooms.keep(mem::replace(coming, rest));
             first.into_event()
         }
     }
@@ -266,6 +271,7 @@ fn send(
     sending: Sending,
     bytes: &PacketBytes,
     delay: u32,
+    rooms: &mut Rooms,
     queue: &mut Queue<Waiting>,
     air: &mut Airs,
 ) -> Result<(), NoMemory>
@@ -289,8 +295,9 @@ fn send(
             bytes: copy_of(bytes),
         },
     })?;
-    let mut carried = VecDeque::new(alloc);
-    wires.carry(desc, sending, bytes, air, &mut carried)?;
+    let packet = rooms.packet(desc, bytes)?;
+    let mut carried = rooms.take();
+    wires.carry(sending, &packet, air, &mut carried)?;
     let Some(first) = carried.pop_front() else {
         return Ok(());
     };

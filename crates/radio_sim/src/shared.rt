@@ -1,6 +1,6 @@
 //! A packet that comes over several links.
 
-ghost use Rattle.std.specs.Prelude.{◌≡◌, length, IfOk, IfSome};
+ghost use Rattle.std.specs.Prelude.{◌≡◌, length, IfOk, IfSome, MatchBool};
 ghost use Rattle.radio_sim.specs.Shared.{IsPacketOf};
 
 use crate::wire::copy_of;
@@ -20,6 +20,23 @@ struct Reading {
     handlers: usize,
     /// The packet, if the bytes are one.
     packet: Option<Packet>,
+}
+
+impl Reading {
+    ghost use Rattle.radio_sim.specs.Shared.{IsRightReading};
+
+    /// The bytes, read for a machine.
+    fn of(desc: &Description, bytes: &PacketBytes) -> Reading
+        ensures right { IsRightReading result }
+        ensures bytes { result.bytes ≡ bytes.now }
+    {
+        Reading {
+            bytes: copy_of(bytes),
+            vm_id: desc.vm_id,
+            handlers: desc.handlers.len(),
+            packet: decode(desc, bytes.as_slice()).ok(),
+        }
+    }
 }
 
 /// A packet, whose bytes are in one place for all links that deliver it, with what they are to a machine, so that they are
@@ -50,15 +67,22 @@ impl SharedPacket {
     ) -> Result<SharedPacket, NoMemory>
         ensures { IfOk result (λ shared. shared ≡ bytes.now) }
     {
-        let reading = Reading {
-            bytes: copy_of(bytes),
-            vm_id: desc.vm_id,
-            handlers: desc.handlers.len(),
-            packet: decode(desc, bytes.as_slice()).ok(),
-        };
-        match Rc::new(alloc, reading) {
+        match Rc::new(alloc, Reading::of(desc, bytes)) {
             Ok(reading) => Ok(SharedPacket { reading }),
             Err(_) => Err(NoMemory),
+        }
+    }
+
+    /// Another packet in its place, if it has no other owner: whether that is so.
+    pub fn replace(&mut self, desc: &Description, bytes: &PacketBytes) -> bool
+        ensures { MatchBool result (self.new ≡ bytes.now) (self.new ≡ self.old) }
+    {
+        match Rc::get_mut(&mut self.reading) {
+            Some(reading) => {
+                *reading = Reading::of(desc, bytes);
+                true
+            }
+            None => false,
         }
     }
 

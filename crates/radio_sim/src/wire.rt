@@ -13,7 +13,6 @@ use rand_pcg::Lcg64Xsh32;
 use std::alloc::Global;
 use std::collections::VecDeque;
 use std::marker::Model;
-use vm_desc::Description;
 use world_script::Link;
 
 /// A link that leaves a node.
@@ -64,7 +63,6 @@ impl Wire {
 /// The links that leave one node, in their order. Contracts see the list.
 #[derive(Drop)]
 pub struct Wires {
-    alloc: Global,
     wires: Vec<Wire>,
 }
 
@@ -92,7 +90,6 @@ impl Wires {
         ensures { result ≡ [] }
     {
         Wires {
-            alloc,
             wires: Vec::new(alloc),
         }
     }
@@ -108,17 +105,15 @@ impl Wires {
     /// Each link carries the packet or loses it, in their order. `NoMemory` leaves what was recorded before.
     pub fn carry(
         &self,
-        desc: &Description,
         sending: Sending,
-        bytes: &PacketBytes,
+        packet: &SharedPacket,
         air: &mut Airs,
         carried: &mut VecDeque<Delivery>,
     ) -> Result<(), NoMemory>
         ensures air { IfOk result (λ _. air.new ≡ air.old ++ losts sending self.now) }
-        ensures carried { IfOk result (λ _. carried.new.items ≡ carried.old.items ++ carried_by sending bytes.now self.now) }
+        ensures carried { IfOk result (λ _. carried.new.items ≡ carried.old.items ++ carried_by sending packet.now self.now) }
         ensures kept { IsFurther air.old air.new }
     {
-        let shared = SharedPacket::new(self.alloc, desc, bytes)?;
         // (room for all at once)
         carried.reserve(self.wires.len())?;
         for wire in &self.wires {
@@ -132,7 +127,7 @@ impl Wires {
                     },
                 })?;
             } else {
-                let copy = shared.share()?;
+                let copy = packet.share()?;
                 carried.push_back(Delivery {
                     link: wire.link,
                     number: sending.number,

@@ -1,5 +1,5 @@
 -- Nobody is at a place more.
-use Rattle.std.proofs.Common.{◌≡◌, ◌+◌, List, Option, [], ◌∷◌, None, length, length-append, ap, ◌∙◌, arith}
+use Rattle.std.proofs.Common.{List, Option, [], ◌∷◌, None, length, length-append, ap, ◌∙◌, arith}
 use Rattle.node_contexts.specs.declared.seat.Seat.{Seat}
 use Rattle.node_contexts.specs.Seats.{places_upto}
 use Rattle.node_contexts.proofs.SeatLemmas.{seats-longer}

@@ -1,15 +1,20 @@
-use Rattle.std.proofs.Common.{◌≡◌, [], rules, ◌∙◌, sym, ap, subst, List, ◌+◌, arith}
+use Rattle.std.proofs.Common.{◌≡◌, ℕ, [], ◌++◌, rules, ◌∙◌, sym, ap, subst, List, ◌+◌, arith}
+use Rattle.arrayvec.specs.ArrayVec.{ArrayVec}
 use Rattle.mate_journal.specs.declared.air.Aired.{Aired}
 use Rattle.radio_sim.specs.Sending.{IsFurther}
 use Rattle.radio_sim.proofs.WireLemmas.{further_none, further_push, further_both}
 use Rattle.event_queue.specs.Agenda.{AddsAll, scheduled_all}
 use Rattle.radio_sim.specs.declared.event.Event.{Event}
 use Rattle.radio_sim.specs.Waiting.{radio_agenda}
+use Rattle.radio_sim.specs.Wires.{carried_by}
 use Rattle.radio_sim.proofs.WaitingLemmas.{schedules_events, adds_events, adds_none, ahead_more, delivered_none, delivered_flight}
 use Rattle.radio_sim.proofs.radio.send.Goals as goal
 
 pub returns-in_err-push-clause-kept : goal.returns-in_err-push-clause-kept
 returns-in_err-push-clause-kept c = subst (λ (xs : List Aired). IsFurther c.args.air.now xs) (sym c.in_err-push.ensures) (further_none c.args.air.now)
+
+pub returns-in_err-packet-clause-kept : goal.returns-in_err-packet-clause-kept
+returns-in_err-packet-clause-kept c = further_push c.args.air.now c.push.new.self _ c.in_ok-push.ensures
 
 pub returns-in_err-carry-clause-kept : goal.returns-in_err-carry-clause-kept
 returns-in_err-carry-clause-kept c = further_both _ _ _ (further_push c.args.air.now c.push.new.self _ c.in_ok-push.ensures) c.in_err-carry.ensures.kept
@@ -20,28 +25,28 @@ returns-clause-kept c = further_both _ _ _ (further_push c.args.air.now c.push.n
 pub returns-in_default-clause-queue : goal.returns-in_default-clause-queue
 returns-in_default-clause-queue c = λ coming.
     let none_carried : c.carry.new.carried.items ≡ [] = search rules in
-    let none_left = delivered_none c.args.sending c.args.bytes.now c.args.wires.now c.new-carried.result.items c.carry.new.carried.items c.new-carried.ensures.items c.in_ok-carry.ensures.carried none_carried in
+    let none_left = delivered_none c.args.sending c.args.bytes.now c.args.wires.now c.take-carried.result.items c.carry.new.carried.items c.take-carried.ensures (c.in_ok-carry.ensures.carried ∙ ap (λ (b : ArrayVec ℕ). c.take-carried.result.items ++ carried_by c.args.sending b c.args.wires.now) c.in_ok-packet.ensures) none_carried in
     ap (λ (es : List Event). scheduled_all (radio_agenda coming c.args.queue.now) (c.args.sending.at.time + c.args.delay) es) (sym none_left)
 
 pub returns-in_default-clause-due : goal.returns-in_default-clause-due
 returns-in_default-clause-due c = λ coming.
     let none_carried : c.carry.new.carried.items ≡ [] = search rules in
-    let none_left = delivered_none c.args.sending c.args.bytes.now c.args.wires.now c.new-carried.result.items c.carry.new.carried.items c.new-carried.ensures.items c.in_ok-carry.ensures.carried none_carried in
+    let none_left = delivered_none c.args.sending c.args.bytes.now c.args.wires.now c.take-carried.result.items c.carry.new.carried.items c.take-carried.ensures (c.in_ok-carry.ensures.carried ∙ ap (λ (b : ArrayVec ℕ). c.take-carried.result.items ++ carried_by c.args.sending b c.args.wires.now) c.in_ok-packet.ensures) none_carried in
     subst (λ (es : List Event). AddsAll (radio_agenda coming c.args.queue.now) (c.args.sending.at.time + c.args.delay) es (radio_agenda coming c.args.queue.now)) (sym none_left)
     (adds_none (radio_agenda coming c.args.queue.now) (c.args.sending.at.time + c.args.delay))
 
 pub returns-clause-queue : goal.returns-clause-queue
 returns-clause-queue c = λ coming.
-    let flight = delivered_flight c.args.sending c.args.bytes.now c.args.wires.now c.new-carried.result.items c.carry.new.carried.items c.pop_front.new.self.items c.in-Some.first c.in_ok-flight.flight c.new-carried.ensures.items
-    c.in_ok-carry.ensures.carried c.in-Some.ensures.items c.in_ok-flight.ensures in
+    let flight = delivered_flight c.args.sending c.args.bytes.now c.args.wires.now c.take-carried.result.items c.carry.new.carried.items c.pop_front.new.self.items c.in-Some.first c.in_ok-flight.flight c.take-carried.ensures
+    (c.in_ok-carry.ensures.carried ∙ ap (λ (b : ArrayVec ℕ). c.take-carried.result.items ++ carried_by c.args.sending b c.args.wires.now) c.in_ok-packet.ensures) c.in-Some.ensures.items c.in_ok-flight.ensures in
     let later = c.requires.ahead in
     schedules_events coming c.args.queue.now c.schedule.new.self (c.args.sending.at.time + c.args.delay) c.in_ok-flight.flight (omega (arith, later)) c.in_ok-schedule.ensures.list
     ∙ ap (λ (es : List Event). scheduled_all (radio_agenda coming c.args.queue.now) (c.args.sending.at.time + c.args.delay) es) flight
 
 pub returns-clause-due : goal.returns-clause-due
 returns-clause-due c = λ coming.
-    let flight = delivered_flight c.args.sending c.args.bytes.now c.args.wires.now c.new-carried.result.items c.carry.new.carried.items c.pop_front.new.self.items c.in-Some.first c.in_ok-flight.flight c.new-carried.ensures.items
-    c.in_ok-carry.ensures.carried c.in-Some.ensures.items c.in_ok-flight.ensures in
+    let flight = delivered_flight c.args.sending c.args.bytes.now c.args.wires.now c.take-carried.result.items c.carry.new.carried.items c.pop_front.new.self.items c.in-Some.first c.in_ok-flight.flight c.take-carried.ensures
+    (c.in_ok-carry.ensures.carried ∙ ap (λ (b : ArrayVec ℕ). c.take-carried.result.items ++ carried_by c.args.sending b c.args.wires.now) c.in_ok-packet.ensures) c.in-Some.ensures.items c.in_ok-flight.ensures in
     subst (λ (es : List Event). AddsAll (radio_agenda coming c.args.queue.now) (c.args.sending.at.time + c.args.delay) es (radio_agenda coming c.schedule.new.self)) flight
     (adds_events coming c.args.queue.now c.schedule.new.self (c.args.sending.at.time + c.args.delay) c.in_ok-flight.flight c.in_ok-schedule.ensures.now c.in_ok-schedule.ensures.due)
 
