@@ -4,7 +4,7 @@ use Rattle.std.specs.Prelude.{⊤, ◌||◌, codes, IsTrue, IfSome, IsSomeAnd, s
 use Rattle.std.specs.Global.{Vec}
 use Rattle.std.specs.List.{list_any}
 use Rattle.audit_laws.proofs.ReadBack.{same-journals}
-use Rattle.audit_laws.proofs.Told.{weaker}
+use Rattle.mate_num.proofs.ListLemmas.{along-weaker}
 use Rattle.audit_rules.specs.Laws.{InstallsProgram, KeepsLaw, machine_by}
 use Rattle.audit_rules.specs.Verdicts.{LogKeeps, LogKeepsAll, LogFails, NodesKeep, IsVerdict, TellSameJournals}
 use Rattle.audit_rules.proofs.ReportLemmas.{same-verdict}
@@ -116,7 +116,8 @@ module _ (d : Description) (ps qs : List Program) (same : CantBeToldApart d ps q
   by-meaning law es keeps = subst (λ (m : Meaning). KeepsLaw (machine_of d m) ps es law) same.meaning keeps
 
   law-too : (law : Law) (es : List TimedEntry) → KeepsLaw (machine_by d qs) ps es law → KeepsLaw (machine_by d qs) qs es law
-  law-too law.Image es keeps = weaker (InstallsProgram ps) (InstallsProgram qs) (machine_by d qs) (first_state (machine_by d qs)) es installs-too keeps
+  law-too law.Image es keeps =
+      along-weaker (λ (r : NodeState) (e : TimedEntry). InstallsProgram ps r e.told) (λ r e. InstallsProgram qs r e.told) _ (λ r e h. installs-too r e.told h) (first_state (machine_by d qs)) es keeps
   law-too _ es keeps = keeps
 
   log-too : (l : Log) (law : Law) → LogKeeps d ps l law → LogKeeps d qs l law

@@ -4,7 +4,7 @@ use Rattle.std.specs.Prelude.{fold, flat_map, count_by, if◌then◌else◌}
 use Rattle.std.proofs.lemmas.Bool.Decides.{Decides-eqb}
 use Rattle.std.proofs.lemmas.Grind.{flat_map-append}
 use Rattle.std.proofs.lemmas.List.{take_more}
-use Rattle.std.proofs.lemmas.List.Sums.{fold-append, sum_by_more, sum_by-cons, count_by_more_yes, count_by_more_no, count_by-le-length}
+use Rattle.std.proofs.lemmas.List.Sums.{fold-append, sum_by_more, sum_by-cons, count_by-le-length}
 use Rattle.mate_journal.specs.Log.{Log}
 use Rattle.mate_journal.specs.declared.air.Air.{Air}
 use Rattle.mate_journal.specs.declared.entry.Entry.{Entry}
@@ -18,17 +18,7 @@ use Rattle.report_text.specs.declared.kinds.AirKind.TheVariants as air_kind
 use Rattle.report_merge.specs.declared.counts.EntryCounts.{EntryCounts}
 use Rattle.report_merge.specs.declared.counts.AirCounts.{AirCounts}
 use Rattle.report_text.proofs.EventLemmas.{fold-max_start}
-
--- ---- one item more
-
-count-at : {A : Type 0} (p : A → Bool) (xs : List A) (i : ℕ) (x : A) → i < length xs → x ≡ get_or xs i x → (b : Bool) → p x ≡ b
-    → count_by p (take (i + 1) xs) ≡ count_by p (take i xs) + one_if (p x)
-count-at p xs i x h is true e = omega (arith, count_by_more_yes p xs i x h (ap p (sym is) ∙ e), ap one_if e)
-count-at p xs i x h is false e = omega (arith, count_by_more_no p xs i x h (ap p (sym is) ∙ e), ap one_if e)
-
-pub count-next : {A : Type 0} (p : A → Bool) (xs : List A) (i : ℕ) (x : A) → i < length xs → x ≡ get_or xs i x
-    → count_by p (take (i + 1) xs) ≡ count_by p (take i xs) + one_if (p x)
-count-next p xs i x h is = count-at p xs i x h is (p x) refl
+use Rattle.report_summary.proofs.CountLemmas.{count-next}
 
 -- ---- counts of entries
 

@@ -1,3 +1,4 @@
+pub mod CountLemmas
 pub mod TallyLemmas
 pub mod SummaryLemmas
 pub mod WritingLemmas

@@ -3,7 +3,7 @@ use Rattle.std.proofs.lemmas.List.{take_all}
 use Rattle.report_summary.specs.Tally.{versions_at}
 use Rattle.report_text.specs.Brief.{one_if}
 use Rattle.report_summary.specs.declared.tally.LogTally.{LogTally}
-use Rattle.report_text.proofs.CountLemmas.{count-next}
+use Rattle.report_summary.proofs.CountLemmas.{count-next}
 use Rattle.report_summary.proofs.summary.holding.Goals as goal
 
 pub loop-tally-preserved : goal.loop-tally-preserved
