@@ -149,7 +149,11 @@ impl Exchange {
     }
 
     // A Vector was received: whether its versions are those that are held, and what is asked for.
-    fn hear_vector(&mut self, versions: &ArrayVec<u32, HANDLERS_MAX>, asks: &mut ArrayVec<Packet, HANDLERS_MAX>) -> bool
+    fn hear_vector(
+        &mut self,
+        versions: &ArrayVec<u32, HANDLERS_MAX>,
+        asks: &mut ArrayVec<Packet, HANDLERS_MAX>,
+    ) -> bool
         requires same_len { length versions.now.items ≡ length self.old.handlers }
         requires empty { asks.old.items ≡ [] }
         ensures consistent { IsTrue result ↔ (versions.now.items ≡ map (λ s. s.held) self.old.handlers) }

@@ -38,7 +38,11 @@ pub(crate) fn aim_each(states: &mut [HandlerState], versions: &[u32])
 
 /// Requests the versions that are greater than what is held.
 #[inline(never)]
-pub(crate) fn ask_each(states: &[HandlerState], versions: &[u32], asks: &mut ArrayVec<Packet, HANDLERS_MAX>)
+pub(crate) fn ask_each(
+    states: &[HandlerState],
+    versions: &[u32],
+    asks: &mut ArrayVec<Packet, HANDLERS_MAX>,
+)
     requires same_len { length versions.now ≡ length states.now }
     requires few { length states.now ≤ HANDLERS_MAX }
     requires sound { AreSound states.now }

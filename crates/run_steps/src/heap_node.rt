@@ -56,11 +56,7 @@ impl Model for HeapNode {
 impl HeapNode {
     /// A node on which nothing happened. The codes of the programs are ready on it.
     #[inline(never)]
-    pub fn new(
-        alloc: Global,
-        desc: &Description,
-        programs: &Programs,
-    ) -> Result<HeapNode, NoMemory>
+    pub fn new(alloc: Global, desc: &Description, programs: &Programs) -> Result<HeapNode, NoMemory>
         ensures { IfOk result (IsNewNode desc.now) }
     {
         let machine = SharedMachine::with_codes(alloc, desc, programs)?;
