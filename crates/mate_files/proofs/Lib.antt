@@ -2,4 +2,3 @@ pub mod SinkLemmas
 pub mod PenLemmas
 mod HexPieces
 mod WriteTurns
-mod ReadLemmas

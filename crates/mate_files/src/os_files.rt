@@ -20,6 +20,8 @@ pub struct OsFiles<'a, R> {
     alloc: Global,
     runtime: &'a R,
     faults: u64,
+    // What reads fill. It stays from one file to the next, so that a file takes memory for no more than its own bytes.
+    room: Vec<u8>,
 }
 
 impl<'a, R: rt::Files> OsFiles<'a, R> {
@@ -33,6 +35,7 @@ impl<'a, R: rt::Files> OsFiles<'a, R> {
             alloc,
             runtime,
             faults: 0,
+            room: Vec::new(alloc),
         }
     }
 }
@@ -62,7 +65,7 @@ impl<R: rt::Files> Files for OsFiles<'_, R> {
         ensures faults { faults_of self.new ≡ faults_after (faults_of self.old) result }
         ensures too_large { (len : ℕ) → IsErrOf result (FilesFault.TooLarge len) → len ≡ FILE_MAX + 1 }
     {
-        let outcome = read_file(self.alloc, self.runtime, name);
+        let outcome = read_file(self.alloc, self.runtime, &mut self.room, name);
         if let Err(FilesFault::Failed | FilesFault::TooLarge { .. }) = outcome {
             self.faults = self.faults.saturating_add(1);
         }
@@ -72,15 +75,20 @@ impl<R: rt::Files> Files for OsFiles<'_, R> {
     ghost steady_told = { Prim.search rules };
 }
 
-// The bytes of the file at `name`.
-fn read_file<R: rt::Files>(alloc: Global, runtime: &R, name: &str) -> Result<Vec<u8>, FilesFault>
+// The bytes of the file at `name`, by way of `room`.
+fn read_file<R: rt::Files>(
+    alloc: Global,
+    runtime: &R,
+    room: &mut Vec<u8>,
+    name: &str,
+) -> Result<Vec<u8>, FilesFault>
     ensures short { IfOk result (λ bytes. length bytes.items ≤ FILE_MAX) }
     ensures too_large { IfErr result (λ fault. (len : ℕ) → fault ≡ FilesFault.TooLarge len → len ≡ FILE_MAX + 1) }
 {
     let Ok(mut file) = fs::open(runtime, name) else {
         return Err(FilesFault::Failed);
     };
-    let bytes = read_front(alloc, &mut file)?;
+    let bytes = read_front(alloc, room, &mut file)?;
     if bytes.len() > FILE_MAX {
         let len = bytes.len() as u64;
         return Err(FilesFault::TooLarge { len });
@@ -88,8 +96,12 @@ fn read_file<R: rt::Files>(alloc: Global, runtime: &R, name: &str) -> Result<Vec
     Ok(bytes)
 }
 
-// The bytes that `file` has left, up to one past the first `FILE_MAX`.
-fn read_front<F: Read>(alloc: Global, file: &mut F) -> Result<Vec<u8>, FilesFault>
+// The bytes that `file` has left, up to one past the first `FILE_MAX`, by way of `room`.
+fn read_front<F: Read>(
+    alloc: Global,
+    room: &mut Vec<u8>,
+    file: &mut F,
+) -> Result<Vec<u8>, FilesFault>
     ensures short { IfOk result (λ bytes. length bytes.items ≤ FILE_MAX + 1) }
     ensures bytes { IfOk result (λ bytes. Consumes (F.remaining file.old) (F.remaining file.new) bytes.items) }
     ensures all { IfOk result (λ bytes. length bytes.items ≤ FILE_MAX → IsAtEnd (F.remaining file.new)) }
@@ -98,7 +110,7 @@ fn read_front<F: Read>(alloc: Global, file: &mut F) -> Result<Vec<u8>, FilesFaul
     let mut bytes = Vec::new(alloc);
     while bytes.len() <= FILE_MAX {
         let most = next_read(bytes.len());
-        if read_more(file, &mut bytes, most)? == 0 {
+        if read_more(file, room, &mut bytes, most)? == 0 {
             break;
         }
     }
@@ -116,9 +128,13 @@ fn next_read(held: usize) -> usize
         .min(FILE_MAX + 1 - held)
 }
 
-// Reads up to `most` bytes, in one read, and appends them to `bytes`; it returns 0 only at the end of `file`. After a
-// fault `bytes` may hold bytes that aren't the file's.
-fn read_more<F: Read>(file: &mut F, bytes: &mut Vec<u8>, most: usize) -> Result<usize, FilesFault>
+// Reads up to `most` bytes, in one read into `room`, and appends them to `bytes`; it returns 0 only at the end of `file`.
+fn read_more<F: Read>(
+    file: &mut F,
+    room: &mut Vec<u8>,
+    bytes: &mut Vec<u8>,
+    most: usize,
+) -> Result<usize, FilesFault>
     requires some { 0 < most }
     requires few { length bytes.old.items + most ≤ FILE_MAX + 1 }
     ensures appends { IfOk result (λ count. (more : List ℕ) × (bytes.new.items ≡ bytes.old.items ++ more) × (length more ≡ count)
@@ -127,13 +143,14 @@ fn read_more<F: Read>(file: &mut F, bytes: &mut Vec<u8>, most: usize) -> Result<
     ensures end { IfOk result (λ count. count ≡ 0 → IsAtEnd (F.remaining file.new)) }
     ensures refusal { IfErr result (λ fault. (fault ≡ FilesFault.Failed) ⊎ (fault ≡ FilesFault.NoMemory)) }
 {
-    let held = bytes.len();
-    if bytes.resize(held + most, 0).is_err() {
+    if room.resize(most, 0).is_err() {
         return Err(FilesFault::NoMemory);
     }
-    let Ok(count) = file.read(&mut bytes[held..]) else {
+    let Ok(count) = file.read(room.as_mut_slice()) else {
         return Err(FilesFault::Failed);
     };
-    bytes.truncate(held + count);
-    Ok(count)
+    match bytes.extend_from_slice(&room[..count]) {
+        Ok(()) => Ok(count),
+        Err(_) => Err(FilesFault::NoMemory),
+    }
 }
