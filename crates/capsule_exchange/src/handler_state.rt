@@ -7,7 +7,8 @@ ghost use Rattle.capsule_codec.specs.Fragments.{count_of};
 ghost use Rattle.capsule_exchange.specs.Happenings.{fragment_of};
 ghost use Rattle.capsule_exchange.specs.Steps.{no_state, aimed, takes, kept, hears_fragment, marked, hears_status, after_sending, installs, forgets, places_in, image_held, complete_in, ask_in};
 
-use crate::pieces::{copy_of, is_whole, joined, missing_mask, no_marks, no_pieces};
+use crate::kept_piece::KeptPiece;
+use crate::pieces::{is_whole, joined, missing_mask, no_marks, no_pieces};
 use capsule_codec::{Piece, count, fragment};
 use mate_num::{FRAGMENTS_MAX, HandlerId, Image, SHORT_IMAGE};
 use packet_codec::Packet;
@@ -33,7 +34,7 @@ pub struct HandlerState {
     /// The form of the target's fragments, once one was received.
     pub(crate) form: Option<Form>,
     /// The pieces of the target that are collected.
-    pub(crate) pieces: [Option<Piece>; FRAGMENTS_MAX],
+    pub(crate) pieces: [Option<KeptPiece>; FRAGMENTS_MAX],
     /// The fragments of the held image that were asked for and not sent since.
     pub(crate) marks: [bool; FRAGMENTS_MAX],
 }
@@ -84,7 +85,7 @@ impl HandlerState {
         let place = usize::from(index);
         if self.takes(form) && self.pieces[place].is_none() {
             self.form = Some(form);
-            self.pieces[place] = Some(copy_of(bytes));
+            self.pieces[place] = Some(KeptPiece::of(bytes));
         }
     }
 
@@ -139,7 +140,7 @@ impl HandlerState {
     }
 
     // The places of the target's pieces, by index: as many as it has fragments, or all `FRAGMENTS_MAX` if no fragment was received.
-    fn places(&self) -> &[Option<Piece>]
+    fn places(&self) -> &[Option<KeptPiece>]
         requires { IfSome self.now.form (λ form. form.count ≤ FRAGMENTS_MAX) }
         ensures value { result.now ≡ places_in self.now }
         ensures few { length result.now ≤ FRAGMENTS_MAX }

@@ -7,21 +7,11 @@ ghost use Rattle.capsule_codec.specs.declared.fragments.TheConstants.{PIECE_MAX}
 ghost use Rattle.capsule_exchange.specs.Table.{table};
 ghost use Rattle.capsule_exchange.specs.Happenings.{gaps, mask_of, whole, piece_bytes};
 
-use capsule_codec::Piece;
+use crate::kept_piece::KeptPiece;
 use mate_num::{FRAGMENTS_MAX, Image};
 
-/// A copy of the bytes.
-pub(crate) fn copy_of(piece: &Piece) -> Piece
-    ensures { result ≡ piece.now }
-{
-    let Ok(copy) = Piece::try_from(piece.as_slice()) else {
-        unreachable!()
-    };
-    copy
-}
-
 /// No piece at any index.
-pub(crate) fn no_pieces() -> [Option<Piece>; FRAGMENTS_MAX]
+pub(crate) fn no_pieces() -> [Option<KeptPiece>; FRAGMENTS_MAX]
     ensures { result ≡ table (λ _. None) }
 {
     Default::default()
@@ -35,7 +25,7 @@ pub(crate) fn no_marks() -> [bool; FRAGMENTS_MAX]
 }
 
 /// Bit i for each index i with no piece.
-pub(crate) fn missing_mask(places: &[Option<Piece>]) -> u32
+pub(crate) fn missing_mask(places: &[Option<KeptPiece>]) -> u32
     requires { length places.now ≤ FRAGMENTS_MAX }
     ensures { result ≡ mask_of (gaps places.now) }
 {
@@ -49,7 +39,7 @@ pub(crate) fn missing_mask(places: &[Option<Piece>]) -> u32
 }
 
 /// The pieces put together; None exactly if one is missing.
-pub(crate) fn joined(places: &[Option<Piece>]) -> Option<Image>
+pub(crate) fn joined(places: &[Option<KeptPiece>]) -> Option<Image>
     requires { length places.now ≤ FRAGMENTS_MAX }
     ensures { result ≡ whole places.now }
 {
@@ -61,14 +51,14 @@ pub(crate) fn joined(places: &[Option<Piece>]) -> Option<Image>
 }
 
 /// Whether no piece is missing.
-pub(crate) fn is_whole(places: &[Option<Piece>]) -> bool
+pub(crate) fn is_whole(places: &[Option<KeptPiece>]) -> bool
     ensures { result ≡ list_all is_some places.now }
 {
     places.iter().all(|place| place.is_some())
 }
 
 // The bytes of the pieces, in order.
-fn bytes_in(places: &[Option<Piece>]) -> Image
+fn bytes_in(places: &[Option<KeptPiece>]) -> Image
     requires { length places.now ≤ FRAGMENTS_MAX }
     ensures { result.items ≡ flat_map piece_bytes places.now }
 {
@@ -80,7 +70,7 @@ fn bytes_in(places: &[Option<Piece>]) -> Image
 }
 
 // Appends the bytes of the piece, if there is one; there must be room for them.
-fn append(image: &mut Image, place: &Option<Piece>)
+fn append(image: &mut Image, place: &Option<KeptPiece>)
     requires { length image.old.items + PIECE_MAX ≤ IMAGE_MAX }
     ensures bytes { image.new.items ≡ image.old.items ++ piece_bytes place.now }
     ensures high { length image.new.items ≤ length image.old.items + PIECE_MAX }

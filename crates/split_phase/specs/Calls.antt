@@ -17,6 +17,10 @@ call_at calls ctx = slice_index_or calls ctx.0 None
 abbrev pub no_calls : List (Option Asked)
 no_calls = replicate CONTEXTS_MAX None
 
+-- a call that was dropped
+abbrev pub gone : Option Asked → Option Asked
+gone call = None
+
 -- the list is that one, and each context has no call in it
 pub record AreNone (calls : List (Option Asked)) : Type 0 where
   pub whole : calls ≡ no_calls

@@ -1,9 +1,10 @@
 //! The pending call of each context.
 
-ghost use Rattle.std.specs.Prelude.{◌≡◌, ◌<◌, MatchResult, OnOk, OnErr};
-ghost use Rattle.split_phase.specs.Calls.{call_at, AreNone, IsOf, CallBecomes};
+ghost use Rattle.std.specs.Prelude.{◌≡◌, ◌<◌, map, MatchResult, OnOk, OnErr};
+ghost use Rattle.split_phase.specs.Calls.{call_at, gone, AreNone, IsOf, CallBecomes};
 
-use mate_num::{CONTEXTS_MAX, ContextId, FunId, Payload, copy_of};
+use crate::call::Call;
+use mate_num::{CONTEXTS_MAX, ContextId, FunId, Payload};
 use std::marker::Model;
 
 /// The refusal of an answer: the context waits for none.
@@ -14,16 +15,19 @@ pub struct NotWaiting;
 /// that it called and the call's arguments, or None.
 #[derive(Drop)]
 pub struct Pending {
-    calls: [Option<(FunId, Payload)>; CONTEXTS_MAX],
+    calls: [Option<Call>; CONTEXTS_MAX],
 }
 
 impl Model for Pending {
-    ghost use Rattle.std.specs.Prelude.{List, Option};
+    ghost use Rattle.std.specs.Prelude.{◌≡◌, List, Option, length};
+    ghost use Rattle.mate_num.specs.declared.bounds.TheConstants.{CONTEXTS_MAX};
     ghost use Rattle.split_phase.specs.Calls.{Asked};
 
     ghost Value = { List (Option Asked) };
 
     ghost view = { λ p. p.calls };
+
+    ghost invariant = { λ p. length p.calls ≡ CONTEXTS_MAX };
 }
 
 impl Pending {
@@ -42,7 +46,7 @@ impl Pending {
         requires free { call_at self.old ctx ≡ None }
         ensures { CallBecomes self.old self.new ctx (Some (fun, args)) }
     {
-        self.calls[ctx.0 as usize] = Some((fun, args));
+        self.calls[ctx.0 as usize] = Some(Call::of(fun, &args));
     }
 
     /// The answer to the call of `ctx` has come: the result is the function that was called, and `ctx` no longer
@@ -54,7 +58,7 @@ impl Pending {
         ensures err { OnErr result (self.new ≡ self.old) }
     {
         match self.calls[ctx.0 as usize].take() {
-            Some((fun, _)) => Ok(fun),
+            Some(call) => Ok(call.fun()),
             None => Err(NotWaiting),
         }
     }
@@ -65,7 +69,7 @@ impl Pending {
         ensures { result ≡ call_at self.now ctx }
     {
         match &self.calls[ctx.0 as usize] {
-            Some((fun, args)) => Some((*fun, copy_of(args))),
+            Some(call) => Some((call.fun(), call.args())),
             None => None,
         }
     }
@@ -74,6 +78,15 @@ impl Pending {
     pub fn cancel(&mut self)
         ensures { AreNone self.new }
     {
-        self.calls = Default::default();
+        cancel_all(&mut self.calls);
+    }
+}
+
+/// Drops the calls. What a call had stays in its place, and only that it is gone is written.
+fn cancel_all(calls: &mut [Option<Call>])
+    ensures { calls.new ≡ map gone calls.old }
+{
+    for call in calls {
+        *call = None;
     }
 }

@@ -1,5 +1,7 @@
-use Rattle.split_phase.proofs.CallLemmas.{AreNone-from_each}
+use Rattle.std.proofs.Common.{◌≡◌, subst, sym}
+use Rattle.split_phase.specs.Calls.{AreNone}
+use Rattle.split_phase.proofs.CallLemmas.{AreNone-gone}
 use Rattle.split_phase.proofs.pending.Pending.cancel.Goals as goal
 
 pub returns : goal.returns
-returns c = AreNone-from_each c.default-self-inside.result c.default-self-inside.ensures.long c.default-self-inside.ensures.at
+returns c = subst AreNone (sym c.cancel_all.ensures) (AreNone-gone _ c.self.invariant)
