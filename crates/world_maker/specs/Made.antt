@@ -1,5 +1,5 @@
 -- The world of a number.
-use Rattle.std.specs.Prelude.{ℕ, zero, suc, ◌+◌, ◌-◌, ◌*◌, ◌%◌, nat_lt, pos, true, if◌then◌else◌, List, [], ◌∷◌, ◌++◌, length, map}
+use Rattle.std.specs.Prelude.{ℕ, zero, suc, ◌+◌, ◌-◌, ◌*◌, ◌%◌, nat_lt, nat_le, pos, true, if◌then◌else◌, List, [], ◌∷◌, ◌++◌, length, map}
 use Rattle.std.specs.Prelude.{replicate}
 use Rattle.std.specs.List.{range_with_len}
 use Rattle.vm_desc.specs.declared.description.Description.{Description}
@@ -55,6 +55,11 @@ unsorted number handlers nodes posts =
 abbrev pub put : Planned → List Planned → List Planned
 put e [] = e ∷ []
 put e (x ∷ events) = if nat_lt x.time e.time then x ∷ put e events else e ∷ x ∷ events
+
+-- an event before the first later one
+abbrev pub put_behind : Planned → List Planned → List Planned
+put_behind e [] = e ∷ []
+put_behind e (x ∷ events) = if nat_le x.time e.time then x ∷ put_behind e events else e ∷ x ∷ events
 
 -- the events by time, where those of one time keep their order; after them come others
 abbrev pub sorted_onto : List Planned → List Planned → List Planned
