@@ -7,6 +7,7 @@ ghost use Rattle.ts_checked.specs.Checked.{checked_shape};
 ghost use Rattle.mate_steps.specs.Answers.{TellsAcceptance};
 
 use crate::refusal::SourceRefusal;
+use crate::trees::Trees;
 use std::alloc::Global;
 use ts_checked::Checked;
 use ts_checker::check;
@@ -21,9 +22,29 @@ pub fn accept(alloc: Global, desc: &Description, bytes: &[u8]) -> Result<Checked
     ensures tells { TellsAcceptance desc.now bytes.now result }
     ensures shape { IfOk result (λ script. checked_shape script ≡ shape_of_machine desc.now) }
 {
+    accept_with(alloc, desc, bytes, Trees::Freed)
+}
+
+/// The same, and what becomes of the tree that was read.
+pub(crate) fn accept_with(
+    alloc: Global,
+    desc: &Description,
+    bytes: &[u8],
+    trees: Trees,
+) -> Result<Checked, SourceRefusal>
+    requires { length bytes.now ≤ FILE_MAX }
+    ensures tells { TellsAcceptance desc.now bytes.now result }
+    ensures shape { IfOk result (λ script. checked_shape script ≡ shape_of_machine desc.now) }
+{
     let script = read(alloc, bytes)?;
     match check(alloc, desc, &script) {
-        Ok(checked) => Ok(checked),
-        Err(fault) => Err(SourceRefusal::Meaning(fault)),
+        Ok(checked) => {
+            trees.done(script);
+            Ok(checked)
+        }
+        Err(fault) => {
+            trees.done(script);
+            Err(SourceRefusal::Meaning(fault))
+        }
     }
 }

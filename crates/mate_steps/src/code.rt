@@ -6,6 +6,7 @@ ghost use Rattle.ts_checked.specs.Checked.{checked_tree, checked_shape as shape_
 ghost use Rattle.vm_desc.specs.Shapes.{shape_of};
 ghost use Rattle.mate_steps.specs.SourceCode.{GivesCode};
 
+use crate::trees::Trees;
 use mate_num::Code;
 use opcode_gen::table;
 use std::alloc::Global;
@@ -45,14 +46,35 @@ pub fn compiled_script(
     ensures gives { GivesCode (shape_of desc.now) folded (checked_tree script) result }
     ensures filled { IfOk result (λ c. 1 ≤ length c.code.items) }
 {
+    compiled_with(alloc, desc, folded, script, Trees::Freed)
+}
+
+/// The same, and what becomes of the trees that the result doesn't have.
+pub(crate) fn compiled_with(
+    alloc: Global,
+    desc: &Description,
+    folded: bool,
+    script: Checked,
+    trees: Trees,
+) -> Result<CompiledScript, CodeFault>
+    requires { shape_of_script script ≡ shape_of desc.now }
+    ensures gives { GivesCode (shape_of desc.now) folded (checked_tree script) result }
+    ensures filled { IfOk result (λ c. 1 ≤ length c.code.items) }
+{
     if folded {
-        folded_code(alloc, desc, &script)
+        let compiled = folded_code(alloc, desc, &script, trees);
+        trees.done(script);
+        compiled
     } else {
-        plain_code(desc, script)
+        plain_code(desc, script, trees)
     }
 }
 
-fn plain_code(desc: &Description, script: Checked) -> Result<CompiledScript, CodeFault>
+fn plain_code(
+    desc: &Description,
+    script: Checked,
+    trees: Trees,
+) -> Result<CompiledScript, CodeFault>
     requires { shape_of_script script ≡ shape_of desc.now }
     ensures gives { GivesCode (shape_of desc.now) false (checked_tree script) result }
     ensures filled { IfOk result (λ c. 1 ≤ length c.code.items) }
@@ -62,7 +84,10 @@ fn plain_code(desc: &Description, script: Checked) -> Result<CompiledScript, Cod
             bytes_are_in_range(code.as_slice());
             Ok(CompiledScript { script, code })
         }
-        Err(fault) => Err(CodeFault::Uncompiled(fault)),
+        Err(fault) => {
+            trees.done(script);
+            Err(CodeFault::Uncompiled(fault))
+        }
     }
 }
 
@@ -70,6 +95,7 @@ fn folded_code(
     alloc: Global,
     desc: &Description,
     script: &Checked,
+    trees: Trees,
 ) -> Result<CompiledScript, CodeFault>
     requires { shape_of_script script.now ≡ shape_of desc.now }
     ensures gives { GivesCode (shape_of desc.now) true (checked_tree script.now) result }
@@ -83,7 +109,10 @@ fn folded_code(
             bytes_are_in_range(code.as_slice());
             Ok(CompiledScript { script, code })
         }
-        Err(fault) => Err(CodeFault::Uncompiled(fault)),
+        Err(fault) => {
+            trees.done(script);
+            Err(CodeFault::Uncompiled(fault))
+        }
     }
 }
 

@@ -11,6 +11,7 @@ pub mod expansion;
 pub mod parts;
 pub mod refusal;
 pub mod source;
+mod trees;
 
 pub use acceptance::acceptance_law;
 pub use accepting::accept;

@@ -1,6 +1,6 @@
 //! Statements: what is left of them goes into the block that they are in.
 
-ghost use Rattle.std.specs.Prelude.{◌≡◌, ◌++◌, OnOk, IfOk};
+ghost use Rattle.std.specs.Prelude.{◌≡◌, ◌++◌, [], OnOk, IfOk};
 ghost use Rattle.ts_checked.specs.Expression.{arguments};
 ghost use Rattle.ts_checked.specs.Statement.{Set, SetItem, Append, Do, If, For, While};
 ghost use Rattle.ts_checked.specs.TreeOf.{expr_tree, args_trees, stmt_tree, block_trees, block_tree};
@@ -16,9 +16,18 @@ use ts_checked::{CArgs, CBlock, CExpr, CForHead, CStmt, CVar};
 pub(crate) fn block(alloc: Global, body: &CBlock) -> Result<CBlock, NoMemory>
     ensures { IfOk result (λ folded. block_trees folded ≡ folded_stmts (block_tree body.now)) }
 {
-    let mut folded = CBlock::new(alloc);
+    let mut folded = room_for(alloc, body.len())?;
     statements(alloc, body, &mut folded)?;
     Ok(folded)
+}
+
+// An empty block with room for `count` statements: most blocks have as many as before, and many have one.
+fn room_for(alloc: Global, count: usize) -> Result<CBlock, NoMemory>
+    ensures { IfOk result (λ room. block_trees room ≡ []) }
+{
+    Ok(CBlock {
+        items: Vec::with_capacity(alloc, count)?,
+    })
 }
 
 // Appends what is left of a block's statements.

@@ -93,7 +93,9 @@ impl<'a> Scanner<'a> {
         self.tokens.truncate(0);
     }
 
-    /// Reads a blank, a comment or a token; `first` is its first byte.
+    /// Reads a blank, a comment or a token; `first` is its first byte. It is inlined into the loops that call it: a source has many
+    /// blanks, and a call costs more than to skip one.
+    #[inline(always)]
     pub(crate) fn step(&mut self, first: u8) -> Result<(), TokenFault>
         requires { slice_get self.old.rest.now 0 ≡ Some first }
         ensures { Steps self.old self.new result }

@@ -23,14 +23,14 @@ returns-in_err-bytes-clause-does g c = stops_by c.in_err-bytes.field-0.0 c.from_
 pub returns-clause-does : goal.returns-clause-does
 returns-clause-does g c =
     goes_on c.in_ok-bytes.bytes c.in_ok-bytes.ensures.does
-    (subst (λ (bs : List ℕ). compiled_bytes c.args.desc.now c.args.fold c.args.name.now bs c.compiled_bytes.result) c.as_slice.ensures.value c.compiled_bytes.ensures.does)
+    (subst (λ (bs : List ℕ). compiled_bytes c.args.desc.now c.args.fold c.args.name.now bs c.compiled_bytes_with.result) c.as_slice.ensures.value c.compiled_bytes_with.ensures.does)
 
 pub returns-in_err-bytes-clause-reads : goal.returns-in_err-bytes-clause-reads
 returns-in_err-bytes-clause-reads g c = reads-err c.in_err-bytes.field-0.0 c.from_residual.result c.in_err-bytes.ensures.reads c.from_residual.ensures.1
 
 pub returns-clause-reads : goal.returns-clause-reads
 returns-clause-reads g c =
-    reads-as c.in_ok-bytes.ensures.reads (compiled-read c.args.desc.now c.args.fold c.args.name.now c.as_slice.result.now c.compiled_bytes.result c.compiled_bytes.ensures.does)
+    reads-as c.in_ok-bytes.ensures.reads (compiled-read c.args.desc.now c.args.fold c.args.name.now c.as_slice.result.now c.compiled_bytes_with.result c.compiled_bytes_with.ensures.does)
 
 pub returns-clause-filled : goal.returns-clause-filled
-returns-clause-filled g c = c.compiled_bytes.ensures.filled
+returns-clause-filled g c = c.compiled_bytes_with.ensures.filled

@@ -156,8 +156,11 @@ for_next-returns t c =
 
 -- ---- where memory is refused
 
+pub block-returns-in_err-folded : goal.block-returns-in_err-folded
+block-returns-in_err-folded t c = let p = err_from_is_err_and c.from_residual.result c.from_residual.ensures.1 in rw p.1 tt
+
 pub block-returns-in_err-statements : goal.block-returns-in_err-statements
-block-returns-in_err-statements t c = let p = err_from_is_err_and c.from_residual.result c.from_residual.ensures.1 in rw p.1 tt
+block-returns-in_err-statements t c = let p = err_from_is_err_and c.from_residual-in_err-statements.result c.from_residual-in_err-statements.ensures.1 in rw p.1 tt
 
 pub statements-returns-in_err-statement : goal.statements-returns-in_err-statement
 statements-returns-in_err-statement t c = let p = err_from_is_err_and c.from_residual.result c.from_residual.ensures.1 in rw p.1 tt

@@ -1,5 +1,5 @@
 use Rattle.mate_steps.proofs.Laws.{fails_as}
-use Rattle.mate_steps.proofs.source.accepted.Goals as goal
+use Rattle.mate_steps.proofs.source.accepted_with.Goals as goal
 
 pub returns-in-Some-clause-does : goal.returns-in-Some-clause-does
 returns-in-Some-clause-does c =

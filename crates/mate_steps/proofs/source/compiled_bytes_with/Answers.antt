@@ -1,7 +1,7 @@
 use Rattle.ts_checked.specs.Checked.{checked_tree}
 use Rattle.mate_steps.specs.Steps.{goes_on}
 use Rattle.mate_steps.proofs.Laws.{stops_by}
-use Rattle.mate_steps.proofs.source.compiled_bytes.Goals as goal
+use Rattle.mate_steps.proofs.source.compiled_bytes_with.Goals as goal
 
 pub returns-in_err-script-clause-does : goal.returns-in_err-script-clause-does
 returns-in_err-script-clause-does c = stops_by c.in_err-script.field-0.0 c.from_residual.result c.in_err-script.ensures.does c.from_residual.ensures.1
