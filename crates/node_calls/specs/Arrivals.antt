@@ -7,6 +7,7 @@ use Rattle.mate_num.specs.declared.call.Stamp.{Stamp}
 use Rattle.mate_num.specs.declared.id.HandlerId.{HandlerId}
 use Rattle.vm_desc.specs.declared.description.Description.{Description}
 use Rattle.mate_journal.specs.Journal.{Installed, journal_of}
+use Rattle.mate_journal.specs.declared.report.TheConstants.{ENTRIES_MAX}
 use Rattle.journal_laws.specs.Growth.{last_is_seen}
 use Rattle.node_contexts.specs.declared.handlers.Held.{Held}
 use Rattle.node_contexts.specs.Programs.{held_at, held_version_in, renewed}
@@ -21,6 +22,13 @@ use Rattle.node_calls.specs.Posting.{PostGives}
 use Rattle.node_calls.specs.declared.installing.InstallFault.{InstallFault}
 use Rattle.node_calls.specs.declared.installing.InstallFault.TheVariants.{Capsule, Code, NotNewer}
 use Rattle.node_calls.specs.declared.posting.PostAnswer.{PostAnswer}
+
+-- an install may come to the node with this stamp: it rests, and its log has room for all that an install records
+pub record MayInstall (d : Description) (s : Parts) (at : Stamp) : Type 0 where
+  pub rests : Rests d s
+  pub timely : IsTimely at s.log.all
+  pub room : 4 ≤ s.log.all.spare
+  pub few : length s.log.all.entries < ENTRIES_MAX
 
 -- what is held has this code
 abbrev pub HoldsCode : Option Held → List ℕ → Type 0
@@ -57,7 +65,7 @@ pub record Arrives (d : Description) (h : HandlerId) (at : Stamp) (now : Parts) 
   pub rests : Rests d before
   pub timely : IsTimely at before.log.all
   pub room : 3 ≤ before.log.all.spare
-  pub few : length before.log.all.entries ≤ 4000000000
+  pub few : length before.log.all.entries ≤ ENTRIES_MAX
   pub seen : last_is_seen false (journal_of before.log.all) ≡ true
   pub is_held : IsHeld d x
   pub handler : h.0 < length d.handlers.items

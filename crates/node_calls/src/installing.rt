@@ -1,16 +1,14 @@
 //! Installs: a newer capsule replaces a handler's program, and an era begins.
 
-ghost use Rattle.std.specs.Prelude.{◌≡◌, ◌<◌, ◌≤◌, ◌∷◌, [], length, All, IsTrue};
+ghost use Rattle.std.specs.Prelude.{◌≡◌, ◌<◌, ◌∷◌, [], length, All, IsTrue};
 ghost use Rattle.mate_journal.specs.Journal.{Installed};
 ghost use Rattle.vm_desc.specs.Shapes.{shape_of};
 ghost use Rattle.code_verifier.specs.Verified.{IsVerificationOf};
 ghost use Rattle.node_contexts.specs.Programs.{held_at};
 ghost use Rattle.node_invariant.specs.Fits.{IsHeld, program_of};
-ghost use Rattle.node_invariant.specs.Keeps.{IsTimely};
 ghost use Rattle.node_invariant.specs.Meaning.{machine_in};
-ghost use Rattle.node_invariant.specs.Starting.{Rests};
 ghost use Rattle.node_calls.specs.Calls.{RestsAgain};
-ghost use Rattle.node_calls.specs.Arrivals.{Arrives, HasBegun, CanRenew, HoldsCode, Prepares};
+ghost use Rattle.node_calls.specs.Arrivals.{Arrives, HasBegun, CanRenew, HoldsCode, MayInstall, Prepares};
 ghost use Rattle.node_calls.specs.Installing.{IsInstallable, IsReadAs, IsReadyOn, InstallGives};
 
 use crate::era::clear;
@@ -96,10 +94,7 @@ fn prepare(
     version: u32,
     at: Stamp,
 ) -> Result<(), InstallFault>
-    requires rests { Rests description.now parts.old }
-    requires timely { IsTimely at parts.old.log.all }
-    requires room { 4 ≤ parts.old.log.all.spare }
-    requires few { length parts.old.log.all.entries < 4000000000 }
+    requires { MayInstall description.now parts.old at }
     ensures prepares { Prepares description.now parts.old parts.new handler version at result }
     ensures gone { parts.new.log.gone ≡ parts.old.log.gone }
 {
@@ -161,10 +156,7 @@ fn install_own(
     held: Held,
     at: Stamp,
 ) -> Result<(), InstallFault>
-    requires rests { Rests description.now parts.old }
-    requires timely { IsTimely at parts.old.log.all }
-    requires room { 4 ≤ parts.old.log.all.spare }
-    requires few { length parts.old.log.all.entries < 4000000000 }
+    requires may { MayInstall description.now parts.old at }
     requires can { IsInstallable description.now bytes.now (record { handler = handler; held = held }) }
     ensures installs { InstallGives description.now parts.old parts.new bytes.now at result }
     ensures gone { parts.new.log.gone ≡ parts.old.log.gone }
@@ -186,10 +178,7 @@ fn install_one(
     program: SharedHeld,
     at: Stamp,
 ) -> Result<(), InstallFault>
-    requires rests { Rests description.now parts.old }
-    requires timely { IsTimely at parts.old.log.all }
-    requires room { 4 ≤ parts.old.log.all.spare }
-    requires few { length parts.old.log.all.entries < 4000000000 }
+    requires may { MayInstall description.now parts.old at }
     requires can { IsInstallable description.now bytes.now (record { handler = handler; held = program }) }
     ensures installs { InstallGives description.now parts.old parts.new bytes.now at result }
     ensures gone { parts.new.log.gone ≡ parts.old.log.gone }
@@ -213,10 +202,7 @@ fn install_known(
     version: u32,
     at: Stamp,
 ) -> Result<(), InstallFault>
-    requires rests { Rests description.now parts.old }
-    requires timely { IsTimely at parts.old.log.all }
-    requires room { 4 ≤ parts.old.log.all.spare }
-    requires few { length parts.old.log.all.entries < 4000000000 }
+    requires may { MayInstall description.now parts.old at }
     requires can { CanRenew description.now bytes.now parts.old handler version }
     ensures installs { InstallGives description.now parts.old parts.new bytes.now at result }
     ensures gone { parts.new.log.gone ≡ parts.old.log.gone }
@@ -238,10 +224,7 @@ fn install_alike(
     held: &Held,
     at: Stamp,
 ) -> Result<(), InstallFault>
-    requires rests { Rests description.now parts.old }
-    requires timely { IsTimely at parts.old.log.all }
-    requires room { 4 ≤ parts.old.log.all.spare }
-    requires few { length parts.old.log.all.entries < 4000000000 }
+    requires may { MayInstall description.now parts.old at }
     requires read { IsReadAs description.now bytes.now capsule.now }
     requires right { IsHeld description.now held.now }
     requires alike { held.now.code.bytes ≡ capsule.now.code.now }
@@ -266,10 +249,7 @@ fn install_code(
     code: Verified,
     at: Stamp,
 ) -> Result<(), InstallFault>
-    requires rests { Rests description.now parts.old }
-    requires timely { IsTimely at parts.old.log.all }
-    requires room { 4 ≤ parts.old.log.all.spare }
-    requires few { length parts.old.log.all.entries < 4000000000 }
+    requires may { MayInstall description.now parts.old at }
     requires read { IsReadAs description.now bytes.now capsule.now }
     requires verified { IsVerificationOf (shape_of description.now) capsule.now.code.now code }
     ensures installs { InstallGives description.now parts.old parts.new bytes.now at result }
@@ -288,10 +268,7 @@ fn install_new(
     capsule: &CapsuleRef<'_>,
     at: Stamp,
 ) -> Result<(), InstallFault>
-    requires rests { Rests description.now parts.old }
-    requires timely { IsTimely at parts.old.log.all }
-    requires room { 4 ≤ parts.old.log.all.spare }
-    requires few { length parts.old.log.all.entries < 4000000000 }
+    requires may { MayInstall description.now parts.old at }
     requires read { IsReadAs description.now bytes.now capsule.now }
     ensures installs { InstallGives description.now parts.old parts.new bytes.now at result }
     ensures gone { parts.new.log.gone ≡ parts.old.log.gone }
@@ -301,41 +278,6 @@ fn install_new(
         Ok(code) => install_code(description, parts, bytes, capsule, code, at),
         Err(fault) => Err(InstallFault::Code(fault)),
     }
-}
-
-/// Installs the capsule of the machine that the bytes are for its handler, if it is newer than what the node holds: the store
-/// is recorded, all live invocations are cut, all shared variables are 0, and all buffers are empty. A handler of the kind
-/// `once` is then posted with an empty payload.
-///
-/// The refusals come in the order of `InstallFault`, and change nothing.
-pub fn install_in(
-    description: &Description,
-    parts: &mut Parts,
-    bytes: &[u8],
-    at: Stamp,
-) -> Result<(), InstallFault>
-    requires rests { Rests description.now parts.old }
-    requires timely { IsTimely at parts.old.log.all }
-    requires room { 4 ≤ parts.old.log.all.spare }
-    requires few { length parts.old.log.all.entries < 4000000000 }
-    ensures installs { InstallGives description.now parts.old parts.new bytes.now at result }
-    ensures gone { parts.new.log.gone ≡ parts.old.log.gone }
-{
-    let capsule = match decode_in_place(description, bytes) {
-        Ok(capsule) => capsule,
-        Err(fault) => return Err(InstallFault::Capsule(fault)),
-    };
-    if holds_code(parts, &capsule) {
-        return install_known(
-            description,
-            parts,
-            bytes,
-            capsule.handler,
-            capsule.version,
-            at,
-        );
-    }
-    install_new(description, parts, bytes, &capsule, at)
 }
 
 /// Installs the capsule that the bytes are beside one that is ready. If it is the same one, the node needs no more than its place; if it
@@ -349,10 +291,7 @@ fn install_beside(
     ready: &ReadyCapsule,
     at: Stamp,
 ) -> Result<(), InstallFault>
-    requires rests { Rests description.now parts.old }
-    requires timely { IsTimely at parts.old.log.all }
-    requires room { 4 ≤ parts.old.log.all.spare }
-    requires few { length parts.old.log.all.entries < 4000000000 }
+    requires may { MayInstall description.now parts.old at }
     requires read { IsReadAs description.now bytes.now capsule.now }
     requires ready { IsReadyOn description.now ready.now }
     ensures installs { InstallGives description.now parts.old parts.new bytes.now at result }
@@ -381,7 +320,11 @@ fn renews(parts: &Parts, ready: &[ReadyCapsule], capsule: &CapsuleRef<'_>) -> bo
     }
 }
 
-/// Installs the capsule that the bytes are, as `install_in` does, where capsules are ready, in their order.
+/// Installs the capsule of the machine that the bytes are for its handler, if it is newer than what the node holds: the store
+/// is recorded, all live invocations are cut, all shared variables are 0, and all buffers are empty. A handler of the kind
+/// `once` is then posted with an empty payload. What was verified of capsules that are ready, in their order, isn't verified again.
+///
+/// The refusals come in the order of `InstallFault`, and change nothing.
 pub fn install_shared(
     description: &Description,
     parts: &mut Parts,
@@ -389,10 +332,7 @@ pub fn install_shared(
     ready: &[ReadyCapsule],
     at: Stamp,
 ) -> Result<(), InstallFault>
-    requires rests { Rests description.now parts.old }
-    requires timely { IsTimely at parts.old.log.all }
-    requires room { 4 ≤ parts.old.log.all.spare }
-    requires few { length parts.old.log.all.entries < 4000000000 }
+    requires may { MayInstall description.now parts.old at }
     requires ready { All (IsReadyOn description.now) ready.now }
     ensures installs { InstallGives description.now parts.old parts.new bytes.now at result }
     ensures gone { parts.new.log.gone ≡ parts.old.log.gone }

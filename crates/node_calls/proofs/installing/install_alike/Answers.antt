@@ -8,7 +8,7 @@ use Rattle.node_calls.proofs.installing.install_alike.Goals as goal
 
 pub install_copy-requires-clause-handler : goal.install_copy-requires-clause-handler
 install_copy-requires-clause-handler c =
-    shown-places c.args.description.now c.args.parts.now c.prepare.new.parts c.args.at c.args.bytes.now (record { handler = c.args.capsule.now.handler; held = alike c.args.capsule.now c.args.bytes.now c.args.held.now }) c.args.capsule.now.version c.requires.rests (IsInstallable-alike c.args.description.now c.args.bytes.now c.args.capsule.now c.args.held.now c.requires.right c.requires.read c.requires.alike) refl
+    shown-places c.args.description.now c.args.parts.now c.prepare.new.parts c.args.at c.args.bytes.now (record { handler = c.args.capsule.now.handler; held = alike c.args.capsule.now c.args.bytes.now c.args.held.now }) c.args.capsule.now.version c.requires.may.rests (IsInstallable-alike c.args.description.now c.args.bytes.now c.args.capsule.now c.args.held.now c.requires.right c.requires.read c.requires.alike) refl
     c.in_ok-prepare.ensures.prepares
 
 pub install_copy-requires-clause-fits : goal.install_copy-requires-clause-fits
@@ -16,21 +16,21 @@ install_copy-requires-clause-fits c = image-fits c.args.description.now c.args.b
 
 pub begin-requires : goal.begin-requires
 begin-requires c =
-    Arrives-shown c.args.description.now c.args.parts.now c.prepare.new.parts c.args.at c.args.bytes.now (record { handler = c.args.capsule.now.handler; held = alike c.args.capsule.now c.args.bytes.now c.args.held.now }) c.args.capsule.now.version c.requires.rests (IsInstallable-alike c.args.description.now c.args.bytes.now c.args.capsule.now c.args.held.now c.requires.right c.requires.read c.requires.alike) refl
+    Arrives-shown c.args.description.now c.args.parts.now c.prepare.new.parts c.args.at c.args.bytes.now (record { handler = c.args.capsule.now.handler; held = alike c.args.capsule.now c.args.bytes.now c.args.held.now }) c.args.capsule.now.version c.requires.may.rests (IsInstallable-alike c.args.description.now c.args.bytes.now c.args.capsule.now c.args.held.now c.requires.right c.requires.read c.requires.alike) refl
     c.in_ok-prepare.ensures.prepares
-    _ c.requires.room c.requires.few (ap (λ (ps : List (Option Held)). let s : Parts = record (c.prepare.new.parts) { handlers = record { programs = ps } } in s) c.install_copy.ensures)
+    _ c.requires.may.room c.requires.may.few (ap (λ (ps : List (Option Held)). let s : Parts = record (c.prepare.new.parts) { handlers = record { programs = ps } } in s) c.install_copy.ensures)
 
 pub returns-clause-installs : goal.returns-clause-installs
 returns-clause-installs c =
-    InstallGives-begun c.args.description.now c.args.parts.now c.prepare.new.parts c.args.at c.args.bytes.now (record { handler = c.args.capsule.now.handler; held = alike c.args.capsule.now c.args.bytes.now c.args.held.now }) c.args.capsule.now.version c.requires.rests (IsInstallable-alike c.args.description.now c.args.bytes.now c.args.capsule.now c.args.held.now c.requires.right c.requires.read c.requires.alike) refl
+    InstallGives-begun c.args.description.now c.args.parts.now c.prepare.new.parts c.args.at c.args.bytes.now (record { handler = c.args.capsule.now.handler; held = alike c.args.capsule.now c.args.bytes.now c.args.held.now }) c.args.capsule.now.version c.requires.may.rests (IsInstallable-alike c.args.description.now c.args.bytes.now c.args.capsule.now c.args.held.now c.requires.right c.requires.read c.requires.alike) refl
     c.in_ok-prepare.ensures.prepares
-    _ c.begin.new.parts c.requires.room c.requires.few (ap (λ (ps : List (Option Held)). let s : Parts = record (c.prepare.new.parts) { handlers = record { programs = ps } } in s) c.install_copy.ensures) c.begin.ensures.begins
+    _ c.begin.new.parts c.requires.may.room c.requires.may.few (ap (λ (ps : List (Option Held)). let s : Parts = record (c.prepare.new.parts) { handlers = record { programs = ps } } in s) c.install_copy.ensures) c.begin.ensures.begins
 
 pub returns-in_err-prepare-clause-installs : goal.returns-in_err-prepare-clause-installs
 returns-in_err-prepare-clause-installs c =
     let p = err_from_is_err_and c.from_residual.result c.from_residual.ensures.1 in
     rw (p.1, p.2) (
-    Refuses-older c.args.description.now c.args.parts.now c.prepare.new.parts c.args.at c.args.bytes.now (record { handler = c.args.capsule.now.handler; held = alike c.args.capsule.now c.args.bytes.now c.args.held.now }) c.args.capsule.now.version c.requires.rests (IsInstallable-alike c.args.description.now c.args.bytes.now c.args.capsule.now c.args.held.now c.requires.right c.requires.read c.requires.alike) refl c.in_err-prepare.field-0.0
+    Refuses-older c.args.description.now c.args.parts.now c.prepare.new.parts c.args.at c.args.bytes.now (record { handler = c.args.capsule.now.handler; held = alike c.args.capsule.now c.args.bytes.now c.args.held.now }) c.args.capsule.now.version c.requires.may.rests (IsInstallable-alike c.args.description.now c.args.bytes.now c.args.capsule.now c.args.held.now c.requires.right c.requires.read c.requires.alike) refl c.in_err-prepare.field-0.0
     c.in_err-prepare.ensures.prepares)
 
 pub returns-clause-gone : goal.returns-clause-gone

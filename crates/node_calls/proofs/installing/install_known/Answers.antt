@@ -9,30 +9,30 @@ use Rattle.node_calls.proofs.installing.install_known.Goals as goal
 
 pub renew-requires-clause-handler : goal.renew-requires-clause-handler
 renew-requires-clause-handler c =
-    shown-places c.args.description.now c.args.parts.now c.prepare.new.parts c.args.at c.args.bytes.now (record { handler = c.args.handler; held = c.requires.can.x }) c.args.version c.requires.rests c.requires.can.can c.requires.can.version_is
+    shown-places c.args.description.now c.args.parts.now c.prepare.new.parts c.args.at c.args.bytes.now (record { handler = c.args.handler; held = c.requires.can.x }) c.args.version c.requires.may.rests c.requires.can.can c.requires.can.version_is
     c.in_ok-prepare.ensures.prepares
 
 pub begin-requires : goal.begin-requires
 begin-requires c =
     let shown = c.in_ok-prepare.ensures.prepares in
     let programs = c.renew.ensures ∙ ap (λ (o : Option Held). set c.prepare.new.parts.handlers.programs c.args.handler.0 o) (ap (λ (s : Parts). renewed c.args.version (record { items = c.args.bytes.now }) (held_at s.handlers.programs c.args.handler)) shown.tells.same ∙ c.requires.can.after) in
-    Arrives-shown c.args.description.now c.args.parts.now c.prepare.new.parts c.args.at c.args.bytes.now (record { handler = c.args.handler; held = c.requires.can.x }) c.args.version c.requires.rests c.requires.can.can c.requires.can.version_is
+    Arrives-shown c.args.description.now c.args.parts.now c.prepare.new.parts c.args.at c.args.bytes.now (record { handler = c.args.handler; held = c.requires.can.x }) c.args.version c.requires.may.rests c.requires.can.can c.requires.can.version_is
     c.in_ok-prepare.ensures.prepares
-    _ c.requires.room c.requires.few (ap (λ (ps : List (Option Held)). let s : Parts = record (c.prepare.new.parts) { handlers = record { programs = ps } } in s) programs)
+    _ c.requires.may.room c.requires.may.few (ap (λ (ps : List (Option Held)). let s : Parts = record (c.prepare.new.parts) { handlers = record { programs = ps } } in s) programs)
 
 pub returns-clause-installs : goal.returns-clause-installs
 returns-clause-installs c =
     let shown = c.in_ok-prepare.ensures.prepares in
     let programs = c.renew.ensures ∙ ap (λ (o : Option Held). set c.prepare.new.parts.handlers.programs c.args.handler.0 o) (ap (λ (s : Parts). renewed c.args.version (record { items = c.args.bytes.now }) (held_at s.handlers.programs c.args.handler)) shown.tells.same ∙ c.requires.can.after) in
-    InstallGives-begun c.args.description.now c.args.parts.now c.prepare.new.parts c.args.at c.args.bytes.now (record { handler = c.args.handler; held = c.requires.can.x }) c.args.version c.requires.rests c.requires.can.can c.requires.can.version_is
+    InstallGives-begun c.args.description.now c.args.parts.now c.prepare.new.parts c.args.at c.args.bytes.now (record { handler = c.args.handler; held = c.requires.can.x }) c.args.version c.requires.may.rests c.requires.can.can c.requires.can.version_is
     c.in_ok-prepare.ensures.prepares
-    _ c.begin.new.parts c.requires.room c.requires.few (ap (λ (ps : List (Option Held)). let s : Parts = record (c.prepare.new.parts) { handlers = record { programs = ps } } in s) programs) c.begin.ensures.begins
+    _ c.begin.new.parts c.requires.may.room c.requires.may.few (ap (λ (ps : List (Option Held)). let s : Parts = record (c.prepare.new.parts) { handlers = record { programs = ps } } in s) programs) c.begin.ensures.begins
 
 pub returns-in_err-prepare-clause-installs : goal.returns-in_err-prepare-clause-installs
 returns-in_err-prepare-clause-installs c =
     let p = err_from_is_err_and c.from_residual.result c.from_residual.ensures.1 in
     rw (p.1, p.2) (
-    Refuses-older c.args.description.now c.args.parts.now c.prepare.new.parts c.args.at c.args.bytes.now (record { handler = c.args.handler; held = c.requires.can.x }) c.args.version c.requires.rests c.requires.can.can c.requires.can.version_is c.in_err-prepare.field-0.0
+    Refuses-older c.args.description.now c.args.parts.now c.prepare.new.parts c.args.at c.args.bytes.now (record { handler = c.args.handler; held = c.requires.can.x }) c.args.version c.requires.may.rests c.requires.can.can c.requires.can.version_is c.in_err-prepare.field-0.0
     c.in_err-prepare.ensures.prepares)
 
 pub returns-clause-gone : goal.returns-clause-gone

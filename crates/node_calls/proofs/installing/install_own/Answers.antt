@@ -8,28 +8,28 @@ use Rattle.node_calls.proofs.installing.install_own.Goals as goal
 
 pub install-requires : goal.install-requires
 install-requires c =
-    shown-places c.args.description.now c.args.parts.now c.prepare.new.parts c.args.at c.args.bytes.now (record { handler = c.args.handler; held = c.args.held }) c.args.held.version c.requires.rests c.requires.can refl
+    shown-places c.args.description.now c.args.parts.now c.prepare.new.parts c.args.at c.args.bytes.now (record { handler = c.args.handler; held = c.args.held }) c.args.held.version c.requires.may.rests c.requires.can refl
     c.in_ok-prepare.ensures.prepares
 
 pub begin-requires : goal.begin-requires
 begin-requires c =
     let programs = c.install.ensures in
-    Arrives-shown c.args.description.now c.args.parts.now c.prepare.new.parts c.args.at c.args.bytes.now (record { handler = c.args.handler; held = c.args.held }) c.args.held.version c.requires.rests c.requires.can refl
+    Arrives-shown c.args.description.now c.args.parts.now c.prepare.new.parts c.args.at c.args.bytes.now (record { handler = c.args.handler; held = c.args.held }) c.args.held.version c.requires.may.rests c.requires.can refl
     c.in_ok-prepare.ensures.prepares
-    _ c.requires.room c.requires.few (ap (λ (ps : List (Option Held)). let s : Parts = record (c.prepare.new.parts) { handlers = record { programs = ps } } in s) programs)
+    _ c.requires.may.room c.requires.may.few (ap (λ (ps : List (Option Held)). let s : Parts = record (c.prepare.new.parts) { handlers = record { programs = ps } } in s) programs)
 
 pub returns-clause-installs : goal.returns-clause-installs
 returns-clause-installs c =
     let programs = c.install.ensures in
-    InstallGives-begun c.args.description.now c.args.parts.now c.prepare.new.parts c.args.at c.args.bytes.now (record { handler = c.args.handler; held = c.args.held }) c.args.held.version c.requires.rests c.requires.can refl
+    InstallGives-begun c.args.description.now c.args.parts.now c.prepare.new.parts c.args.at c.args.bytes.now (record { handler = c.args.handler; held = c.args.held }) c.args.held.version c.requires.may.rests c.requires.can refl
     c.in_ok-prepare.ensures.prepares
-    _ c.begin.new.parts c.requires.room c.requires.few (ap (λ (ps : List (Option Held)). let s : Parts = record (c.prepare.new.parts) { handlers = record { programs = ps } } in s) programs) c.begin.ensures.begins
+    _ c.begin.new.parts c.requires.may.room c.requires.may.few (ap (λ (ps : List (Option Held)). let s : Parts = record (c.prepare.new.parts) { handlers = record { programs = ps } } in s) programs) c.begin.ensures.begins
 
 pub returns-in_err-prepare-clause-installs : goal.returns-in_err-prepare-clause-installs
 returns-in_err-prepare-clause-installs c =
     let p = err_from_is_err_and c.from_residual.result c.from_residual.ensures.1 in
     rw (p.1, p.2) (
-    Refuses-older c.args.description.now c.args.parts.now c.prepare.new.parts c.args.at c.args.bytes.now (record { handler = c.args.handler; held = c.args.held }) c.args.held.version c.requires.rests c.requires.can refl c.in_err-prepare.field-0.0
+    Refuses-older c.args.description.now c.args.parts.now c.prepare.new.parts c.args.at c.args.bytes.now (record { handler = c.args.handler; held = c.args.held }) c.args.held.version c.requires.may.rests c.requires.can refl c.in_err-prepare.field-0.0
     c.in_err-prepare.ensures.prepares)
 
 pub returns-clause-gone : goal.returns-clause-gone

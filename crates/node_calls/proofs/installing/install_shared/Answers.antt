@@ -13,7 +13,7 @@ returns-in-Err-clause-installs c =
 
 pub install_known-requires-clause-can : goal.install_known-requires-clause-can
 install_known-requires-clause-can c =
-    CanRenew-known c.args.description.now c.args.parts.now c.args.bytes.now c.in-Ok.capsule c.requires.rests
+    CanRenew-known c.args.description.now c.args.parts.now c.args.bytes.now c.in-Ok.capsule c.requires.may.rests
     (IsReadAs-from c.args.description.now c.args.bytes.now c.decode_in_place.result c.in-Ok.capsule c.in-Ok.is c.decode_in_place.ensures.value c.decode_in_place.ensures.image) (c.renews.ensures c.if-renews.true)
 
 pub install_beside-requires-clause-read : goal.install_beside-requires-clause-read

@@ -1,17 +1,24 @@
 -- The install, or the same node.
-use Rattle.std.proofs.Common.{sym, subst}
+use Rattle.std.proofs.Common.{◌<◌, ◌≤◌, length, sym, subst}
 use Rattle.std.specs.Prelude.{All}
 use Rattle.vm_desc.specs.declared.description.Description.{Description}
 use Rattle.node_calls.specs.Installing.{InstallsBytes, IsReadyOn, Refuses}
+use Rattle.mate_journal.specs.declared.report.TheConstants.{ENTRIES_MAX}
+use Rattle.node_invariant.specs.Keeps.{IsTimely}
 use Rattle.node_invariant.specs.Starting.{Rests}
-use Rattle.open_node.specs.View.{heard_of, Tells}
+use Rattle.open_node.specs.View.{NodeView, heard_of, Tells}
 use Rattle.open_node.specs.Calls.{Pacing}
 use Rattle.open_node.proofs.PaceLemmas.{seen_as}
 use Rattle.open_node.proofs.CallLemmas.{Tells-paced, Rests-either, Seen-either}
 use Rattle.open_node.proofs.open_node.OpenNode.install.Goals as goal
 
-pub install_shared-requires-clause-rests : goal.install_shared-requires-clause-rests
-install_shared-requires-clause-rests c = subst (λ (d : Description). Rests d c.self.inside.parts) (sym c.description-description.ensures) c.self.invariant.rests
+pub install_shared-requires-clause-may : goal.install_shared-requires-clause-may
+install_shared-requires-clause-may c = record {
+  rests = subst (λ (d : Description). Rests d c.self.inside.parts) (sym c.description-description.ensures) c.self.invariant.rests;
+  timely = subst (λ (v : NodeView). IsTimely c.args.at v.log) (sym c.self.view_is) c.requires.timely;
+  room = subst (λ (v : NodeView). 4 ≤ v.log.spare) (sym c.self.view_is) c.requires.room;
+  few = subst (λ (v : NodeView). length v.log.entries < ENTRIES_MAX) (sym c.self.view_is) c.requires.few;
+}
 
 pub install_shared-requires-clause-ready : goal.install_shared-requires-clause-ready
 install_shared-requires-clause-ready c =
