@@ -6,39 +6,15 @@ use Rattle.std.proofs.lemmas.Grind.{flat_map-append}
 use Rattle.std.proofs.lemmas.List.{take_more}
 use Rattle.std.proofs.lemmas.List.Sums.{fold-append, sum_by_more, sum_by-cons, count_by-le-length}
 use Rattle.mate_journal.specs.Log.{Log}
-use Rattle.mate_journal.specs.declared.air.Air.{Air}
-use Rattle.mate_journal.specs.declared.entry.Entry.{Entry}
 use Rattle.mate_journal.specs.declared.entry.Stamped.{Stamped}
-use Rattle.report_text.specs.Brief.{is_entry, is_air, entries_of, one_if, versions, newest, last}
-use Rattle.report_merge.specs.Counts.{entries_in, air_in, holders_after}
+use Rattle.report_text.specs.Brief.{is_entry, entries_of, one_if, versions, newest, last}
+use Rattle.report_merge.specs.Counts.{holders_after}
 use Rattle.report_text.specs.declared.kinds.EntryKind.{EntryKind}
-use Rattle.report_text.specs.declared.kinds.EntryKind.TheVariants as entry_kind
-use Rattle.report_text.specs.declared.kinds.AirKind.{AirKind}
-use Rattle.report_text.specs.declared.kinds.AirKind.TheVariants as air_kind
-use Rattle.report_merge.specs.declared.counts.EntryCounts.{EntryCounts}
-use Rattle.report_merge.specs.declared.counts.AirCounts.{AirCounts}
 use Rattle.report_text.proofs.EventLemmas.{fold-max_start}
 use Rattle.report_summary.proofs.CountLemmas.{count-next}
+use Rattle.report_summary.proofs.TallyLemmas.{one_if-most}
 
 -- ---- counts of entries
-
-pub no-entries : (k : EntryKind) → entries_in k (record { posts = 0; drops = 0; halts = 0; faults = 0; installs = 0 }) ≡ 0
-no-entries entry_kind.Post = refl
-no-entries _ = refl
-
-pub one-entry : (k : EntryKind) (old new : EntryCounts) (e : Entry)
-    → new.posts ≡ old.posts + one_if (is_entry entry_kind.Post e) → new.drops ≡ old.drops + one_if (is_entry entry_kind.Drop e)
-    → new.halts ≡ old.halts + one_if (is_entry entry_kind.Halt e) → new.faults ≡ old.faults + one_if (is_entry entry_kind.Fault e)
-    → new.installs ≡ old.installs + one_if (is_entry entry_kind.Install e) → entries_in k new ≡ entries_in k old + one_if (is_entry k e)
-one-entry entry_kind.Post old new e posts drops halts faults installs = posts
-one-entry entry_kind.Drop old new e posts drops halts faults installs = drops
-one-entry entry_kind.Halt old new e posts drops halts faults installs = halts
-one-entry entry_kind.Fault old new e posts drops halts faults installs = faults
-one-entry entry_kind.Install old new e posts drops halts faults installs = installs
-
-one_if-most : (b : Bool) → one_if b ≤ 1
-one_if-most true = omega arith
-one_if-most false = omega arith
 
 -- what was counted of the items before a place, and of one more
 pub record AreCounted {A : Type 0} (p : A → Bool) (xs : List A) (i before now : ℕ) : Type 0 where
@@ -65,19 +41,6 @@ entries-next k logs i log before after h is sofar adds =
 pub entries-most : (k : EntryKind) (log : Log) (i before after : ℕ) → length log.entries ≤ 2 ^ 57 → before ≤ i * 2 ^ 57
     → after ≡ before + count_by (λ (e : Stamped). is_entry k e.entry) log.entries → after ≤ (i + 1) * 2 ^ 57
 entries-most k log i before after size sofar adds = omega (arith, count_by-le-length (λ (e : Stamped). is_entry k e.entry) log.entries, size, sofar, adds)
-
--- ---- counts of the air
-
-pub no-air : (k : AirKind) → air_in k (record { sent = 0; got = 0; lost = 0 }) ≡ 0
-no-air air_kind.Sent = refl
-no-air _ = refl
-
-pub one-air : (k : AirKind) (old new : AirCounts) (a : Air)
-    → new.sent ≡ old.sent + one_if (is_air air_kind.Sent a) → new.got ≡ old.got + one_if (is_air air_kind.Got a) → new.lost ≡ old.lost + one_if (is_air air_kind.Lost a)
-    → air_in k new ≡ air_in k old + one_if (is_air k a)
-one-air air_kind.Sent old new a sent got lost = sent
-one-air air_kind.Got old new a sent got lost = got
-one-air air_kind.Lost old new a sent got lost = lost
 
 -- ---- the newest version
 

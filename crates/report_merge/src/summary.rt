@@ -6,13 +6,14 @@ ghost use Rattle.mate_files.specs.Pen.{Prints};
 ghost use Rattle.mate_files.specs.Sink.{Puts};
 ghost use Rattle.mate_journal.specs.Tidy.{below};
 ghost use Rattle.report_text.specs.Tidy.{IsTidy};
-ghost use Rattle.report_text.specs.Brief.{installed, versions, newest, last, count_line, newest_line, count_lines, brief};
+ghost use Rattle.report_text.specs.Brief.{installed, versions, newest, last, newest_line, count_lines, brief};
 ghost use Rattle.report_merge.specs.Counts.{holders_after};
 
-use crate::counts::{AirCounts, EntryCounts, count_records};
+use crate::counts::{count_records, entry_counts};
 use mate_files::{Pen, Sink, SinkFault};
 use mate_journal::{Entry, NodeLog, Report};
 use mate_num::HandlerId;
+use report_summary::{AirTally, Versions, text_of_counts};
 use report_text::entry_line::handler_name;
 use report_text::text::end_word;
 use report_text::words::{number, word};
@@ -40,28 +41,19 @@ fn count_lines<S: Sink>(pen: &mut Pen, out: &mut S, report: &Report)
     ensures { Prints (S.written out.old) (S.faults out.old) pen.old.result (S.written out.new) (S.faults out.new) pen.new.result
         (count_lines report.now) }
 {
-    let counts = EntryCounts::of(report.nodes());
-    let aired = AirCounts::of(report.air());
-    count_line(pen, out, "nodes", report.nodes().len() as u64);
-    count_line(pen, out, "events", report.events());
-    count_line(pen, out, "records", count_records(report));
-    count_line(pen, out, "posts", counts.posts);
-    count_line(pen, out, "drops", counts.drops);
-    count_line(pen, out, "halts", counts.halts);
-    count_line(pen, out, "faults", counts.faults);
-    count_line(pen, out, "installs", counts.installs);
-    count_line(pen, out, "sent", aired.sent);
-    count_line(pen, out, "got", aired.got);
-    count_line(pen, out, "lost", aired.lost);
-}
-
-fn count_line<S: Sink>(pen: &mut Pen, out: &mut S, name: &str, n: u64)
-    ensures { Prints (S.written out.old) (S.faults out.old) pen.old.result (S.written out.new) (S.faults out.new) pen.new.result
-        (count_line name.now n) }
-{
-    pen.text(out, name);
-    number(pen, out, n);
-    pen.text(out, "\n");
+    let nodes = report.nodes();
+    let counts = entry_counts(nodes);
+    let mut air = AirTally::new();
+    air.add_all(report.air());
+    text_of_counts(
+        pen,
+        out,
+        nodes.len() as u64,
+        report.events(),
+        count_records(report),
+        &counts,
+        &air,
+    );
 }
 
 fn newest_lines<S: Sink>(pen: &mut Pen, out: &mut S, desc: &Description, logs: &[NodeLog])
@@ -141,12 +133,6 @@ fn holders_after(version: u32, holders: u64, versions: Versions) -> u64
 }
 
 /// The greatest of a version and those that a node installed for a handler, and the last of these; 0 for none.
-#[derive(Clone, Copy)]
-struct Versions {
-    newest: u32,
-    last: u32,
-}
-
 fn versions_in(log: &NodeLog, handler: HandlerId, mut newest: u32) -> Versions
     ensures newest { result.newest ≡ fold max newest (versions handler.0 log.now) }
     ensures last { result.last ≡ last handler.0 log.now }

@@ -2,3 +2,4 @@ pub mod CountLemmas
 pub mod TallyLemmas
 pub mod SummaryLemmas
 pub mod WritingLemmas
+pub mod KeptLines

@@ -50,6 +50,13 @@ entries-same k n (t ∷ ts) (l ∷ ls) are =
     let rest = entries-same k n ts ls are.1 in
     omega (arith, a, b, here, rest)
 
+-- the lines of counts that are a summary's
+pub same-counts : (s : Summary) (ts : List LogTally) (all posts drops halts faults installs : ℕ) → ts ≡ s.nodes.items → all ≡ sum_by (λ (t : LogTally). t.entries) ts
+    → posts ≡ entries_summed entry_kind.Post ts → drops ≡ entries_summed entry_kind.Drop ts → halts ≡ entries_summed entry_kind.Halt ts
+    → faults ≡ entries_summed entry_kind.Fault ts → installs ≡ entries_summed entry_kind.Install ts
+    → text_of_counts (length ts) s.events (s.air.records + all) posts drops halts faults installs s.air.sent s.air.got s.air.lost ≡ counted_lines s
+same-counts s ts all posts drops halts faults installs is a p d h f i = cc
+
 -- ---- the newest version
 
 max-from : (a b : ℕ) (vs : List ℕ) → max a (fold max b vs) ≡ fold max (max a b) vs

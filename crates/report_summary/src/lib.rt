@@ -7,6 +7,6 @@ pub mod tally;
 pub mod write_fault;
 
 pub use pass::{Pass, nothing_run};
-pub use summary::{RunTally, Summary};
-pub use tally::{AirTally, LogTally};
+pub use summary::{RunTally, Summary, text_of_counts};
+pub use tally::{AirTally, EntryCounts, LogTally, Versions};
 pub use write_fault::{WriteFault, ended, stopped};

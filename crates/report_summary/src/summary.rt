@@ -4,12 +4,12 @@ ghost use Rattle.std.specs.Prelude.{◌≡◌, ◌≤◌, ◌*◌, ◌^◌, ◌=
 ghost use Rattle.mate_files.specs.Pen.{Prints};
 ghost use Rattle.mate_files.specs.Sink.{Puts};
 ghost use Rattle.mate_journal.specs.Tidy.{below};
-ghost use Rattle.report_text.specs.Brief.{count_line};
+ghost use Rattle.report_text.specs.Brief.{count_line, text_of_counts};
 ghost use Rattle.report_summary.specs.Tally.{versions_at};
 ghost use Rattle.report_summary.specs.Summary.{entries_summed, newest_counted, counted_lines, newest_line_counted, summary_text, AreSmall};
 ghost use Rattle.report_summary.specs.Summary.{IsSmall, IsOfNode, IsNewTally};
 
-use crate::tally::{AirTally, LogTally, one_if};
+use crate::tally::{AirTally, EntryCounts, LogTally, one_if};
 use mate_files::{Pen, Sink, SinkFault};
 use mate_num::{HandlerId, NoMemory};
 use report_text::entry_line::handler_name;
@@ -108,18 +108,51 @@ impl Summary {
             (counted_lines self.now) }
     {
         let nodes = self.nodes.as_slice();
-        count_line(pen, out, "nodes", nodes.len() as u64);
-        count_line(pen, out, "events", self.events);
-        count_line(pen, out, "records", self.air.records + entries(nodes));
-        count_line(pen, out, "posts", entries_of(nodes, EntryKind::Post));
-        count_line(pen, out, "drops", entries_of(nodes, EntryKind::Drop));
-        count_line(pen, out, "halts", entries_of(nodes, EntryKind::Halt));
-        count_line(pen, out, "faults", entries_of(nodes, EntryKind::Fault));
-        count_line(pen, out, "installs", entries_of(nodes, EntryKind::Install));
-        count_line(pen, out, "sent", self.air.sent);
-        count_line(pen, out, "got", self.air.got);
-        count_line(pen, out, "lost", self.air.lost);
+        let counts = EntryCounts {
+            posts: entries_of(nodes, EntryKind::Post),
+            drops: entries_of(nodes, EntryKind::Drop),
+            halts: entries_of(nodes, EntryKind::Halt),
+            faults: entries_of(nodes, EntryKind::Fault),
+            installs: entries_of(nodes, EntryKind::Install),
+        };
+        let records = self.air.records + entries(nodes);
+        text_of_counts(
+            pen,
+            out,
+            nodes.len() as u64,
+            self.events,
+            records,
+            &counts,
+            &self.air,
+        );
     }
+}
+
+/// Writes the lines of the counts of a run: how many nodes, events and records it has, and how many records of each counted kind.
+pub fn text_of_counts<S: Sink>(
+    pen: &mut Pen,
+    out: &mut S,
+    nodes: u64,
+    events: u64,
+    records: u64,
+    counts: &EntryCounts,
+    air: &AirTally,
+)
+    ensures { Prints (S.written out.old) (S.faults out.old) pen.old.result (S.written out.new) (S.faults out.new) pen.new.result
+        (text_of_counts nodes events records counts.now.posts counts.now.drops counts.now.halts counts.now.faults counts.now.installs
+        air.now.sent air.now.got air.now.lost) }
+{
+    count_line(pen, out, "nodes", nodes);
+    count_line(pen, out, "events", events);
+    count_line(pen, out, "records", records);
+    count_line(pen, out, "posts", counts.posts);
+    count_line(pen, out, "drops", counts.drops);
+    count_line(pen, out, "halts", counts.halts);
+    count_line(pen, out, "faults", counts.faults);
+    count_line(pen, out, "installs", counts.installs);
+    count_line(pen, out, "sent", air.sent);
+    count_line(pen, out, "got", air.got);
+    count_line(pen, out, "lost", air.lost);
 }
 
 fn count_line<S: Sink>(pen: &mut Pen, out: &mut S, name: &str, n: u64)

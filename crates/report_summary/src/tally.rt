@@ -39,7 +39,7 @@ impl EntryCounts {
     }
 
     /// Counts an entry.
-    fn add(&mut self, entry: &Entry)
+    pub fn add(&mut self, entry: &Entry)
         requires { CountsUpTo (2 ^ 63 + 2 ^ 57) self.old }
         ensures posts { self.new.posts ≡ self.old.posts + one_if (is_entry kinds.Post entry.now) }
         ensures drops { self.new.drops ≡ self.old.drops + one_if (is_entry kinds.Drop entry.now) }

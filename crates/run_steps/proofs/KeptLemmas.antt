@@ -1,17 +1,10 @@
--- What is at hand of a log, and its lines.
-use Rattle.std.proofs.Common.{◌≡◌, ◌+◌, ℕ, zero, suc, List, [], ◌∷◌, ◌++◌, refl, sym, ◌∙◌, ap, subst, arith, map, drop, codes}
-use Rattle.std.specs.Prelude.{flat_map, slice_get}
-use Rattle.arrayvec.specs.ArrayVec.{ArrayVec}
-use Rattle.mate_num.specs.declared.store.Store.{Store}
-use Rattle.vm_desc.specs.declared.description.Description.{Description}
+-- What is at hand of a log.
+use Rattle.std.proofs.Common.{◌≡◌, List, refl, sym, ◌∙◌, subst, arith, map}
 use Rattle.mate_journal.specs.Log.{Log, GoesOn}
-use Rattle.mate_journal.specs.declared.entry.Entry.{Entry}
-use Rattle.mate_journal.specs.declared.entry.Entry.TheVariants as entry
-use Rattle.mate_journal.specs.declared.entry.Stamped.{Stamped}
 use Rattle.mate_journal.specs.Journal.{JournalEntry, TimedEntry}
 use Rattle.mate_journal.specs.Pace.{Pace}
 use Rattle.mate_num.specs.declared.call.Stamp.{Stamp}
-use Rattle.mate_journal.specs.OpenLog.{Gone, OpenView, gone_of, entry_behind, stamped_behind, IsKept}
+use Rattle.mate_journal.specs.OpenLog.{Gone, gone_of, IsKept}
 use Rattle.journal_laws.proofs.GoesOnLemmas.{GoesOn-journal}
 use Rattle.node_invariant.specs.Meaning.{machine_in}
 use Rattle.node_invariant.specs.Keeps.{event_at}
@@ -20,9 +13,6 @@ use Rattle.open_node.specs.View.{NodeView, IsSameNode, Tells}
 use Rattle.journal_laws.specs.InRange.{IsSizeOf, IsInRangeFrom, IsInRange}
 use Rattle.journal_laws.specs.declared.growth.LogSize.{LogSize}
 use Rattle.journal_laws.proofs.GrowthLemmas.{same-in-range, forgotten-in-range, log-goes-on}
-use Rattle.open_node.proofs.KeptLemmas.{entries-kept}
-use Rattle.report_text.specs.Words.{stamp_words, handler_name, number, word, image_word, image_text, seen_words, entry_words}
-use Rattle.report_text.specs.Text.{entry_line, event_piece}
 use Rattle.run_steps.specs.Keeping.{StaysAsToldTo}
 use Rattle.run_steps.specs.declared.heap_node.Written.{Written}
 use Rattle.run_steps.specs.declared.heap_node.Written.TheVariants.{Kept, Forgotten}
@@ -92,36 +82,3 @@ goes-on-as self first old new last a b e at Rule keeps keeps' t =
     let keeps_new : KeepsJournal new.description (machine_in new.description) new.log = subst (λ (v : NodeView). KeepsJournal v.description (machine_in v.description) v.log) (sym e) keeps' in
     let front : List TimedEntry = map (event_at at) t.told in
     subst (λ (v : NodeView). GoesOn v.log new.log) (sym b) (GoesOn-journal old.log new.log front keeps_old.tidy.numbered keeps_new.tidy.numbered t.grows.journal)
-
--- ---- the lines of what is at hand
-
-slice_get-drop : {A : Type 0} (n : ℕ) (xs : List A) (k : ℕ) → slice_get (drop n xs) k ≡ slice_get xs (n + k)
-slice_get-drop zero xs k = let e : k ≡ 0 + k = omega arith in ap (slice_get xs) e
-slice_get-drop (suc n) [] k = refl
-slice_get-drop (suc n) (x ∷ xs) k = let e : suc (n + k) ≡ suc n + k = omega arith in slice_get-drop n xs k ∙ ap (slice_get (x ∷ xs)) e
-
-module _ (d : Description) (v : OpenView) (kept : Log) (is : IsKept v kept) where
-  abbrev moved : Stamped → Stamped
-  moved = stamped_behind v.gone.images v.gone.stores
-
-  words-same : (e : Entry) → entry_words d v.all (entry_behind v.gone.images v.gone.stores e) ≡ entry_words d kept e
-  words-same (entry.Install h version image) =
-      let same : slice_get v.all.images (v.gone.images + image) ≡ slice_get kept.images image =
-      sym (slice_get-drop v.gone.images v.all.images image) ∙ ap (λ (xs : List (ArrayVec ℕ)). slice_get xs image) is.images in
-      ap (λ (o : _). codes " install" ++ word (handler_name d h) ++ number version ++ word (image_word (image_text o))) same
-  words-same (entry.Seen store) =
-      let same : slice_get v.all.stores (v.gone.stores + store) ≡ slice_get kept.stores store =
-      sym (slice_get-drop v.gone.stores v.all.stores store) ∙ ap (λ (xs : List Store). slice_get xs store) is.stores in
-      ap (λ (o : _). codes " seen" ++ seen_words d o) same
-  words-same _ = refl
-
-  lines-same : (es : List Stamped) → flat_map (entry_line d v.all 0) (map moved es) ≡ flat_map (entry_line d kept 0) es
-  lines-same [] = refl
-  lines-same (s ∷ es) =
-      ap (λ (ws : List ℕ). (stamp_words s.stamp 0 ++ ws ++ codes "\n") ++ flat_map (entry_line d v.all 0) (map moved es)) (words-same s.entry)
-      ∙ ap (λ (ls : List ℕ). entry_line d kept 0 s ++ ls) (lines-same es)
-
-  -- the lines from a position on, of those that are at hand
-  pub piece-kept : (from : ℕ) → event_piece d [] kept from 0 ≡ event_piece d [] v.all (v.gone.entries + from) 0
-  piece-kept from =
-      sym (ap (flat_map (entry_line d v.all 0)) (entries-kept v kept is from) ∙ lines-same (drop from kept.entries))

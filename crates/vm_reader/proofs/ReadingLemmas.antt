@@ -1,11 +1,5 @@
 -- What is read from a text keeps the rules of a description, and bytes beside the text in them.
 use Rattle.std.proofs.Common.{◌≡◌, ℕ, ◌≤◌, List, length, true, ◌%◌, ◌==◌, nat_le, is_none, Option, None, Result, Ok, Err, IsUtf8, refl, sym, ap, ◌∙◌, inl, inr}
-use Rattle.std.specs.Prelude.{Some, codes}
-use Rattle.toml.specs.Data.{Members, get_member}
-use Rattle.mate_num.specs.Results.{◌>>=◌}
-use Rattle.vm_desc.specs.declared.key.Key.TheVariants as key
-use Rattle.vm_reader.specs.Halves.{Opening, opening_at, from_handlers_at, both_halves}
-use Rattle.vm_reader.specs.Reading.{description_at}
 use Rattle.std.specs.Result.{IsErrAnd, IfOk}
 use Rattle.std.proofs.lemmas.Bool.{and_from, le-leb, cases_Bool}
 use Rattle.std.proofs.lemmas.Str.{IsUtf8-from_is_utf8, is_utf8-from_IsUtf8}
@@ -15,7 +9,7 @@ use Rattle.toml.specs.Parse.{parse_document}
 use Rattle.vm_desc.specs.Names.{is_name}
 use Rattle.vm_desc.specs.Limits.{Parts, is_valid, is_handler, is_kind, is_function, function_args, is_trickle, is_radio, context_sum, duplicate_of, round_time, longest}
 use Rattle.vm_reader.specs.Text.{description_of, of_document, ReadsDescription}
-use Rattle.vm_desc.specs.declared.fault.DescFault.TheVariants.{NotToml, BadField, OverLimit, Duplicate, SlowImax, NoMemory}
+use Rattle.vm_desc.specs.declared.fault.DescFault.TheVariants.{NotToml, NoMemory}
 use Rattle.vm_desc.specs.declared.fault.DescFault.{DescFault}
 use Rattle.vm_desc.specs.declared.description.Description.{Description}
 use Rattle.vm_desc.specs.declared.function.Function.{Function}
@@ -23,7 +17,7 @@ use Rattle.vm_desc.specs.declared.handler.Handler.{Handler}
 use Rattle.vm_desc.specs.declared.settings.RadioSet.{RadioSet}
 use Rattle.vm_desc.specs.declared.settings.TrickleSet.{TrickleSet}
 use Rattle.vm_desc.specs.Whole.{parts_of}
-use Rattle.vm_reader.specs.Fields.{GivesField, field, number, names}
+use Rattle.vm_reader.specs.Fields.{GivesField}
 use Rattle.mate_num.specs.Shapes.{is_device}
 
 -- the rules of a description, each by its name
@@ -112,25 +106,3 @@ is_trickle-from t imin_low imin_high even doublings long k_low k_high =
 pub is_radio-from : (r : RadioSet) → 1 ≤ r.delay → r.delay ≤ 10000 → 1 ≤ r.gap → r.gap ≤ 10000 → is_radio r ≡ true
 is_radio-from r delay_low delay_high gap_low gap_high =
     and_from _ _ (and_from _ _ (le-leb _ _ delay_low) (le-leb _ _ delay_high)) (and_from _ _ (le-leb _ _ gap_low) (le-leb _ _ gap_high))
-
--- ---- the two halves
-
-six : {A B C D E F O P X : Type 0} (a : Result A X) (b : Result B X) (c : Result C X) (d : Result D X) (e : Result E X) (f : Result F X) (make : A → B → C → D → E → F → O) (rest : O → Result P X)
-    → ((a >>= (λ u. b >>= (λ v. c >>= (λ w. d >>= (λ x. e >>= (λ y. f >>= (λ z. Ok (make u v w x y z)))))))) >>= rest)
-    ≡ (a >>= (λ u. b >>= (λ v. c >>= (λ w. d >>= (λ x. e >>= (λ y. f >>= (λ z. rest (make u v w x y z))))))))
-six (Err fault) b c d e f make rest = refl
-six (Ok u) (Err fault) c d e f make rest = refl
-six (Ok u) (Ok v) (Err fault) d e f make rest = refl
-six (Ok u) (Ok v) (Ok w) (Err fault) e f make rest = refl
-six (Ok u) (Ok v) (Ok w) (Ok x) (Err fault) f make rest = refl
-six (Ok u) (Ok v) (Ok w) (Ok x) (Ok y) (Err fault) make rest = refl
-six (Ok u) (Ok v) (Ok w) (Ok x) (Ok y) (Ok z) make rest = refl
-
--- the keys one after another are those of the one half and then of the other
-pub in_halves : (doc : Members) → both_halves doc ≡ description_at doc
-unfolding opening_at from_handlers_at description_at
-in_halves doc =
-    six (field key.Vm (number 0 4294967295) None (get_member (codes "vm") doc)) (names key.Shared 16 (get_member (codes "shared") doc))
-    (names key.Buffers 8 (get_member (codes "buffers") doc)) (names key.Devices 8 (get_member (codes "devices") doc))
-    (field key.Turns (number 0 1000000) (Some 10000) (get_member (codes "turns") doc)) (field key.Quantum (number 1 10000) (Some 16) (get_member (codes "quantum") doc))
-    (λ u v w x y z. let o : Opening = record { vm_id = u; shared = v; buffers = w; devices = x; turns = y; quantum = z } in o) (λ o. from_handlers_at o doc)

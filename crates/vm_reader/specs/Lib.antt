@@ -1,5 +1,4 @@
 pub mod Reading
-pub mod Halves
 pub mod Openings
 pub mod Text
 pub mod Places

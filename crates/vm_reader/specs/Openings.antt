@@ -3,10 +3,10 @@ use Rattle.std.specs.Prelude.{◌≡◌, ◌≤◌, length, true}
 use Rattle.std.specs.List.{list_all}
 use Rattle.mate_num.specs.declared.bounds.TheConstants.{SHARED_MAX, BUFFERS_MAX, DEVICES_MAX}
 use Rattle.vm_desc.specs.Names.{is_name}
-use Rattle.vm_reader.specs.Halves as halves
+use Rattle.vm_reader.specs.Reading as reading
 use Rattle.vm_reader.specs.declared.opening.Opening.{Opening}
 
-abbrev pub seen_opening : Opening → halves.Opening
+abbrev pub seen_opening : Opening → reading.Opening
 seen_opening o = record {
   vm_id = o.vm_id;
   shared = o.shared.items;

@@ -5,8 +5,7 @@ ghost use Rattle.toml.specs.View.{table_view};
 ghost use Rattle.vm_reader.specs.Fields.{GivesField};
 ghost use Rattle.vm_desc.specs.Limits.{is_trickle, is_radio};
 ghost use Rattle.vm_desc.specs.Whole.{parts_of};
-ghost use Rattle.vm_reader.specs.Reading.{trickle_of, radio_of};
-ghost use Rattle.vm_reader.specs.Halves.{opening_at, from_handlers_at, both_halves};
+ghost use Rattle.vm_reader.specs.Reading.{trickle_of, radio_of, opening_at, from_handlers_at, description_at};
 ghost use Rattle.vm_reader.specs.Openings.{seen_opening, IsOpening};
 ghost use Rattle.vm_reader.specs.Text.{ReadsDescription, description_of};
 
@@ -38,13 +37,14 @@ pub fn read(alloc: Global, bytes: &[u8]) -> Result<Description, DescFault>
     description(&document)
 }
 
+#[tactic(auto, unfolding(crate::specs::Reading::description_at))]
 fn description(document: &Table) -> Result<Description, DescFault>
-    ensures { GivesField parts_of result (both_halves (table_view document.now)) }
+    ensures { GivesField parts_of result (description_at (table_view document.now)) }
 {
     from_handlers(opening(document)?, document)
 }
 
-#[tactic(auto, unfolding(crate::specs::Halves::opening_at))]
+#[tactic(auto, unfolding(crate::specs::Reading::opening_at))]
 fn opening(document: &Table) -> Result<Opening, DescFault>
     ensures value { GivesField seen_opening result (opening_at (table_view document.now)) }
     ensures rules { IfOk result IsOpening }
@@ -87,7 +87,7 @@ fn radio_of(document: &Table) -> Result<RadioSet, DescFault>
     radio_in(section(Key::RadioDelay, at(document, "radio"))?)
 }
 
-#[tactic(auto, unfolding(crate::specs::Halves::from_handlers_at, crate::specs::Reading::ruled))]
+#[tactic(auto, unfolding(crate::specs::Reading::from_handlers_at, crate::specs::Reading::ruled))]
 fn from_handlers(opening: Opening, document: &Table) -> Result<Description, DescFault>
     requires { IsOpening opening }
     ensures { GivesField parts_of result (from_handlers_at (seen_opening opening) (table_view document.now)) }

@@ -5,7 +5,7 @@ use Rattle.std.specs.Str.{is_utf8, chars}
 use Rattle.toml.proofs.OnLiterals.{toml_on_literals}
 use Rattle.vm_desc.specs.Limits.{Parts}
 use Rattle.vm_desc.specs.declared.description.Description.{Description}
-use Rattle.vm_reader.specs.Reading.{description_at, handlers_at, handler_at, functions_at, trickle_of, trickle_at, radio_of, radio_at, ruled}
+use Rattle.vm_reader.specs.Reading.{description_at, opening_at, from_handlers_at, handlers_at, handler_at, functions_at, trickle_of, trickle_at, radio_of, radio_at, ruled}
 use Rattle.vm_reader.specs.Text.{description_of, ReadsDescription}
 use Rattle.vm_desc.specs.declared.fault.DescFault.{DescFault}
 use Rattle.vm_desc.specs.declared.fault.DescFault.TheVariants.{NotToml, BadField, OverLimit, Duplicate, SlowImax, NoMemory}
@@ -30,7 +30,7 @@ read_quantum n reading (Err (SlowImax need have)) some reads = absurd (none_is_s
 read_quantum n reading (Err NoMemory) some reads = refl
 
 greatest : quantum_of (description_of (codes "vm = 1\nquantum = 10000\n[[handler]]\nname = \"main\"\n")) ≡ Some 10000
-unfolding quantum_of is_utf8 chars toml_on_literals description_at handlers_at handler_at functions_at trickle_of trickle_at radio_of radio_at ruled
+unfolding quantum_of is_utf8 chars toml_on_literals description_at opening_at from_handlers_at handlers_at handler_at functions_at trickle_of trickle_at radio_of radio_at ruled
 greatest = refl
 
 pub returns : goal.returns

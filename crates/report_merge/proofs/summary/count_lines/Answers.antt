@@ -1,29 +1,26 @@
-use Rattle.std.proofs.Common.{List, ◌≤◌, length, ap, sym, subst, ◌∙◌, codes}
-use Rattle.mate_files.proofs.PenLemmas.{◌⟫◌, Prints-by}
+use Rattle.std.proofs.Common.{◌^◌, List, ◌≤◌, [], length, ap, sym, subst, ◌∙◌, arith}
+use Rattle.mate_files.proofs.PenLemmas.{Prints-by}
 use Rattle.mate_journal.specs.Log.{Log}
-use Rattle.report_text.specs.Brief.{count_line, entries_of, air_of}
-use Rattle.report_text.specs.declared.kinds.EntryKind.TheVariants as entry_kind
-use Rattle.report_text.specs.declared.kinds.AirKind.TheVariants as air_kind
+use Rattle.report_text.specs.Brief.{entries_of, air_of}
+use Rattle.report_summary.proofs.TallyLemmas.{air-few}
+use Rattle.report_merge.proofs.PrintLemmas.{same-counts}
 use Rattle.report_merge.proofs.summary.count_lines.Goals as goal
 
 pub returns : goal.returns
 returns g c =
-    let nodes = c.nodes.ensures in
+    let nodes = c.nodes-nodes.ensures in
     let air = c.air.ensures in
-    Prints-by (ap (λ n. count_line (codes "nodes") n) (ap length c.nodes-2.ensures)) c.count_line.ensures
-    ⟫ Prints-by (ap (λ n. count_line (codes "events") n) c.events.ensures) c.count_line-2.ensures
-    ⟫ Prints-by (ap (λ n. count_line (codes "records") n) c.count_records.ensures) c.count_line-3.ensures
-    ⟫ Prints-by (ap (λ n. count_line (codes "posts") n) (c.of-counts.ensures entry_kind.Post ∙ ap (entries_of entry_kind.Post) nodes)) c.count_line-4.ensures
-    ⟫ Prints-by (ap (λ n. count_line (codes "drops") n) (c.of-counts.ensures entry_kind.Drop ∙ ap (entries_of entry_kind.Drop) nodes)) c.count_line-5.ensures
-    ⟫ Prints-by (ap (λ n. count_line (codes "halts") n) (c.of-counts.ensures entry_kind.Halt ∙ ap (entries_of entry_kind.Halt) nodes)) c.count_line-6.ensures
-    ⟫ Prints-by (ap (λ n. count_line (codes "faults") n) (c.of-counts.ensures entry_kind.Fault ∙ ap (entries_of entry_kind.Fault) nodes)) c.count_line-7.ensures
-    ⟫ Prints-by (ap (λ n. count_line (codes "installs") n) (c.of-counts.ensures entry_kind.Install ∙ ap (entries_of entry_kind.Install) nodes)) c.count_line-8.ensures
-    ⟫ Prints-by (ap (λ n. count_line (codes "sent") n) (c.of-aired.ensures air_kind.Sent ∙ ap (air_of air_kind.Sent) air)) c.count_line-9.ensures
-    ⟫ Prints-by (ap (λ n. count_line (codes "got") n) (c.of-aired.ensures air_kind.Got ∙ ap (air_of air_kind.Got) air)) c.count_line-10.ensures
-    ⟫ Prints-by (ap (λ n. count_line (codes "lost") n) (c.of-aired.ensures air_kind.Lost ∙ ap (air_of air_kind.Lost) air)) c.count_line-11.ensures
+    let aired = c.add_all.ensures.tallies [] c.new-air.ensures in
+    Prints-by
+    (same-counts c.args.report.now _ _ _ c.entry_counts-counts.result c.add_all.new.self (ap length nodes) c.events.ensures c.count_records.ensures
+    (λ k. c.entry_counts-counts.ensures k ∙ ap (entries_of k) nodes) (λ k. aired.counts k ∙ ap (air_of k) air))
+    c.text_of_counts.ensures
 
-pub of-counts-requires : goal.of-counts-requires
-of-counts-requires g c = subst (λ (ls : List Log). length ls ≤ 64) (sym c.nodes.ensures) c.requires
+pub entry_counts-counts-requires : goal.entry_counts-counts-requires
+entry_counts-counts-requires g c = subst (λ (ls : List Log). length ls ≤ 64) (sym c.nodes-nodes.ensures) c.requires
+
+pub add_all-requires : goal.add_all-requires
+add_all-requires g c = air-few (2 ^ 63) c.new-air.result [] c.new-air.ensures (omega arith)
 
 pub count_records-requires : goal.count_records-requires
 count_records-requires g c = c.requires

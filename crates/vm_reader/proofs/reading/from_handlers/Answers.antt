@@ -3,7 +3,7 @@ use Rattle.toml.specs.View.{table_view}
 use Rattle.vm_desc.specs.Limits.{Parts}
 use Rattle.vm_desc.specs.Whole.{parts_of}
 use Rattle.vm_reader.specs.Openings.{seen_opening}
-use Rattle.vm_reader.specs.Halves.{from_handlers_at}
+use Rattle.vm_reader.specs.Reading.{from_handlers_at}
 use Rattle.vm_reader.specs.Reading.{ruled}
 use Rattle.vm_reader.proofs.ReadingLemmas.{Keeps, is_valid-from, refused}
 use Rattle.vm_reader.proofs.reading.from_handlers.Goals as goal

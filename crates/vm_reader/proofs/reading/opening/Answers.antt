@@ -1,7 +1,7 @@
 use Rattle.std.proofs.Common.{refl}
 use Rattle.toml.specs.View.{table_view}
 use Rattle.vm_reader.specs.Openings.{IsOpening, seen_opening}
-use Rattle.vm_reader.specs.Halves.{opening_at}
+use Rattle.vm_reader.specs.Reading.{opening_at}
 use Rattle.vm_reader.proofs.ReadingLemmas.{refused, refused_rules}
 use Rattle.vm_reader.proofs.reading.opening.Goals as goal
 

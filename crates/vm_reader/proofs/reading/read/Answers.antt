@@ -1,10 +1,8 @@
-use Rattle.std.proofs.Common.{◌≡◌, ◌∙◌, refl, subst}
+use Rattle.std.proofs.Common.{◌≡◌, ◌∙◌, refl}
 use Rattle.toml.specs.View.{table_view}
-use Rattle.vm_desc.specs.Whole.{parts_of}
-use Rattle.vm_reader.specs.Fields.{GivesField}
 use Rattle.vm_reader.specs.Reading.{description_at}
 use Rattle.vm_reader.specs.Text.{description_of}
-use Rattle.vm_reader.proofs.ReadingLemmas.{description_of-bytes, description_of-text, reads-from, in_halves}
+use Rattle.vm_reader.proofs.ReadingLemmas.{description_of-bytes, description_of-text, reads-from}
 use Rattle.vm_reader.proofs.reading.read.Goals as goal
 
 pub returns-in_default : goal.returns-in_default
@@ -22,4 +20,4 @@ returns c =
     let document = rw text.0 at c.in-Ok-table_from_str.ensures.ok in
     let same : description_of c.args.bytes.now ≡ description_at (table_view c.in-Ok-table_from_str.document) =
     description_of-text c.args.bytes.now text.1 ∙ rw (document, ← c.members_are_known.ensures, c.if-not-members_are_known.false) refl in
-    rw same (reads-from c.description.result (description_at (table_view c.in-Ok-table_from_str.document)) (subst (GivesField parts_of c.description.result) (in_halves (table_view c.in-Ok-table_from_str.document)) c.description.ensures))
+    rw same (reads-from c.description.result (description_at (table_view c.in-Ok-table_from_str.document)) c.description.ensures)

@@ -1,23 +1,16 @@
-use Rattle.std.proofs.Common.{length, sum_by, ap, sym, subst, ◌+◌, ◌∙◌, codes, arith}
-use Rattle.mate_files.proofs.PenLemmas.{◌⟫◌, Prints-by}
-use Rattle.report_text.specs.Brief.{count_line}
-use Rattle.report_text.specs.declared.kinds.EntryKind.TheVariants as entry_kind
-use Rattle.report_summary.specs.Summary.{entries_summed, AreSmall}
-use Rattle.report_summary.specs.declared.tally.LogTally.{LogTally}
+use Rattle.std.proofs.Common.{sym, subst, arith}
+use Rattle.mate_files.proofs.PenLemmas.{Prints-by}
+use Rattle.report_summary.specs.Summary.{AreSmall}
+use Rattle.report_summary.proofs.SummaryLemmas.{same-counts}
 use Rattle.report_summary.proofs.summary.Summary.count_lines.Goals as goal
 
 pub returns : goal.returns
 returns g c =
     let is = c.as_slice-nodes.ensures.value in
-    Prints-by (ap (λ n. count_line (codes "nodes") n) (ap length is)) c.count_line.ensures
-    ⟫ c.count_line-2.ensures
-    ⟫ Prints-by (ap (λ n. count_line (codes "records") (c.args.self.now.air.records + n)) (c.entries.ensures.value ∙ ap (sum_by (λ (t : LogTally). t.entries)) is)) c.count_line-3.ensures
-    ⟫ Prints-by (ap (λ n. count_line (codes "posts") n) (c.entries_of.ensures ∙ ap (entries_summed entry_kind.Post) is)) c.count_line-4.ensures
-    ⟫ Prints-by (ap (λ n. count_line (codes "drops") n) (c.entries_of-2.ensures ∙ ap (entries_summed entry_kind.Drop) is)) c.count_line-5.ensures
-    ⟫ Prints-by (ap (λ n. count_line (codes "halts") n) (c.entries_of-3.ensures ∙ ap (entries_summed entry_kind.Halt) is)) c.count_line-6.ensures
-    ⟫ Prints-by (ap (λ n. count_line (codes "faults") n) (c.entries_of-4.ensures ∙ ap (entries_summed entry_kind.Fault) is)) c.count_line-7.ensures
-    ⟫ Prints-by (ap (λ n. count_line (codes "installs") n) (c.entries_of-5.ensures ∙ ap (entries_summed entry_kind.Install) is)) c.count_line-8.ensures
-    ⟫ c.count_line-9.ensures ⟫ c.count_line-10.ensures ⟫ c.count_line-11.ensures
+    Prints-by
+    (same-counts c.args.self.now c.as_slice-nodes.result.now _ _ _ _ _ _ is c.entries.ensures.value c.entries_of.ensures c.entries_of-2.ensures c.entries_of-3.ensures
+    c.entries_of-4.ensures c.entries_of-5.ensures)
+    c.text_of_counts.ensures
 
 pub entries-requires : goal.entries-requires
 entries-requires g c = subst AreSmall (sym c.as_slice-nodes.ensures.value) c.requires.nodes
@@ -37,5 +30,5 @@ entries_of-requires-4 g c = subst AreSmall (sym c.as_slice-nodes.ensures.value) 
 pub entries_of-requires-5 : goal.entries_of-requires-5
 entries_of-requires-5 g c = subst AreSmall (sym c.as_slice-nodes.ensures.value) c.requires.nodes
 
-pub overflow_add-self : goal.overflow_add-self
-overflow_add-self g c = omega (arith, c.requires.air, c.entries.ensures.fits)
+pub overflow_add-records : goal.overflow_add-records
+overflow_add-records g c = omega (arith, c.requires.air, c.entries.ensures.fits)
