@@ -1,6 +1,7 @@
 //! What the program refuses: the causes, and for each refusal its status and its line.
 #![tactic(auto)]
 
+pub mod arguments;
 pub mod capsule_cause;
 pub mod cause;
 pub mod description_cause;
@@ -12,7 +13,9 @@ mod script_cause;
 pub mod source_cause;
 pub mod spelling_cause;
 pub mod status;
+pub mod streams;
 
+pub use arguments::{may_read_sources, words};
 pub use capsule_cause::CapsuleCause;
 pub use cause::{Cause, Unread};
 pub use description_cause::DescriptionCause;
@@ -23,3 +26,4 @@ pub use refutation::Refutation;
 pub use source_cause::SourceCause;
 pub use spelling_cause::SpellingCause;
 pub use status::Status;
+pub use streams::{buffers, finished};

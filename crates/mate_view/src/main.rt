@@ -1,13 +1,12 @@
 //! The program `mate-view`: pictures and tables of the reports that `mate` writes.
 #![tactic(auto)]
 
-use mate_files::{OsFiles, OsSink, Sink, SinkFault};
-use mate_refusals::{Refusal, Status};
-use std::alloc::Global;
-use std::io::{BufWriter, ErrorKind, Read, Write};
+use mate_files::{OsFiles, OsSink, Sink};
+use mate_refusals::{Refusal, Status, words};
+use std::io::{BufWriter, Read, Write};
 use std::process::ExitCode;
-use std::rt::{Env, Files};
-use std::{env, fs, io};
+use std::rt::Files;
+use std::{fs, io};
 use view_cli::{Request, Stop, read, view};
 use view_records::Ink;
 
@@ -24,21 +23,6 @@ fn main(rt: HostRuntime) -> ExitCode {
         Err(refusal) => refusal.refuse(&mut err),
     };
     ExitCode::from(status.code())
-}
-
-/// The words of the command line, without the program's own name. Words that aren't UTF-8 are refused.
-#[inline(never)]
-fn words(rt: &(impl Env + AllocGlobal)) -> Result<Vec<String>, Refusal> {
-    let args = match env::args(rt) {
-        Ok(args) => args,
-        Err(error) if error.kind() == ErrorKind::OutOfMemory => return Err(Refusal::NoMemory),
-        Err(_) => return Err(Refusal::Usage),
-    };
-    let mut words = Vec::new(rt.alloc());
-    for word in args.skip(1) {
-        words.push(word).map_err(|_| Refusal::NoMemory)?;
-    }
-    Ok(words)
 }
 
 /// Opens the report, and makes the view of it.
