@@ -4,7 +4,8 @@ use Rattle.command_laws.specs.SameText.{SameText, IsSameNodeRun}
 use Rattle.command_laws.proofs.OneOutput.{output_agrees}
 use Rattle.journal_once_laws.specs.Ending.{EndsByItself}
 use Rattle.journal_once_laws.proofs.OneText.{brief-once}
-use Rattle.mate_cli.specs.Node.{node, run_output}
+use Rattle.mate_cli.specs.Node.{node}
+use Rattle.mate_cli.specs.Runs.{run_output}
 use Rattle.mate_documents.specs.Owed.{Owed}
 use Rattle.mate_documents.specs.declared.output.Run.TheVariants as run
 use Rattle.mate_files.specs.Files.{Names}
@@ -43,7 +44,7 @@ module _ (d : Description) (s : NodeScript) (ps qs : List Program) (same : SameP
   run_same : IsSameNodeRun d d s s ps qs
   run_same = record { machine = refl; steps = steps-same s ps qs same; meaning = meaning-same d ps qs same }
 
-  outputs_agree : (short : Bool) → AnswersAgree SameText (run_output short d s ps) (run_output short d s qs)
+  outputs_agree : (short : Bool) → AnswersAgree SameText (run_output short (run.Script d s ps)) (run_output short (run.Script d s qs))
   outputs_agree short = output_agrees d (IsScriptReport d s ps) (IsScriptReport d s qs) (run.Script d s ps) (run.Script d s qs) brief_once run_same short
 
 pub node_agrees : (names : Names) (fold short : Bool) (vm name : List ℕ) → AnswersAgree SameText (node (steady names) fold short vm name) (node (steady names) fold short vm name)
@@ -51,7 +52,7 @@ node_agrees names fold short vm name =
     then_agrees ◌≡◌ SameText _ _ _ _ (machine_agrees names vm)
     (λ a b e. subst (λ (d : Description). AnswersAgree SameText (after_machine a) (after_machine d)) e (with_machine a)) where
       after_script : Description → NodeScript → Result Owed Refusal → Type 0
-      after_script d s = script_programs (steady names) d fold s ▸ λ ps. run_output short d s ps
+      after_script d s = script_programs (steady names) d fold s ▸ λ ps. run_output short (run.Script d s ps)
 
       after_machine : Description → Result Owed Refusal → Type 0
       after_machine d = script (steady names) d name ▸ after_script d

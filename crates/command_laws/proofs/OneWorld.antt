@@ -7,7 +7,8 @@ use Rattle.command_laws.proofs.OneOutput.{output_agrees}
 use Rattle.command_laws.proofs.OneText.{WorldsHaveOneReport}
 use Rattle.world_maker.specs.Source.{source_of}
 use Rattle.journal_once_laws.specs.Ending.{EndsByItself}
-use Rattle.mate_cli.specs.Worlds.{world_output, sim, run_of_number, made_run}
+use Rattle.mate_cli.specs.Runs.{run_output}
+use Rattle.mate_cli.specs.Worlds.{sim, run_of_number, made_run}
 use Rattle.mate_documents.specs.Owed.{Owed}
 use Rattle.mate_documents.specs.declared.output.Run.TheVariants as run
 use Rattle.mate_files.specs.Files.{Names}
@@ -60,7 +61,7 @@ module _ (law : WorldsHaveOneReport) (d : Description) (w : World) (ps qs : List
   run_same : IsSameWorld d d w w ps qs
   run_same = record { machine = refl; world = refl; meaning = world-same }
 
-  outputs_agree : (short : Bool) → AnswersAgree SameText (world_output short d w ps) (world_output short d w qs)
+  outputs_agree : (short : Bool) → AnswersAgree SameText (run_output short (run.World d w ps)) (run_output short (run.World d w qs))
   outputs_agree short = output_agrees d (IsReportOfWorld d w ps) (IsReportOfWorld d w qs) (run.World d w ps) (run.World d w qs) brief_once run_same short
 
 -- ---- sim
@@ -91,7 +92,7 @@ sim_agrees law names fold short vm name =
     then_agrees ◌≡◌ SameText _ _ _ _ (machine_agrees names vm)
     (λ a b e. subst (λ (d : Description). AnswersAgree SameText (after_machine a) (after_machine d)) e (with_machine a)) where
       after_world : Description → World → Result Owed Refusal → Type 0
-      after_world d w = world_programs (steady names) d fold w ▸ λ ps. world_output short d w ps
+      after_world d w = world_programs (steady names) d fold w ▸ λ ps. run_output short (run.World d w ps)
 
       after_machine : Description → Result Owed Refusal → Type 0
       after_machine d = world (steady names) d name ▸ after_world d
@@ -159,5 +160,5 @@ gen_agrees law names fold short number vm =
       with_machine : (d : Description) → AnswersAgree SameText (run_of_number fold short d number) (run_of_number fold short d number)
       with_machine d =
           then_agrees SameMade SameText _ _ _ _ (made_agrees d fold number)
-          (λ m n same. subst (λ (w : World). AnswersAgree SameText (world_output short d m.world m.programs) (world_output short d w n.programs)) same.world
+          (λ m n same. subst (λ (w : World). AnswersAgree SameText (run_output short (run.World d m.world m.programs)) (run_output short (run.World d w n.programs))) same.world
           (outputs_agree law d m.world m.programs n.programs same.programs short))

@@ -1,5 +1,4 @@
 pub mod Runs
 pub mod Node
 pub mod Worlds
-pub mod Audit
 pub mod Ends

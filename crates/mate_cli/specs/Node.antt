@@ -1,11 +1,8 @@
 -- The command `node`: the run of a node script with the programs of its files, or the summary of its report.
 use Rattle.std.specs.Prelude.{ℕ, Bool, List, Result}
-use Rattle.mate_cli.specs.Runs.{output_of}
-use Rattle.mate_journal.specs.declared.program.Program.{Program}
-use Rattle.run_steps.specs.Running.{IsScriptReport}
+use Rattle.mate_cli.specs.Runs.{run_output}
 use Rattle.script_programs.specs.Programs.{script_programs}
 use Rattle.script_programs.specs.Scripts.{script}
-use Rattle.script_reader.specs.Steps.{NodeScript}
 use Rattle.vm_desc.specs.declared.description.Description.{Description}
 use Rattle.mate_steps.specs.Parts.{Folder, machine}
 use Rattle.mate_steps.specs.Steps.{◌▸◌}
@@ -13,13 +10,9 @@ use Rattle.mate_documents.specs.Owed.{Owed}
 use Rattle.mate_documents.specs.declared.output.Run.TheVariants as run
 use Rattle.mate_refusals.specs.declared.refusal.Refusal.{Refusal}
 
--- what is written of the run
-abbrev pub run_output : Bool → Description → NodeScript → List Program → Result Owed Refusal → Type 0
-run_output brief d s ps = output_of brief d (IsScriptReport d s ps) (run.Script d s ps)
-
 -- what is written of the run of a script's file on a machine
 abbrev pub run_of_script : Folder → (fold brief : Bool) → Description → (name : List ℕ) → Result Owed Refusal → Type 0
-run_of_script f fold brief d name = script f d name ▸ λ s. script_programs f d fold s ▸ λ ps. run_output brief d s ps
+run_of_script f fold brief d name = script f d name ▸ λ s. script_programs f d fold s ▸ λ ps. run_output brief (run.Script d s ps)
 
 abbrev pub node : Folder → (fold brief : Bool) → (vm name : List ℕ) → Result Owed Refusal → Type 0
 node f fold brief vm name = machine f vm ▸ λ d. run_of_script f fold brief d name

@@ -1,12 +1,11 @@
 //! The top call of the program `mate`: from words and files to what is written.
 #![tactic(auto)]
 
-mod audit;
 mod made;
 mod node;
+mod runs;
 mod sim;
 pub mod top;
-mod worlds;
 mod writing;
 
 pub use mate_refusals::Status;

@@ -6,9 +6,9 @@ ghost use Rattle.mate_documents.specs.Outputs.{CanBeWritten, owed_in};
 ghost use Rattle.mate_refusals.specs.declared.refusal.Refusal.TheVariants.{NoMemory};
 ghost use Rattle.mate_steps.specs.Parts.{ReadsFiles};
 
-use crate::worlds::world_output;
+use crate::runs::run_output;
 use command_line::MadeRun;
-use mate_documents::{BoxedMachine, Output};
+use mate_documents::{BoxedMachine, Output, Run};
 use mate_files::Files;
 use mate_refusals::Refusal;
 use script_programs::made_world;
@@ -39,5 +39,9 @@ fn run_of_number(
     ensures writable { IfOk result CanBeWritten }
 {
     let made = made_world(alloc, machine.description(), words.fold, words.number)?;
-    world_output(alloc, words.brief, machine, made.world, made.programs)
+    run_output(
+        alloc,
+        words.brief,
+        Run::World(machine, made.world, made.programs),
+    )
 }

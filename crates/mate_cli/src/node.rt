@@ -1,20 +1,16 @@
 //! The command `node`.
 
-ghost use Rattle.std.specs.Prelude.{◌≡◌, IfOk, IfErr, true};
-ghost use Rattle.mate_refusals.specs.declared.refusal.Refusal.TheVariants.{NoMemory};
-ghost use Rattle.mate_cli.specs.Node.{node, run_of_script, run_output};
+ghost use Rattle.std.specs.Prelude.{IfOk};
+ghost use Rattle.mate_cli.specs.Node.{node, run_of_script};
 ghost use Rattle.mate_documents.specs.Outputs.{CanBeWritten, owed_in};
 ghost use Rattle.mate_steps.specs.Parts.{ReadsFiles};
-ghost use Rattle.node_programs.specs.ScriptSteps.{AreProgramsOf};
 
+use crate::runs::run_output;
 use command_line::ScriptRun;
 use mate_documents::{BoxedMachine, Output, Run};
 use mate_files::Files;
-use mate_journal::Programs;
 use mate_refusals::Refusal;
-use run_steps::sum_steps;
 use script_programs::{programs_of, script_of};
-use script_reader::Steps;
 use std::alloc::Global;
 
 /// The run of a node script, whose report is written while it runs; or the summary of its report, counted while it runs.
@@ -51,45 +47,5 @@ fn run_of_script<F: Files>(
     let desc = machine.description();
     let script = script_of(alloc, files, desc, words.script)?;
     let programs = programs_of(alloc, files, desc, words.fold, &script)?;
-    run_output(alloc, words.brief, machine, script, programs)
-}
-
-/// The run of a script with these programs, or the summary of its report.
-#[inline(never)]
-fn run_output(
-    alloc: Global,
-    brief: bool,
-    machine: BoxedMachine,
-    script: Steps,
-    programs: Programs,
-) -> Result<Output, Refusal>
-    requires { AreProgramsOf machine script programs }
-    ensures does { run_output brief machine script programs (owed_in result) }
-    ensures memory { IfErr result (λ r. r ≡ NoMemory) }
-    ensures writable { IfOk result CanBeWritten }
-{
-    if brief {
-        summary(alloc, machine, &script, &programs)
-    } else {
-        Ok(Output::Run(Run::Script(machine, script, programs)))
-    }
-}
-
-/// The summary of the report of a script's run, whole or until its log is full. No report is kept.
-#[inline(never)]
-fn summary(
-    alloc: Global,
-    machine: BoxedMachine,
-    script: &Steps,
-    programs: &Programs,
-) -> Result<Output, Refusal>
-    requires { AreProgramsOf machine script.now programs.now }
-    ensures does { run_output true machine script.now programs.now (owed_in result) }
-    ensures memory { IfErr result (λ r. r ≡ NoMemory) }
-    ensures writable { IfOk result CanBeWritten }
-{
-    match sum_steps(alloc, machine.description(), script, programs) {
-        Ok(summary) => Ok(Output::Summary(machine, summary)),
-        Err(_) => Err(Refusal::NoMemory),
-    }
+    run_output(alloc, words.brief, Run::Script(machine, script, programs))
 }

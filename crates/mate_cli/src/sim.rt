@@ -5,9 +5,9 @@ ghost use Rattle.mate_cli.specs.Worlds.{sim, run_of_world};
 ghost use Rattle.mate_documents.specs.Outputs.{CanBeWritten, owed_in};
 ghost use Rattle.mate_steps.specs.Parts.{ReadsFiles};
 
-use crate::worlds::world_output;
+use crate::runs::run_output;
 use command_line::ScriptRun;
-use mate_documents::{BoxedMachine, Output};
+use mate_documents::{BoxedMachine, Output, Run};
 use mate_files::Files;
 use mate_refusals::Refusal;
 use script_programs::{programs_of_world, world_of};
@@ -47,5 +47,5 @@ fn run_of_world<F: Files>(
     let desc = machine.description();
     let world = world_of(alloc, files, desc, words.script)?;
     let programs = programs_of_world(alloc, files, desc, words.fold, &world)?;
-    world_output(alloc, words.brief, machine, world, programs)
+    run_output(alloc, words.brief, Run::World(machine, world, programs))
 }

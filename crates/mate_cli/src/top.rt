@@ -7,12 +7,14 @@ ghost use Rattle.mate_documents.specs.Outputs.{CanBeWritten, owed_in};
 ghost use Rattle.mate_steps.specs.Parts.{ReadsFiles};
 
 use crate::writing::write_output;
-use crate::{audit, made, node, sim};
+use crate::{made, node, sim};
+use audit_command::audit;
 use command_line::{Command, WordsFault, command_of};
 use mate_documents::{Output, check, compile, expand, feed, table};
 use mate_files::{Files, Sink};
 use mate_refusals::{Refusal, Status};
 use std::alloc::Global;
+use std::mem;
 
 /// Runs the command that `words` give, without the program's own name.
 ///
@@ -37,7 +39,8 @@ use std::alloc::Global;
 ///   it fails.
 ///
 /// For any status but `Ok` one line goes to `err`. Nothing goes to `out` then, except for `LogFull`, for a fault of
-/// `out` and if memory runs out. A failing `err` changes nothing.
+/// `out` and if memory runs out. A failing `err` changes nothing. What the output takes of memory isn't freed piece by piece: the end of
+/// the process frees all at once.
 pub fn mate<F: Files, S: Sink, E: Sink>(
     alloc: Global,
     words: &Vec<String>,
@@ -51,7 +54,11 @@ pub fn mate<F: Files, S: Sink, E: Sink>(
         (record { out = S.written out.new; out_faults = S.faults out.new; err = E.written err.new; err_faults = E.faults err.new }) result }
 {
     match output_of(alloc, files, words) {
-        Ok(output) => write_output(alloc, &output, out, err),
+        Ok(output) => {
+            let status = write_output(alloc, &output, out, err);
+            mem::forget(output);
+            status
+        }
         Err(refusal) => refusal.refuse(err),
     }
 }

@@ -1,25 +1,18 @@
 //! The writing of an output, and its status.
 
-ghost use Rattle.world_run_laws.specs.Promise.{IsReportOfWorld};
-ghost use Rattle.run_steps.specs.Running.{IsReportOf};
-ghost use Rattle.node_programs.specs.WorldPrograms.{AreProgramsOfWorld};
 ghost use Rattle.std.specs.Prelude.{true};
-ghost use Rattle.mate_cli.specs.Ends.{IsTextWritten, IsOwedWritten, IsReportWritten, IsRunWritten, TellsEnd};
+ghost use Rattle.mate_cli.specs.Ends.{IsTextWritten, IsOwedWritten, IsReportWritten, TellsEnd};
 ghost use Rattle.mate_documents.specs.Outputs.{CanBeWritten, HasPrograms, owed_of};
 ghost use Rattle.mate_documents.specs.Documents.{document_text, HasText};
-ghost use Rattle.node_programs.specs.ScriptSteps.{AreProgramsOf};
 ghost use Rattle.report_summary.specs.Summary.{summary_text, IsSmall};
 
 use mate_documents::{Document, Output, Run};
 use mate_files::Sink;
-use mate_journal::Programs;
 use mate_refusals::{Refusal, Status};
 use report_summary::{Summary, WriteFault, ended};
 use run_steps::write_steps;
-use script_reader::Steps;
 use std::alloc::Global;
 use vm_desc::Description;
-use world_script::World;
 use world_writing::write_world;
 
 /// Writes an output.
@@ -44,7 +37,7 @@ pub(crate) fn write_output<S: Sink, E: Sink>(
     }
 }
 
-/// Writes the report of a run.
+/// Runs a run, and writes the lines of each event when it ends. After a fault of `out` no further event is run.
 #[inline(never)]
 fn write_report<S: Sink, E: Sink>(alloc: Global, run: &Run, out: &mut S, err: &mut E) -> Status
     requires { HasPrograms run.now }
@@ -54,10 +47,12 @@ fn write_report<S: Sink, E: Sink>(alloc: Global, run: &Run, out: &mut S, err: &m
 {
     match run {
         Run::Script(machine, script, programs) => {
-            write_run(alloc, machine.description(), script, programs, out, err)
+            let written = write_steps(alloc, machine.description(), script, programs, out);
+            told(written, err)
         }
         Run::World(machine, world, programs) => {
-            run_world(alloc, machine.description(), world, programs, out, err)
+            let written = write_world(alloc, machine.description(), world, programs, out);
+            told(written, err)
         }
     }
 }
@@ -94,44 +89,6 @@ fn write_summary<S: Sink, E: Sink>(
 {
     let written = summary.write(desc, out);
     told(ended(summary.whole, written), err)
-}
-
-/// Runs a script, and writes the lines of each event when it ends. After a fault of `out` no further event is run.
-#[inline(never)]
-fn write_run<S: Sink, E: Sink>(
-    alloc: Global,
-    desc: &Description,
-    script: &Steps,
-    programs: &Programs,
-    out: &mut S,
-    err: &mut E,
-) -> Status
-    requires { AreProgramsOf desc.now script.now programs.now }
-    ensures { IsRunWritten desc.now (IsReportOf desc.now script.now programs.now)
-        (record { out = S.written out.old; out_faults = S.faults out.old; err = E.written err.old; err_faults = E.faults err.old })
-        (record { out = S.written out.new; out_faults = S.faults out.new; err = E.written err.new; err_faults = E.faults err.new }) result }
-{
-    let written = write_steps(alloc, desc, script, programs, out);
-    told(written, err)
-}
-
-/// Runs a world, and writes the lines of each event when it ends. After a fault of `out` no further event is run.
-#[inline(never)]
-fn run_world<S: Sink, E: Sink>(
-    alloc: Global,
-    desc: &Description,
-    world: &World,
-    programs: &Programs,
-    out: &mut S,
-    err: &mut E,
-) -> Status
-    requires { AreProgramsOfWorld desc.now world.now programs.now }
-    ensures { IsRunWritten desc.now (IsReportOfWorld desc.now world.now programs.now)
-        (record { out = S.written out.old; out_faults = S.faults out.old; err = E.written err.old; err_faults = E.faults err.old })
-        (record { out = S.written out.new; out_faults = S.faults out.new; err = E.written err.new; err_faults = E.faults err.new }) result }
-{
-    let written = write_world(alloc, desc, world, programs, out);
-    told(written, err)
 }
 
 /// Writes the line for how the writing ended, and returns the status.

@@ -1,2 +1,1 @@
 pub mod PromiseLemmas
-pub mod CountingLemmas

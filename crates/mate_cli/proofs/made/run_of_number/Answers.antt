@@ -13,14 +13,14 @@ returns-in_err-made-clause-does c = owed-stops c.in_err-made.field-0.0 c.from_re
 
 pub returns-clause-does : goal.returns-clause-does
 returns-clause-does c = goes_on c.in_ok-made.made
-    (subst (λ (d : Description). made d c.args.words.fold c.args.words.number (Ok c.in_ok-made.made)) c.description.ensures c.in_ok-made.ensures.does) c.world_output.ensures.does
+    (subst (λ (d : Description). made d c.args.words.fold c.args.words.number (Ok c.in_ok-made.made)) c.description.ensures c.in_ok-made.ensures.does) c.run_output.ensures.does
 
-pub world_output-requires : goal.world_output-requires
-world_output-requires c =
+pub run_output-requires : goal.run_output-requires
+run_output-requires c =
     subst (λ (d : Description). AreProgramsOfWorld d c.in_ok-made.made.world c.in_ok-made.made.programs) c.description.ensures c.in_ok-made.ensures.programs
 
 pub returns-in_err-made-clause-writable : goal.returns-in_err-made-clause-writable
 returns-in_err-made-clause-writable c = IfOk-from_err c.from_residual.result _ c.from_residual.ensures.0
 
 pub returns-clause-writable : goal.returns-clause-writable
-returns-clause-writable c = c.world_output.ensures.writable
+returns-clause-writable c = c.run_output.ensures.writable

@@ -38,7 +38,7 @@ returns-clause-does g c =
     (subst (λ (d : Description). world_programs f d c.args.words.fold c.in_ok-world.world (Ok c.in_ok-programs.programs)) c.description-desc.ensures
     (moved (λ f. world_programs f c.description-desc.result.now c.args.words.fold c.in_ok-world.world (Ok c.in_ok-programs.programs)) c.in_ok-world.ensures.reads
     c.in_ok-programs.ensures.does))
-    c.world_output.ensures.does)
+    c.run_output.ensures.does)
 
 pub returns-in_err-world-clause-writable : goal.returns-in_err-world-clause-writable
 returns-in_err-world-clause-writable g c = IfOk-from_err c.from_residual.result _ c.from_residual.ensures.0
@@ -47,7 +47,7 @@ pub returns-in_err-programs-clause-writable : goal.returns-in_err-programs-claus
 returns-in_err-programs-clause-writable g c = IfOk-from_err c.from_residual-in_err-programs.result _ c.from_residual-in_err-programs.ensures.0
 
 pub returns-clause-writable : goal.returns-clause-writable
-returns-clause-writable g c = c.world_output.ensures.writable
+returns-clause-writable g c = c.run_output.ensures.writable
 
 pub returns-in_err-world-clause-reads : goal.returns-in_err-world-clause-reads
 returns-in_err-world-clause-reads g c = reads-err c.in_err-world.field-0.0 c.from_residual.result c.in_err-world.ensures.reads c.from_residual.ensures.1
@@ -59,7 +59,7 @@ returns-in_err-programs-clause-reads g c =
 
 pub returns-clause-reads : goal.returns-clause-reads
 returns-clause-reads g c =
-    reads-then c.in_ok-world.ensures.reads (reads-as c.in_ok-programs.ensures.reads (quiet-memory c.world_output.result c.world_output.ensures.memory))
+    reads-then c.in_ok-world.ensures.reads (reads-as c.in_ok-programs.ensures.reads (quiet-memory c.run_output.result c.run_output.ensures.memory))
 
 pub programs_of_world-requires-clause-right : goal.programs_of_world-requires-clause-right
 programs_of_world-requires-clause-right g c = c.in_ok-world.ensures.right
@@ -67,5 +67,5 @@ programs_of_world-requires-clause-right g c = c.in_ok-world.ensures.right
 pub programs_of_world-requires-clause-in_order : goal.programs_of_world-requires-clause-in_order
 programs_of_world-requires-clause-in_order g c = c.in_ok-world.ensures.in_order
 
-pub world_output-requires : goal.world_output-requires
-world_output-requires g c = subst (λ (d : Description). AreProgramsOfWorld d c.in_ok-world.world c.in_ok-programs.programs) c.description-desc.ensures c.in_ok-programs.ensures.programs
+pub run_output-requires : goal.run_output-requires
+run_output-requires g c = subst (λ (d : Description). AreProgramsOfWorld d c.in_ok-world.world c.in_ok-programs.programs) c.description-desc.ensures c.in_ok-programs.ensures.programs

@@ -7,7 +7,7 @@ use Rattle.mate_steps.proofs.Laws.{unread-as}
 use Rattle.mate_cli.proofs.top.mate.Goals as goal
 
 pub returns-in-Ok : goal.returns-in-Ok
-returns-in-Ok g c = written (owed_of c.in-Ok.output) c.in-Ok.ensures.does c.write_output.ensures
+returns-in-Ok g c = written (owed_of c.in-Ok.output) c.in-Ok.ensures.does c.write_output-status.ensures
 
 pub returns-in-Err : goal.returns-in-Err
 returns-in-Err g c = refused c.in-Err.refusal c.in-Err.ensures.does (λ unread. c.in-Err.ensures.reads.counted (unread-as Owed Output c.in-Err.refusal unread)) refl c.refuse.ensures

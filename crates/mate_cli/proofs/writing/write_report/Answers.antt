@@ -7,6 +7,7 @@ use Rattle.node_programs.specs.ScriptSteps.{AreProgramsOf}
 use Rattle.run_steps.specs.Running.{IsReportOf}
 use Rattle.node_programs.specs.WorldPrograms.{AreProgramsOfWorld}
 use Rattle.world_run_laws.specs.Promise.{IsReportOfWorld}
+use Rattle.mate_cli.proofs.RunLemmas.{run-written}
 use Rattle.mate_cli.proofs.writing.write_report.Goals as goal
 
 pub returns-in-Script : goal.returns-in-Script
@@ -18,13 +19,15 @@ returns-in-Script g c =
       err_faults = g.E.Sink.faults c.args.err.now;
     } in
     let t : Sinks = record {
-      out = g.S.Sink.written c.write_run.new.out;
-      out_faults = g.S.Sink.faults c.write_run.new.out;
-      err = g.E.Sink.written c.write_run.new.err;
-      err_faults = g.E.Sink.faults c.write_run.new.err;
+      out = g.S.Sink.written c.write_steps-written.new.out;
+      out_faults = g.S.Sink.faults c.write_steps-written.new.out;
+      err = g.E.Sink.written c.told.new.err;
+      err_faults = g.E.Sink.faults c.told.new.err;
     } in
-    subst (λ (r : Run). IsReportWritten r s t c.write_run.result) (sym c.in-Script.is)
-    (subst (λ (d : Description). IsRunWritten d (IsReportOf d c.in-Script.script c.in-Script.programs) s t c.write_run.result) c.description.ensures c.write_run.ensures)
+    let d = c.description.result.now in
+    subst (λ (r : Run). IsReportWritten r s t c.told.result) (sym c.in-Script.is)
+    (subst (λ (d : Description). IsRunWritten d (IsReportOf d c.in-Script.script c.in-Script.programs) s t c.told.result) c.description.ensures
+    (run-written d (IsReportOf d c.in-Script.script c.in-Script.programs) s t c.write_steps-written.result c.told.result c.write_steps-written.ensures.gives c.told.ensures))
 
 pub returns-in-World : goal.returns-in-World
 returns-in-World g c =
@@ -35,18 +38,20 @@ returns-in-World g c =
       err_faults = g.E.Sink.faults c.args.err.now;
     } in
     let t : Sinks = record {
-      out = g.S.Sink.written c.run_world.new.out;
-      out_faults = g.S.Sink.faults c.run_world.new.out;
-      err = g.E.Sink.written c.run_world.new.err;
-      err_faults = g.E.Sink.faults c.run_world.new.err;
+      out = g.S.Sink.written c.write_world-written.new.out;
+      out_faults = g.S.Sink.faults c.write_world-written.new.out;
+      err = g.E.Sink.written c.told-in-World.new.err;
+      err_faults = g.E.Sink.faults c.told-in-World.new.err;
     } in
-    subst (λ (r : Run). IsReportWritten r s t c.run_world.result) (sym c.in-World.is)
-    (subst (λ (d : Description). IsRunWritten d (IsReportOfWorld d c.in-World.world c.in-World.programs) s t c.run_world.result) c.description-in-World.ensures c.run_world.ensures)
+    let d = c.description-in-World.result.now in
+    subst (λ (r : Run). IsReportWritten r s t c.told-in-World.result) (sym c.in-World.is)
+    (subst (λ (d : Description). IsRunWritten d (IsReportOfWorld d c.in-World.world c.in-World.programs) s t c.told-in-World.result) c.description-in-World.ensures
+    (run-written d (IsReportOfWorld d c.in-World.world c.in-World.programs) s t c.write_world-written.result c.told-in-World.result c.write_world-written.ensures.gives c.told-in-World.ensures))
 
-pub write_run-requires : goal.write_run-requires
-write_run-requires g c =
+pub write_steps-written-requires : goal.write_steps-written-requires
+write_steps-written-requires g c =
     subst (λ (d : Description). AreProgramsOf d c.in-Script.script c.in-Script.programs) (sym c.description.ensures) (subst HasPrograms c.in-Script.is c.requires)
 
-pub run_world-requires : goal.run_world-requires
-run_world-requires g c =
+pub write_world-written-requires : goal.write_world-written-requires
+write_world-written-requires g c =
     subst (λ (d : Description). AreProgramsOfWorld d c.in-World.world c.in-World.programs) (sym c.description-in-World.ensures) (subst HasPrograms c.in-World.is c.requires)

@@ -1,0 +1,4 @@
+//! The command `audit`.
+#![tactic(auto)]
+
+pub mod audit;

@@ -1,0 +1,20 @@
+use Rattle.std.proofs.Common.{◌≡◌, length}
+use Rattle.mate_journal.specs.Log.{IsEmpty}
+use Rattle.world_state_laws.specs.Coming.{code_world}
+use Rattle.sim_mote.specs.Motes.{plain_effect}
+use Rattle.sim_run.specs.Ranging.{AreInRange}
+use Rattle.sim_run.specs.Running.{StandsAfter}
+use Rattle.sim_run.specs.Telling.{LogsAreKept}
+use Rattle.world_summary.specs.Counting.{IsTallied, IsSmallTally}
+use Rattle.world_summary.proofs.counting.sum_world.Given as goal
+
+abbrev pub invariant-loop-events : goal.invariant-loop-events
+invariant-loop-events l = record {
+  stands : StandsAfter (code_world l.desc l.world l.programs) l.events l.sim;
+  kept : LogsAreKept l.sim.motes.items;
+  empty : IsEmpty l.room;
+  plain : l.effect ≡ plain_effect;
+  ranges : AreInRange l.sim;
+  counted : IsTallied (length l.desc.handlers.items) l.tally l.sim;
+  small : IsSmallTally l.tally;
+}
