@@ -8,3 +8,4 @@ pub mod CapsuleCauses
 pub mod ScriptCauses
 pub mod Refutations
 pub mod Refusals
+pub mod Endings

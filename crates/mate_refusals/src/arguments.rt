@@ -1,5 +1,7 @@
 //! The words of the command line, as the programs take them.
 
+ghost use Rattle.std.specs.Prelude.{◌≡◌, ◌⊎◌, IfErr};
+
 use crate::refusal::Refusal;
 use std::env;
 use std::env::FillError;
@@ -12,7 +14,9 @@ const NAME: usize = 8;
 /// The words of the command line, without the program's own name. Words that aren't UTF-8 are refused as `Usage`. It
 /// isn't inlined, so that the stack that it takes is given back before the command runs.
 #[inline(never)]
-pub fn words(rt: &(impl Env + AllocGlobal)) -> Result<Vec<String>, Refusal> {
+pub fn words(rt: &(impl Env + AllocGlobal)) -> Result<Vec<String>, Refusal>
+    ensures { IfErr result (λ r. (r ≡ Refusal.Usage) ⊎ (r ≡ Refusal.NoMemory)) }
+{
     let args = match env::args(rt) {
         Ok(args) => args,
         Err(error) if error.kind() == ErrorKind::OutOfMemory => return Err(Refusal::NoMemory),

@@ -1,4 +1,5 @@
-//! What the program refuses: the causes, and for each refusal its status and its line.
+//! What the programs refuse: the causes, and for each refusal its status and its line. Also what they do before a command
+//! and after it: how they take their words, and how they write what is left in their buffers, and the line of the status.
 #![tactic(auto)]
 
 pub mod arguments;

@@ -1,5 +1,9 @@
 //! The buffers of standard output and of the line on standard error, and what is left in them at the end.
 
+ghost use Rattle.std.specs.Prelude.{◌≡◌, [], IfOk, IfErr};
+ghost use Rattle.std.specs.Io.Buffered.{writer_inner, writer_buffer};
+ghost use Rattle.mate_refusals.specs.Endings.{TellsLineOrSinkFault};
+
 use crate::refusal::Refusal;
 use crate::status::Status;
 use mate_files::{Sink, SinkFault};
@@ -12,11 +16,16 @@ const OUT_BLOCK: usize = 16_384;
 /// How many bytes the line of a refusal has room for before it takes more memory.
 const LINE: usize = 256;
 
-/// The buffer of standard output, and that of the line on standard error.
+/// The buffer of standard output, and that of the line on standard error, both empty.
 pub fn buffers<W: Write + Drop>(
     alloc: Global,
     writer: W,
-) -> Result<(BufWriter<W>, Vec<u8>), Refusal> {
+) -> Result<(BufWriter<W>, Vec<u8>), Refusal>
+    ensures writer { IfOk result (λ made. writer_inner made.0 ≡ writer) }
+    ensures buffer { IfOk result (λ made. writer_buffer made.0 ≡ []) }
+    ensures line { IfOk result (λ made. made.1.items ≡ []) }
+    ensures memory { IfErr result (λ r. r ≡ Refusal.NoMemory) }
+{
     let writer = BufWriter::with_capacity(alloc, OUT_BLOCK, writer).map_err(|_| Refusal::NoMemory)?;
     let line = Vec::with_capacity(alloc, LINE).map_err(|_| Refusal::NoMemory)?;
     Ok((writer, line))
@@ -29,7 +38,9 @@ pub fn finished<W: Write + Drop, E: Sink>(
     mut writer: W,
     line: Vec<u8>,
     err: &mut E,
-) -> Status {
+) -> Status
+    ensures { TellsLineOrSinkFault (E.written err.old) (E.faults err.old) (E.written err.new) (E.faults err.new) line.items status result }
+{
     let flushed = writer.flush().is_ok();
     match status {
         Status::Ok | Status::LogFull if !flushed => Refusal::SinkFault.refuse(err),
