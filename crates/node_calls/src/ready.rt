@@ -69,7 +69,8 @@ impl ReadyCapsule {
     /// Its program for one node more, if the bytes are its image and a machine word counts the nodes.
     pub(crate) fn shared_if(&self, description: &Description, bytes: &[u8]) -> Option<SharedHeld>
         requires { IsReadyOn description.now self.now }
-        ensures { IfSome result (λ program. IsInstallable description.now bytes.now (record { handler = self.now.handler; held = program })) }
+        ensures { IfSome result (λ program. IsInstallable description.now bytes.now
+            (record { handler = self.now.handler; held = program })) }
     {
         let _description = description;
         if !self.is_image(bytes) {

@@ -238,7 +238,8 @@ fn copy_own(own: &mut Vec<Option<Held>>, place: usize, held: &Held, version: u32
     requires place { place < vec_len own.old }
     requires fits { length image.now ≤ IMAGE_MAX }
     ensures items { own.new.items ≡ slice_set own.old.items place
-        (written_over (record held.now { version = version; image = record { items = image.now } }) (slice_index_or own.old.items place None)) }
+        (written_over (record held.now { version = version; image = record { items = image.now } })
+        (slice_index_or own.old.items place None)) }
     ensures capacity { vec_capacity own.new ≡ vec_capacity own.old }
 {
     if let Some(own) = &mut own[place] {

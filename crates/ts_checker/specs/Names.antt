@@ -51,7 +51,8 @@ listed names name = ok_or (position (bytes_eq name) names) (NotInVm name)
 abbrev pub made : ScriptNames → DeclKind → List ℕ → Result Symbol CheckFault
 made n of.Shared name = listed n.machine.shared.items name >>= (λ i. Ok (Variable (var.Shared (record { 0 = i }))))
 made n of.Private name =
-    unless_refused (nat_lt (private_count n.declared) PRIVATES) TooManyPrivates >>= (λ _. Ok (Variable (var.Private (private_count n.declared))))
+    unless_refused (nat_lt (private_count n.declared) PRIVATES) TooManyPrivates
+    >>= (λ _. Ok (Variable (var.Private (private_count n.declared))))
 made n of.Buffer name = listed n.machine.buffers.items name >>= (λ i. Ok (Buffer (record { 0 = i })))
 
 -- the names with one more
