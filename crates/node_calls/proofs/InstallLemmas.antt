@@ -43,7 +43,7 @@ use Rattle.journal_laws.proofs.Append.{heard_all-append, journal_of-add_image}
 use Rattle.mate_num.specs.declared.store.Store.{Store}
 use Rattle.node_contexts.specs.declared.handlers.Held.{Held}
 use Rattle.node_contexts.specs.At.{AreIdle}
-use Rattle.node_contexts.specs.Programs.{HeldPrograms, held_at, held_version_in, renewed}
+use Rattle.node_contexts.specs.Programs.{HasOwnRoom, HeldPrograms, held_at, held_version_in, renewed}
 use Rattle.node_invariant.specs.declared.parts.Parts.{Parts}
 use Rattle.node_invariant.specs.Meaning.{machine_in, image_code}
 use Rattle.node_invariant.specs.Fits.{program_of, IsHeld, AreInstalled}
@@ -390,8 +390,16 @@ module _ (d : Description) (old mid : Parts) (at_ : Stamp) (bytes : List ℕ) (i
         let below = can.handler in
         omega (arith, same, places, below)
 
+    -- there is room for it
+    pub shown-room : HasOwnRoom old.handlers → i.handler.0 < mid.handlers.room
+    shown-room room =
+        let same = ap (λ (s : Parts). s.handlers.room) shown.tells.same in
+        let places = rests.order.keeps.places in
+        let below = can.handler in
+        omega (arith, same, places, below, room)
+
     -- it has come
-    pub Arrives-shown : (now : Parts) → 4 ≤ old.log.all.spare → length old.log.all.entries < 4000000000 → now ≡ record mid { handlers = record { programs = set mid.handlers.programs i.handler.0 (Some i.held) } } → Arrives d i.handler at_ now
+    pub Arrives-shown : (now : Parts) → 4 ≤ old.log.all.spare → length old.log.all.entries < 4000000000 → now ≡ record mid { handlers = record (mid.handlers) { programs = set mid.handlers.programs i.handler.0 (Some i.held) } } → Arrives d i.handler at_ now
     Arrives-shown now room few has_come =
         let seen = shown.tells.again.adds in
         let one = told-one old.log.all mid.log.all at_ seen.told _ seen.grows seen.made in
@@ -409,7 +417,7 @@ module _ (d : Description) (old mid : Parts) (at_ : Stamp) (bytes : List ℕ) (i
         }
 
     -- its era has begun
-    pub InstallGives-begun : (now new : Parts) → 4 ≤ old.log.all.spare → length old.log.all.entries < 4000000000 → now ≡ record mid { handlers = record { programs = set mid.handlers.programs i.handler.0 (Some i.held) } }
+    pub InstallGives-begun : (now new : Parts) → 4 ≤ old.log.all.spare → length old.log.all.entries < 4000000000 → now ≡ record mid { handlers = record (mid.handlers) { programs = set mid.handlers.programs i.handler.0 (Some i.held) } }
         → ((a : Arrives d i.handler at_ now) → HasBegun d a.before new i.handler a.x at_) → RestsAgain d old new at_ (AtPace d old (InstallsBytes d (reading d old.log.all) bytes))
     unfolding Arrives-shown
     InstallGives-begun now new room few has_come begun_by = by ((machine_in d).runs_once i.handler) refl begins.follows where

@@ -69,7 +69,7 @@ pub record Arrives (d : Description) (h : HandlerId) (at : Stamp) (now : Parts) 
   pub seen : last_is_seen false (journal_of before.log.all) ≡ true
   pub is_held : IsHeld d x
   pub handler : h.0 < length d.handlers.items
-  pub has_come : now ≡ record before { handlers = record { programs = slice_set before.handlers.programs h.0 (Some x) } }
+  pub has_come : now ≡ record before { handlers = record (before.handlers) { programs = slice_set before.handlers.programs h.0 (Some x) } }
 
 -- a post with no values
 pub record IsPosted (d : Description) (old new : Parts) (h : HandlerId) (at : Stamp) : Type 0 where

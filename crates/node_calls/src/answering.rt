@@ -31,6 +31,7 @@ pub fn answer_in(
         (λ _. RestsAgain description.now parts.old parts.new at (AnswersCall (reading description.now parts.old.log.all) ctx value))
         (λ _. NobodyWaits (reading description.now parts.old.log.all) ctx × (parts.new ≡ parts.old)) }
     ensures gone { parts.new.log.gone ≡ parts.old.log.gone }
+    ensures handlers { parts.new.handlers ≡ parts.old.handlers }
 {
     let _description = description;
     let Some(_) = parts.contexts.asked(ctx) else {

@@ -34,6 +34,7 @@ pub fn reset_in(description: &Description, parts: &mut Parts, at: Stamp)
         (AtPace description.now parts.old (Resets (machine_in description.now)
         (reading description.now parts.old.log.all))) }
     ensures gone { parts.new.log.gone ≡ parts.old.log.gone }
+    ensures handlers { parts.new.handlers ≡ parts.old.handlers }
 {
     seen_in(description, parts, at);
     clear(description, parts);

@@ -1,10 +1,10 @@
 //! Installs: a newer capsule replaces a handler's program, and an era begins.
 
-ghost use Rattle.std.specs.Prelude.{◌≡◌, ◌<◌, ◌∷◌, [], length, All, IsTrue};
+ghost use Rattle.std.specs.Prelude.{◌≡◌, ◌<◌, ◌∷◌, [], length, All, IsTrue, MatchOption};
 ghost use Rattle.mate_journal.specs.Journal.{Installed};
 ghost use Rattle.vm_desc.specs.Shapes.{shape_of};
 ghost use Rattle.code_verifier.specs.Verified.{IsVerificationOf};
-ghost use Rattle.node_contexts.specs.Programs.{held_at};
+ghost use Rattle.node_contexts.specs.Programs.{HasOwnRoom, held_at};
 ghost use Rattle.node_invariant.specs.Fits.{IsHeld, program_of};
 ghost use Rattle.node_invariant.specs.Meaning.{machine_in};
 ghost use Rattle.node_calls.specs.Calls.{RestsAgain};
@@ -97,6 +97,7 @@ fn prepare(
     requires { MayInstall description.now parts.old at }
     ensures prepares { Prepares description.now parts.old parts.new handler version at result }
     ensures gone { parts.new.log.gone ≡ parts.old.log.gone }
+    ensures room { parts.new.handlers.room ≡ parts.old.handlers.room }
 {
     let held = parts.handlers.version(handler);
     if version <= held {
@@ -112,6 +113,7 @@ fn begin_era(description: &Description, parts: &mut Parts, handler: HandlerId, a
     ensures again { (a : Arrives description.now handler at parts.old) → RestsAgain description.now a.before parts.new at
         (λ told. told ≡ Installed (program_of handler a.x) ∷ []) }
     ensures gone { parts.new.log.gone ≡ parts.old.log.gone }
+    ensures room { parts.new.handlers.room ≡ parts.old.handlers.room }
 {
     let Some(held) = parts.handlers.get(handler) else {
         unreachable!()
@@ -127,6 +129,7 @@ fn begin(description: &Description, parts: &mut Parts, handler: HandlerId, at: S
     requires { Arrives description.now handler at parts.old }
     ensures begins { (a : Arrives description.now handler at parts.old) → HasBegun description.now a.before parts.new handler a.x at }
     ensures gone { parts.new.log.gone ≡ parts.old.log.gone }
+    ensures room { parts.new.handlers.room ≡ parts.old.handlers.room }
 {
     begin_era(description, parts, handler, at);
     if runs_once(description, handler) {
@@ -157,9 +160,11 @@ fn install_own(
     at: Stamp,
 ) -> Result<(), InstallFault>
     requires may { MayInstall description.now parts.old at }
+    requires room { HasOwnRoom parts.old.handlers }
     requires can { IsInstallable description.now bytes.now (record { handler = handler; held = held }) }
     ensures installs { InstallGives description.now parts.old parts.new bytes.now at result }
     ensures gone { parts.new.log.gone ≡ parts.old.log.gone }
+    ensures room { parts.new.handlers.room ≡ parts.old.handlers.room }
 {
     let _bytes = bytes;
     prepare(description, parts, handler, held.version, at)?;
@@ -182,6 +187,7 @@ fn install_one(
     requires can { IsInstallable description.now bytes.now (record { handler = handler; held = program }) }
     ensures installs { InstallGives description.now parts.old parts.new bytes.now at result }
     ensures gone { parts.new.log.gone ≡ parts.old.log.gone }
+    ensures room { parts.new.handlers.room ≡ parts.old.handlers.room }
 {
     let _bytes = bytes;
     let version = program.as_held().version;
@@ -203,9 +209,11 @@ fn install_known(
     at: Stamp,
 ) -> Result<(), InstallFault>
     requires may { MayInstall description.now parts.old at }
+    requires room { HasOwnRoom parts.old.handlers }
     requires can { CanRenew description.now bytes.now parts.old handler version }
     ensures installs { InstallGives description.now parts.old parts.new bytes.now at result }
     ensures gone { parts.new.log.gone ≡ parts.old.log.gone }
+    ensures room { parts.new.handlers.room ≡ parts.old.handlers.room }
 {
     prepare(description, parts, handler, version, at)?;
     parts.handlers.renew(handler, version, bytes);
@@ -225,11 +233,13 @@ fn install_alike(
     at: Stamp,
 ) -> Result<(), InstallFault>
     requires may { MayInstall description.now parts.old at }
+    requires room { HasOwnRoom parts.old.handlers }
     requires read { IsReadAs description.now bytes.now capsule.now }
     requires right { IsHeld description.now held.now }
     requires alike { held.now.code.bytes ≡ capsule.now.code.now }
     ensures installs { InstallGives description.now parts.old parts.new bytes.now at result }
     ensures gone { parts.new.log.gone ≡ parts.old.log.gone }
+    ensures room { parts.new.handlers.room ≡ parts.old.handlers.room }
 {
     let handler = capsule.handler;
     let version = capsule.version;
@@ -250,10 +260,12 @@ fn install_code(
     at: Stamp,
 ) -> Result<(), InstallFault>
     requires may { MayInstall description.now parts.old at }
+    requires room { HasOwnRoom parts.old.handlers }
     requires read { IsReadAs description.now bytes.now capsule.now }
     requires verified { IsVerificationOf (shape_of description.now) capsule.now.code.now code }
     ensures installs { InstallGives description.now parts.old parts.new bytes.now at result }
     ensures gone { parts.new.log.gone ≡ parts.old.log.gone }
+    ensures room { parts.new.handlers.room ≡ parts.old.handlers.room }
 {
     let held = new_program(description, bytes, capsule, code);
     install_own(description, parts, bytes, capsule.handler, held, at)
@@ -269,9 +281,11 @@ fn install_new(
     at: Stamp,
 ) -> Result<(), InstallFault>
     requires may { MayInstall description.now parts.old at }
+    requires room { HasOwnRoom parts.old.handlers }
     requires read { IsReadAs description.now bytes.now capsule.now }
     ensures installs { InstallGives description.now parts.old parts.new bytes.now at result }
     ensures gone { parts.new.log.gone ≡ parts.old.log.gone }
+    ensures room { parts.new.handlers.room ≡ parts.old.handlers.room }
 {
     let table = Table::of(&shape(description));
     match verify(&table, description, capsule.code) {
@@ -292,10 +306,12 @@ fn install_beside(
     at: Stamp,
 ) -> Result<(), InstallFault>
     requires may { MayInstall description.now parts.old at }
+    requires room { HasOwnRoom parts.old.handlers }
     requires read { IsReadAs description.now bytes.now capsule.now }
     requires ready { IsReadyOn description.now ready.now }
     ensures installs { InstallGives description.now parts.old parts.new bytes.now at result }
     ensures gone { parts.new.log.gone ≡ parts.old.log.gone }
+    ensures room { parts.new.handlers.room ≡ parts.old.handlers.room }
 {
     if let Some(program) = ready.shared_if(description, bytes) {
         return install_one(description, parts, bytes, ready.handler, program, at);
@@ -306,6 +322,26 @@ fn install_beside(
     } else {
         install_new(description, parts, bytes, capsule, at)
     }
+}
+
+/// Installs the capsule that the bytes are, if it is one of those that are ready and newer than what the node holds. That takes no room
+/// for a program of the node's own. None, which changes nothing, comes where it is none of them; the refusals change nothing either.
+pub fn install_ready(
+    description: &Description,
+    parts: &mut Parts,
+    bytes: &[u8],
+    ready: &[ReadyCapsule],
+    at: Stamp,
+) -> Option<Result<(), InstallFault>>
+    requires may { MayInstall description.now parts.old at }
+    requires ready { All (IsReadyOn description.now) ready.now }
+    ensures installs { MatchOption result (parts.new ≡ parts.old) (InstallGives description.now parts.old parts.new bytes.now at) }
+    ensures gone { parts.new.log.gone ≡ parts.old.log.gone }
+    ensures room { parts.new.handlers.room ≡ parts.old.handlers.room }
+{
+    let capsule = near(description, ready, bytes)?;
+    let program = capsule.shared_if(description, bytes)?;
+    Some(install_one(description, parts, bytes, capsule.handler, program, at))
 }
 
 /// Whether the capsule's handler holds the capsule's code, where a version and an image can be written in place. A shared program can't be
@@ -333,9 +369,11 @@ pub fn install_shared(
     at: Stamp,
 ) -> Result<(), InstallFault>
     requires may { MayInstall description.now parts.old at }
+    requires room { HasOwnRoom parts.old.handlers }
     requires ready { All (IsReadyOn description.now) ready.now }
     ensures installs { InstallGives description.now parts.old parts.new bytes.now at result }
     ensures gone { parts.new.log.gone ≡ parts.old.log.gone }
+    ensures room { parts.new.handlers.room ≡ parts.old.handlers.room }
 {
     let capsule = match decode_in_place(description, bytes) {
         Ok(capsule) => capsule,

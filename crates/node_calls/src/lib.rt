@@ -15,7 +15,7 @@ pub mod turns;
 
 pub use answering::answer_in;
 pub use era::reset_in;
-pub use installing::{InstallFault, install_shared};
+pub use installing::{InstallFault, install_ready, install_shared};
 pub use posting::{PostAnswer, post_in};
 pub use ready::{ReadyCapsule, near, place_among};
 pub use running::run_some;

@@ -73,6 +73,7 @@ fn queue(
     requires few { length parts.old.log.all.entries < 4100000000 }
     ensures queued { IsQueued description.now parts.old parts.new at handler payload.now result }
     ensures gone { parts.new.log.gone ≡ parts.old.log.gone }
+    ensures handlers { parts.new.handlers ≡ parts.old.handlers }
 {
     parts.posts += 1;
     let inv = parts.posts;
@@ -115,6 +116,7 @@ pub fn post_in(
     ensures again { RestsAgain description.now parts.old parts.new at
         (PostGives (machine_in description.now) (reading description.now parts.old.log.all) handler payload.now result) }
     ensures gone { parts.new.log.gone ≡ parts.old.log.gone }
+    ensures handlers { parts.new.handlers ≡ parts.old.handlers }
 {
     let Some(held) = parts.handlers.get(handler) else {
         let cause = DropCause::NoCode;

@@ -23,6 +23,7 @@ pub fn run_some(description: &Description, parts: &mut Parts, ctx: ContextId, n:
     requires ready { (at parts.old.contexts ctx).ready ≡ true }
     ensures runs { RunsFor description.now parts.old parts.new ctx n result }
     ensures log { parts.new.log ≡ parts.old.log }
+    ensures handlers { parts.new.handlers ≡ parts.old.handlers }
 {
     let _turns = description.turns;
     turn(

@@ -19,6 +19,7 @@ pub fn seen_in(description: &Description, parts: &mut Parts, at: Stamp)
     requires few { length parts.old.log.all.entries < 4100000000 }
     ensures tells { TellsStore description.now parts.old parts.new at }
     ensures gone { parts.new.log.gone ≡ parts.old.log.gone }
+    ensures handlers { parts.new.handlers ≡ parts.old.handlers }
 {
     let _description = description;
     parts.log.push_seen(at, &parts.heap.store());
@@ -32,6 +33,7 @@ pub fn void_in(description: &Description, parts: &mut Parts, cause: VoidCause, a
     ensures again { RestsAgain description.now parts.old parts.new at (λ told. told ≡ Void cause ∷ []) }
     ensures same { parts.new ≡ record (parts.old) { log = parts.new.log } }
     ensures gone { parts.new.log.gone ≡ parts.old.log.gone }
+    ensures handlers { parts.new.handlers ≡ parts.old.handlers }
 {
     let _description = description;
     tell(&mut parts.log, at, Entry::Void { cause });

@@ -33,6 +33,7 @@ pub fn take_turn(
     requires some { 0 < n }
     ensures turn { TakesTurn description.now parts.old parts.new at ctx n result }
     ensures gone { parts.new.log.gone ≡ parts.old.log.gone }
+    ensures handlers { parts.new.handlers ≡ parts.old.handlers }
 {
     let inv = number(&parts.contexts, ctx);
     let Ran { instructions, how } = run_some(description, parts, ctx, n);
@@ -86,6 +87,7 @@ pub fn settle(description: &Description, parts: &mut Parts, at: Stamp)
     requires quantum { 0 < description.now.quantum }
     ensures settles { SettlesAll description.now parts.old parts.new at }
     ensures gone { parts.new.log.gone ≡ parts.old.log.gone }
+    ensures handlers { parts.new.handlers ≡ parts.old.handlers }
 {
     while let Some(ctx) = parts.contexts.first_ready() {
         let n = length_of_turn(description.quantum, parts.contexts.ring.len());

@@ -9,7 +9,7 @@ use Rattle.std.proofs.lemmas.List.Elements.{All-get_or, All-push}
 use Rattle.arrayvec.specs.ArrayVec.{ArrayVec}
 use Rattle.mate_num.specs.declared.id.HandlerId.{HandlerId}
 use Rattle.node_contexts.specs.declared.handlers.Held.{Held}
-use Rattle.node_contexts.specs.Programs.{held_at, held_either, renewed, written_over}
+use Rattle.node_contexts.specs.Programs.{HeldPrograms, held_at, held_either, renewed, written_over}
 
 pub nothing-held : (programs : List (Option Held)) → All (λ (held : Option Held). held ≡ None) programs → (h : HandlerId) → held_at programs h ≡ None
 nothing-held programs none h = by (cases_lt h.0 (length programs)) where
@@ -96,3 +96,10 @@ either-replace (a ∷ own) [] k x y within is = absurd (omega arith)
 either-replace (Some a ∷ own) (b ∷ shared) zero x y within is = refl
 either-replace (None ∷ own) (b ∷ shared) zero x y within is = let e : Some x ≡ None = is in cc
 either-replace (a ∷ own) (b ∷ shared) (suc k) x y within is = ap (λ (l : List (Option Held)). option_or a b ∷ l) (either-replace own shared k x y (omega arith) is)
+
+-- the programs are these, and the room stays
+pub with-programs : (before : HeldPrograms) (own : List (Option Held)) (programs : List (Option Held)) (room was : ℕ) → own ≡ programs → room ≡ was → was ≡ before.room
+    → ◌≡◌ {A = HeldPrograms} (record { programs = own; room = room }) (record before { programs = programs })
+with-programs before own programs room was is stays room_is =
+    ap (λ (l : List (Option Held)). let h : HeldPrograms = record { programs = l; room = room } in h) is
+    ∙ ap (λ (k : ℕ). let h : HeldPrograms = record { programs = programs; room = k } in h) (stays ∙ room_is)

@@ -1,13 +1,19 @@
 -- What is held for each handler.
-use Rattle.std.specs.Prelude.{◌≡◌, ◌≤◌, ℕ, List, [], ◌∷◌, Option, Some, None, slice_index_or}
+use Rattle.std.specs.Prelude.{◌≡◌, ◌≤◌, ℕ, List, [], ◌∷◌, Option, Some, None, length, slice_index_or}
 use Rattle.std.specs.Option.{option_or}
 use Rattle.arrayvec.specs.ArrayVec.{ArrayVec}
 use Rattle.mate_num.specs.declared.id.HandlerId.{HandlerId}
 use Rattle.node_contexts.specs.declared.handlers.Held.{Held}
 
--- what is held for the handlers, by their numbers
+-- What is held for the handlers, by their numbers; and for how many of them, from the first on, there is room for a program of the
+-- node's own.
 pub record HeldPrograms : Type 0 where
   pub programs : List (Option Held)
+  pub room : ℕ
+
+-- there is for each handler
+abbrev pub HasOwnRoom : HeldPrograms → Type 0
+HasOwnRoom held = length held.programs ≤ held.room
 
 -- of each handler its own program, or else the shared one: there may be places for fewer handlers among the own ones
 abbrev pub held_either : List (Option Held) → List (Option Held) → List (Option Held)
@@ -19,10 +25,9 @@ held_either (x ∷ own) (y ∷ shared) = option_or x y ∷ held_either own share
 abbrev pub HaveSame : List (Option Held) → List (Option Held) → Type 0
 HaveSame own more = (shared : List (Option Held)) → held_either more shared ≡ held_either own shared
 
--- so many places of its own were made, there is room for so many, and there are so many handlers
-pub record HavePlaces (made room handlers : ℕ) : Type 0 where
+-- so many places of its own were made, and there are so many handlers
+pub record HavePlaces (made handlers : ℕ) : Type 0 where
   pub within : made ≤ handlers
-  pub room_is : handlers ≤ room
 
 abbrev pub Programs : Type 0
 Programs = HandlerId → Option Held

@@ -1,6 +1,6 @@
 //! What is installed for each handler.
 
-ghost use Rattle.std.specs.Prelude.{◌≡◌, ◌<◌, ◌≤◌, Some, None, length, slice_index_or, slice_set, max, vec_len, vec_capacity, IfOk};
+ghost use Rattle.std.specs.Prelude.{◌≡◌, ◌<◌, ◌≤◌, Some, None, length, slice_index_or, slice_set, max, vec_len, vec_capacity, IfOk, OnOk};
 ghost use Rattle.std.specs.Option.{option_copied};
 ghost use Rattle.mate_num.specs.declared.bounds.TheConstants.{IMAGE_MAX};
 ghost use Rattle.mate_num.specs.declared.id.HandlerId.{HandlerId as Handler};
@@ -21,11 +21,12 @@ pub struct Held {
     pub locks: LockSet,
 }
 
-/// The program of each handler. Contracts see the list of them.
+/// The program of each handler. Contracts see the list of them, and for how many handlers, from the first on, there is room for a
+/// program of the node's own.
 ///
-/// A program is one of the node's own, or one that nodes share. Programs are large, so they are on the heap; there is room for
-/// one of its own for each handler from the start, so that an install takes no memory, but no place of it is written before
-/// a program comes there, or behind it.
+/// A program is one of the node's own, or one that nodes share. Programs are large, so they are on the heap: 7.5 KB each. Room for
+/// those of the node's own comes by `make_room` alone, so that an install takes no memory, and a node that installs what nodes
+/// share needs none. No place of it is written before a program comes there, or behind it.
 #[derive(Drop)]
 pub struct Handlers {
     own: Vec<Option<Held>>,
@@ -39,9 +40,9 @@ impl Model for Handlers {
 
     ghost Value = { HeldPrograms };
 
-    ghost view = { λ h. record { programs = held_either h.own.items h.shared.items } };
+    ghost view = { λ h. record { programs = held_either h.own.items h.shared.items; room = vec_capacity h.own } };
 
-    ghost invariant = { λ h. HavePlaces (length h.own.items) (vec_capacity h.own) (length h.shared.items) };
+    ghost invariant = { λ h. HavePlaces (length h.own.items) (length h.shared.items) };
 }
 
 /// The node's own program at the place.
@@ -66,19 +67,32 @@ fn shared_at(shared: &Vec<Option<SharedHeld>>, place: usize) -> Option<&Held>
 }
 
 impl Handlers {
-    ghost use Rattle.node_contexts.specs.Programs.{held_at, held_version_in};
+    ghost use Rattle.node_contexts.specs.Programs.{HasOwnRoom, held_at, held_version_in};
 
-    /// Places for this number of handlers, with nothing installed. No other call takes memory.
+    /// Places for this number of handlers, with nothing installed, and room for no program of the node's own.
     pub fn new(alloc: Global, count: usize) -> Result<Handlers, NoMemory>
         ensures none { IfOk result (λ handlers. (h : Handler) → held_at handlers.programs h ≡ None) }
         ensures places { IfOk result (λ handlers. length handlers.programs ≡ count) }
     {
-        let own = Vec::with_capacity(alloc, count)?;
         let mut shared = Vec::with_capacity(alloc, count)?;
         for _place in 0..count {
             shared.push(None)?;
         }
-        Ok(Handlers { own, shared })
+        Ok(Handlers {
+            own: Vec::new(alloc),
+            shared,
+        })
+    }
+
+    /// Makes room for a program of the node's own for each handler. `NoMemory` leaves what is installed as it was. No other call
+    /// but `new` takes memory.
+    pub fn make_room(&mut self) -> Result<(), NoMemory>
+        ensures same { self.new.programs ≡ self.old.programs }
+        ensures room { OnOk result (HasOwnRoom self.new) }
+        ensures more { self.old.room ≤ self.new.room }
+    {
+        self.own.reserve(self.shared.len() - self.own.len())?;
+        Ok(())
     }
 
     /// What is installed for the handler; None also for a number of no handler.
@@ -99,8 +113,9 @@ impl Handlers {
 
     /// Installs the program in place of the one that was.
     pub fn install(&mut self, handler: HandlerId, held: Held)
-        requires { handler.0 < length self.old.programs }
-        ensures { self.new.programs ≡ slice_set self.old.programs handler.0 (Some held) }
+        requires handler { handler.0 < length self.old.programs }
+        requires room { handler.0 < self.old.room }
+        ensures { self.new ≡ record self.old { programs = slice_set self.old.programs handler.0 (Some held) } }
     {
         let place = usize::from(handler.0);
         reach(&mut self.own, place + 1);
@@ -111,7 +126,7 @@ impl Handlers {
     /// Installs the shared program in place of the one that was.
     pub fn share(&mut self, handler: HandlerId, program: SharedHeld)
         requires { handler.0 < length self.old.programs }
-        ensures { self.new.programs ≡ slice_set self.old.programs handler.0 (Some program) }
+        ensures { self.new ≡ record self.old { programs = slice_set self.old.programs handler.0 (Some program) } }
     {
         let place = usize::from(handler.0);
         leave(&mut self.own, place);
@@ -122,9 +137,12 @@ impl Handlers {
     /// stay.
     pub fn renew(&mut self, handler: HandlerId, version: u32, image: &[u8])
         requires handler { handler.0 < length self.old.programs }
+        requires room { handler.0 < self.old.room }
         requires fits { length image.now ≤ IMAGE_MAX }
-        ensures { self.new.programs ≡ slice_set self.old.programs handler.0
-            (renewed version (record { items = image.now }) (held_at self.old.programs handler)) }
+        ensures { self.new ≡ record self.old {
+          programs = slice_set self.old.programs handler.0
+              (renewed version (record { items = image.now }) (held_at self.old.programs handler));
+        } }
     {
         let place = usize::from(handler.0);
         match own_at(&self.own, place) {
@@ -137,9 +155,12 @@ impl Handlers {
     #[inline(never)]
     fn renew_shared(&mut self, handler: HandlerId, version: u32, image: &[u8])
         requires handler { handler.0 < length self.old.programs }
+        requires room { handler.0 < self.old.room }
         requires fits { length image.now ≤ IMAGE_MAX }
-        ensures { self.new.programs ≡ slice_set self.old.programs handler.0
-            (renewed version (record { items = image.now }) (held_at self.old.programs handler)) }
+        ensures { self.new ≡ record self.old {
+          programs = slice_set self.old.programs handler.0
+              (renewed version (record { items = image.now }) (held_at self.old.programs handler));
+        } }
     {
         if let Some(held) = self.get(handler) {
             let held = renewed_copy(held, version, image);
@@ -151,9 +172,12 @@ impl Handlers {
     /// the node's own, the copy is written over it, and no more than it has.
     pub fn install_copy(&mut self, handler: HandlerId, held: &Held, version: u32, image: &[u8])
         requires handler { handler.0 < length self.old.programs }
+        requires room { handler.0 < self.old.room }
         requires fits { length image.now ≤ IMAGE_MAX }
-        ensures { self.new.programs ≡ slice_set self.old.programs handler.0
-            (Some (record held.now { version = version; image = record { items = image.now } })) }
+        ensures { self.new ≡ record self.old {
+          programs = slice_set self.old.programs handler.0
+              (Some (record held.now { version = version; image = record { items = image.now } }));
+        } }
     {
         let place = usize::from(handler.0);
         match own_at(&self.own, place) {

@@ -28,7 +28,7 @@ use vm_desc::Description;
 /// A node. Its calls are those of `OpenNode`, over a log of which nothing is gone.
 #[derive(Drop)]
 pub struct Node {
-    // nothing of its log is gone
+    // nothing of its log is gone, and it has places for programs of its own
     node: OpenNode,
 }
 
@@ -37,11 +37,11 @@ impl Model for Node {
 
     ghost Value = { NodeView };
 
-    ghost use Rattle.node_core.specs.Inside.{HasWholeLog};
+    ghost use Rattle.node_core.specs.Inside.{IsWholeNode};
 
     ghost view = { λ n. n.node };
 
-    ghost invariant = { HasWholeLog };
+    ghost invariant = { IsWholeNode };
 }
 
 impl Node {
@@ -52,10 +52,9 @@ impl Node {
     pub fn new(alloc: Global, description: &Description) -> Result<Node, NoMemory>
         ensures { IfOk result (λ node. (node.description ≡ description.now) × IsEmpty node.log × HasPace node no_pace) }
     {
-        match OpenNode::new(alloc, description) {
-            Ok(node) => Ok(Node { node }),
-            Err(_) => Err(NoMemory),
-        }
+        let mut node = OpenNode::new(alloc, description)?;
+        node.make_places()?;
+        Ok(Node { node })
     }
 
     /// Makes room for n more entries. `NoMemory` leaves all of the node but its room as it was.

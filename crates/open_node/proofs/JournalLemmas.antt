@@ -1,5 +1,5 @@
 -- What a node that rests keeps of its log, and that more room changes nothing.
-use Rattle.std.proofs.Common.{◌∙◌, ◌≡◌, List, length, sym, ap, subst, arith, ℕ, ◌<◌}
+use Rattle.std.proofs.Common.{◌∙◌, ◌≡◌, List, Option, length, sym, ap, subst, arith, ℕ, ◌<◌}
 use Rattle.vm_desc.specs.declared.description.Description.{Description}
 use Rattle.mate_journal.specs.Log.{IsSameLog}
 use Rattle.mate_journal.specs.Journal.{TimedEntry, NodeState, journal_of, first_state, state_after_all}
@@ -22,7 +22,8 @@ use Rattle.std.specs.Prelude.{All}
 use Rattle.journal_laws.proofs.Apart.{nothing_heard-orderly}
 use Rattle.journal_laws.proofs.Order.{ends-in_order}
 use Rattle.journal_laws.proofs.Progress.{never-stuck}
-use Rattle.node_contexts.specs.Programs.{held_at}
+use Rattle.node_contexts.specs.declared.handlers.Held.{Held}
+use Rattle.node_contexts.specs.Programs.{HeldPrograms, held_at}
 use Rattle.node_invariant.proofs.AskLemmas.{writes-what_it_asks}
 use Rattle.node_invariant.specs.declared.parts.Parts.{Parts}
 use Rattle.node_invariant.specs.Meaning.{machine_in}
@@ -121,3 +122,31 @@ module _ (d : Description) (s : Parts) (log : OpenView) (same : IsSameLog log.al
 
   pub IsPace-room : (p : Pace) → IsPace (reading d s.log.all) s.contexts p → IsPace (reading d log.all) s.contexts p
   IsPace-room p pace = heard (λ r. IsPace r s.contexts p) pace
+
+-- ---- the same programs, with other room
+
+pub Rests-programs : (d : Description) (s : Parts) (held : HeldPrograms) → held.programs ≡ s.handlers.programs → Rests d s → Rests d (record s { handlers = held })
+Rests-programs d s held same rests =
+    let keeps = rests.order.keeps in
+    let along : (P : List (Option Held) → Type 0) → P s.handlers.programs → P held.programs = λ P here. subst P (sym same) here in
+    record {
+      order = record {
+        keeps = record {
+          tidy = keeps.tidy;
+          full = keeps.full;
+          numbers = keeps.numbers;
+          well_formed = keeps.well_formed;
+          posts = keeps.posts;
+          places = along (λ ps. length ps ≡ length d.handlers.items) keeps.places;
+          installed = along (λ ps. AreInstalled d (reading d s.log.all).installed (held_at ps)) keeps.installed;
+          fits = along (λ ps. ContextsMatch (held_at ps) (reading d s.log.all) s.contexts) keeps.fits;
+          lengths = keeps.lengths;
+          agrees = keeps.agrees;
+          serial = keeps.serial;
+          shows = keeps.shows;
+        };
+        queue = rests.order.queue;
+        grants = rests.order.grants;
+      };
+      held = rests.held;
+    }

@@ -27,14 +27,14 @@ IsPace-idle r s idles = record {
   counts = λ c t is started. absurd (let e : None ≡ Some t = ap (λ (a : At). a.seat) (sym (idles.each c)) ∙ is in cc);
 }
 
-pub Tells-turn : (d : Description) (old new : Parts) (at_ : Stamp) (c : ContextId) (n ran : ℕ) → Rests d old → (at old.contexts c).ready ≡ true → new.log.gone ≡ old.log.gone → TakesTurn d old new at_ c n ran
+pub Tells-turn : (d : Description) (old new : Parts) (at_ : Stamp) (c : ContextId) (n ran : ℕ) → Rests d old → (at old.contexts c).ready ≡ true → new.log.gone ≡ old.log.gone → new.handlers.room ≡ old.handlers.room → TakesTurn d old new at_ c n ran
     → Tells (seen_as d old) (seen_as d new) at_ (HasStepped (machine_in d) (reading d old.log.all) c n ran)
-Tells-turn d old new at_ c n ran rests is_ready gone t =
+Tells-turn d old new at_ c n ran rests is_ready gone places t =
     let keeps = rests.order.keeps in
     let s = (one d old c keeps is_ready).seat in
     let same : s.inv ≡ t.invocation = sym (ap number_at (one d old c keeps is_ready).is) ∙ t.number in
     let P : ℕ → Type 0 = λ j. ((reading d old.log.all).invocations j).context ≡ c in
-    Tells-from d old new at_ _ t.told keeps t.rests.order.keeps t.grows gone (λ p pace. (let h = t.turn p pace in (
+    Tells-from d old new at_ _ t.told keeps t.rests.order.keeps t.grows gone places (λ p pace. (let h = t.turn p pace in (
       _,
       record {
         turn = record { invocation = t.invocation; context = subst P same (one d old c keeps is_ready).seated.context; turn = h.0; then = refl };
@@ -44,6 +44,6 @@ Tells-turn d old new at_ c n ran rests is_ready gone t =
       h.2,
     )))
 
-pub Tells-settled : (d : Description) (old new : Parts) (at_ : Stamp) → Rests d old → new.log.gone ≡ old.log.gone → SettlesAll d old new at_
+pub Tells-settled : (d : Description) (old new : Parts) (at_ : Stamp) → Rests d old → new.log.gone ≡ old.log.gone → new.handlers.room ≡ old.handlers.room → SettlesAll d old new at_
     → Tells (seen_as d old) (seen_as d new) at_ (SettlesWithin (machine_in d) ((d.turns + 1) * CODE_MAX) (reading d old.log.all))
-Tells-settled d old new at_ rests gone s = Tells-from d old new at_ _ s.told rests.order.keeps s.rests.order.keeps s.grows gone s.settles
+Tells-settled d old new at_ rests gone places s = Tells-from d old new at_ _ s.told rests.order.keeps s.rests.order.keeps s.grows gone places s.settles

@@ -51,11 +51,13 @@ module _ (d : Description) (s : Parts) (keeps : Keeps d s) (p : Pace) where
 
 -- what the parts tell, as it is seen
 pub Tells-from : (d : Description) (old new : Parts) (at_ : Stamp) (Rule : Pace → List JournalEntry → Pace → Type 0) (told : List JournalEntry) → Keeps d old → Keeps d new → Grows old.log.all new.log.all at_ told → new.log.gone ≡ old.log.gone
+    → new.handlers.room ≡ old.handlers.room
     → ((p : Pace) → IsPace (reading d old.log.all) old.contexts p → (q : Pace) × Rule p told q × IsPace (reading d new.log.all) new.contexts q) → Tells (seen_as d old) (seen_as d new) at_ Rule
-Tells-from d old new at_ Rule told before after grows gone paces = record {
+Tells-from d old new at_ Rule told before after grows gone places paces = record {
   told = told;
   description = refl;
   grows = grows;
   gone = gone;
+  places = omega (arith, places);
   paces = λ p pace. (let h = paces p (IsPace-seen d old before p pace) in (h.0, h.1, HasPace-from d new after h.0 h.2));
 }

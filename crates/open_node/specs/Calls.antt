@@ -1,9 +1,10 @@
 -- What the calls of a node answer.
-use Rattle.std.specs.Prelude.{◌≡◌, ◌<◌, ◌≤◌, ◌+◌, ◌*◌, min, ℕ, List, Some, map, drop}
+use Rattle.std.specs.Prelude.{◌≡◌, ◌<◌, ◌≤◌, ◌+◌, ◌*◌, min, ℕ, List, Some, map, drop, Result, MatchResult, ⊤}
 use Rattle.arrayvec.specs.ArrayVec.{ArrayVec}
 use Rattle.mate_num.specs.declared.bounds.TheConstants.{CODE_MAX}
 use Rattle.mate_num.specs.declared.id.ContextId.{ContextId}
 use Rattle.mate_num.specs.declared.id.HandlerId.{HandlerId}
+use Rattle.mate_num.specs.declared.call.Stamp.{Stamp}
 use Rattle.mate_journal.specs.Log.{Log}
 use Rattle.mate_journal.specs.Machine.{Machine, HeldProgram}
 use Rattle.mate_journal.specs.Journal.{JournalEntry, Ready, Waiting, NodeState, journal_entry}
@@ -13,6 +14,9 @@ use Rattle.mate_journal.specs.NodeScript.{IsReadyIn, TurnsIn}
 use Rattle.mate_journal.specs.Pace.{Pace, paced_all}
 use Rattle.mate_journal.specs.Turns.{mark_of}
 use Rattle.journal_laws.specs.Progress.{IsNoneLive}
+use Rattle.node_calls.specs.Installing.{InstallsBytes, Refuses}
+use Rattle.node_calls.specs.declared.installing.InstallFault.{InstallFault}
+use Rattle.open_node.specs.View.{NodeView, heard_of, Tells, IsSameNode}
 use Rattle.open_node.specs.declared.standing.Asked.{Asked}
 use Rattle.open_node.specs.declared.standing.Standing.{Standing}
 use Rattle.open_node.specs.declared.standing.Standing.TheVariants.{Can, Outside, Idle}
@@ -20,6 +24,18 @@ use Rattle.open_node.specs.declared.standing.Standing.TheVariants.{Can, Outside,
 -- entries that meet the rule, and change the pace one by one: no instruction is executed
 abbrev pub Pacing : (Pace → List JournalEntry → Type 0) → Pace → List JournalEntry → Pace → Type 0
 Pacing Rule p told q = Rule p told × (q ≡ paced_all p told)
+
+-- the capsule that the bytes are was installed; or it is refused for this, and the node is as it was
+abbrev pub InstallsOn : NodeView → NodeView → List ℕ → Stamp → Result ⊤ InstallFault → Type 0
+InstallsOn old new bytes at result = MatchResult result
+    (λ _. Tells old new at (Pacing (InstallsBytes old.description (heard_of old) bytes)))
+    (λ fault. Refuses old.description (heard_of old) bytes fault × (new ≡ old))
+
+-- it was installed, or is refused for this, and the node is as it was but for its room
+abbrev pub TakesCapsule : NodeView → NodeView → List ℕ → Stamp → Result ⊤ InstallFault → Type 0
+TakesCapsule old new bytes at result = MatchResult result
+    (λ _. Tells old new at (Pacing (InstallsBytes old.description (heard_of old) bytes)))
+    (λ fault. Refuses old.description (heard_of old) bytes fault × IsSameNode old new)
 
 -- One turn of n instructions. Those are executed up to the next mark, which is within what one invocation executes at
 -- most from its start to its end.

@@ -17,6 +17,7 @@ view_of n = record {
   gone = n.parts.log.gone;
   line = map (invocation_in n.parts.contexts) n.parts.contexts.ring;
   counts = map entry_of n.parts.contexts.seats;
+  places = n.parts.handlers.room;
 }
 
 -- what each node keeps: it rests

@@ -1,6 +1,6 @@
--- What contracts see of a node: its machine, its log and how much of it is gone, the line of its ready invocations, and how many
--- instructions each live one executed.
-use Rattle.std.specs.Prelude.{◌≡◌, ◌≤◌, ℕ, true, List, slice_index_or}
+-- What contracts see of a node: its machine, its log and how much of it is gone, the line of its ready invocations, how many
+-- instructions each live one executed, and its places for programs.
+use Rattle.std.specs.Prelude.{◌≡◌, ◌≤◌, ℕ, true, List, length, slice_index_or}
 use Rattle.mate_num.specs.declared.call.Stamp.{Stamp}
 use Rattle.mate_num.specs.declared.id.ContextId.{ContextId}
 use Rattle.vm_desc.specs.declared.description.Description.{Description}
@@ -12,13 +12,18 @@ use Rattle.node_invariant.specs.Keeps.{reading, Grows}
 
 -- `log` is the whole log, of which `gone` may be forgotten. `line` has the ready invocations, the one that has the next
 -- turn first. `counts` has for each context the number of its invocation and how many instructions this one executed, or 0
--- and 0.
+-- and 0. For so many handlers as `places` says, from the first on, the node has room for a program of its own.
 pub record NodeView : Type 0 where
   pub description : Description
   pub log : Log
   pub gone : Gone
   pub line : List ℕ
   pub counts : List (ℕ × ℕ)
+  pub places : ℕ
+
+-- it has for each handler
+abbrev pub HasPlaces : NodeView → Type 0
+HasPlaces v = length v.description.handlers.items ≤ v.places
 
 -- the state of the node
 abbrev pub heard_of : NodeView → NodeState
@@ -39,6 +44,7 @@ pub record Tells (old new : NodeView) (at : Stamp) (Rule : Pace → List Journal
   pub description : new.description ≡ old.description
   pub grows : Grows old.log new.log at told
   pub gone : new.gone ≡ old.gone
+  pub places : old.places ≤ new.places
   pub paces : (p : Pace) → HasPace old p → (q : Pace) × Rule p told q × HasPace new q
 
 -- the same node, with as much room or more
@@ -48,4 +54,5 @@ pub record IsSameNode (old new : NodeView) : Type 0 where
   pub gone : new.gone ≡ old.gone
   pub line : new.line ≡ old.line
   pub counts : new.counts ≡ old.counts
+  pub places : old.places ≤ new.places
   pub room : old.log.spare ≤ new.log.spare

@@ -1,6 +1,6 @@
 //! What comes to a node from outside: events for its handlers, answers, capsules, resets.
 
-ghost use Rattle.std.specs.Prelude.{◌≡◌, ◌<◌, ◌≤◌, ◌∷◌, [], length, MatchResult};
+ghost use Rattle.std.specs.Prelude.{◌≡◌, ◌<◌, ◌≤◌, ◌∷◌, [], length, IfOk, MatchOption, MatchResult};
 ghost use Rattle.mate_num.specs.declared.bounds.TheConstants.{CONTEXTS_MAX};
 ghost use Rattle.mate_journal.specs.Journal.{Void};
 ghost use Rattle.mate_journal.specs.NodeScript.{AnswersCall, ShowsOnce, Resets};
@@ -8,19 +8,19 @@ ghost use Rattle.node_invariant.specs.Meaning.{machine_in};
 ghost use Rattle.node_invariant.specs.Keeps.{IsTimely};
 ghost use Rattle.node_calls.specs.Calls.{NobodyWaits};
 ghost use Rattle.node_calls.specs.Posting.{PostGives};
-ghost use Rattle.node_calls.specs.Installing.{InstallsBytes, Refuses};
 
 use crate::open_node::OpenNode;
 use mate_journal::VoidCause;
-use mate_num::{ContextId, HandlerId, Payload, Stamp};
+use mate_num::{ContextId, HandlerId, NoMemory, Payload, Stamp};
 use node_calls::{
-    InstallFault, PostAnswer, answer_in, install_shared, post_in, reset_in, seen_in, void_in,
+    InstallFault, PostAnswer, answer_in, install_ready, install_shared, post_in, reset_in, seen_in,
+    void_in,
 };
 use split_phase::NotWaiting;
 
 impl OpenNode {
-    ghost use Rattle.open_node.specs.View.{heard_of, Tells};
-    ghost use Rattle.open_node.specs.Calls.{Pacing};
+    ghost use Rattle.open_node.specs.View.{HasPlaces, heard_of, Tells};
+    ghost use Rattle.open_node.specs.Calls.{InstallsOn, Pacing, TakesCapsule};
 
     /// An event for the handler becomes an invocation in the handler's lowest idle context, which starts if nothing holds
     /// it back. It is dropped with `NoCode` exactly if nothing is installed for the handler, and else with `AllBusy`
@@ -62,13 +62,44 @@ impl OpenNode {
         requires timely { IsTimely at self.old.log }
         requires few { length self.old.log.entries < 4000000000 }
         requires room { 4 ≤ self.old.log.spare }
-        ensures { MatchResult result
-            (λ _. Tells self.old self.new at (Pacing (InstallsBytes self.old.description (heard_of self.old) bytes.now)))
-            (λ fault. Refuses self.old.description (heard_of self.old) bytes.now fault × (self.new ≡ self.old)) }
+        requires places { HasPlaces self.old }
+        ensures { InstallsOn self.old self.new bytes.now at result }
     {
         let ready = self.machine.ready();
         let description = self.machine.description();
         install_shared(description, &mut self.parts, bytes, ready, at)
+    }
+
+    /// The same for a capsule that is ready on the machine. Such a one needs no place on the node: there is one program for all nodes
+    /// that hold it. None, which leaves the node as it was, comes where the capsule isn't ready.
+    pub fn install_ready(&mut self, bytes: &[u8], at: Stamp) -> Option<Result<(), InstallFault>>
+        requires timely { IsTimely at self.old.log }
+        requires few { length self.old.log.entries < 4000000000 }
+        requires room { 4 ≤ self.old.log.spare }
+        ensures { MatchOption result (self.new ≡ self.old) (InstallsOn self.old self.new bytes.now at) }
+    {
+        let ready = self.machine.ready();
+        let description = self.machine.description();
+        install_ready(description, &mut self.parts, bytes, ready, at)
+    }
+
+    /// The same on a node that may have no places: those are made if the capsule isn't ready. After `NoMemory` nothing is said of the
+    /// node.
+    pub fn install_anywhere(
+        &mut self,
+        bytes: &[u8],
+        at: Stamp,
+    ) -> Result<Result<(), InstallFault>, NoMemory>
+        requires timely { IsTimely at self.old.log }
+        requires few { length self.old.log.entries < 4000000000 }
+        requires room { 4 ≤ self.old.log.spare }
+        ensures { IfOk result (TakesCapsule self.old self.new bytes.now at) }
+    {
+        if let Some(installed) = self.install_ready(bytes, at) {
+            return Ok(installed);
+        }
+        self.make_places()?;
+        Ok(self.install(bytes, at))
     }
 
     /// Begins an era as an install does, but what is installed stays, and nothing is posted.

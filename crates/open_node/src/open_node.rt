@@ -40,7 +40,7 @@ pub const TURN_ENTRIES: usize = CONTEXTS_MAX;
 pub const SETTLING_ENTRIES: usize = 2 * CONTEXTS_MAX;
 
 /// A node whose entries can be forgotten. Contracts see the node with its whole log, and how much of it is gone. After a
-/// `reserve` its calls take no memory.
+/// `reserve`, and for an `install` a `make_places`, its calls take no memory.
 ///
 /// Each call that takes a stamp has the conditions that neither the event nor the time of the stamp is below those of the
 /// last entry, that the time is the last entry's if the event is, and that there is room for the entries.
@@ -97,10 +97,11 @@ fn new_parts(alloc: Global, description: &Description) -> Result<Parts, NoMemory
 }
 
 impl OpenNode {
-    ghost use Rattle.open_node.specs.View.{heard_of, HasPace, Tells, IsSameNode};
+    ghost use Rattle.open_node.specs.View.{heard_of, HasPace, HasPlaces, Tells, IsSameNode};
     ghost use Rattle.open_node.specs.Calls.{HasStepped, IsNoneReady, StandsAs, IsAsked, IsImageOf, TellFrom};
 
-    /// A node of this machine. Nothing is installed, all variables are 0, all buffers are empty, and no entry was made.
+    /// A node of this machine. Nothing is installed, all variables are 0, all buffers are empty, and no entry was made. It has no
+    /// places for programs of its own.
     pub fn new(alloc: Global, description: &Description) -> Result<OpenNode, NoMemory>
         ensures { IfOk result (λ made. (made.description ≡ description.now) × IsEmpty made.log × HasPace made no_pace
             × (made.gone ≡ nothing_gone)) }
@@ -124,6 +125,17 @@ impl OpenNode {
         ensures room { OnOk result (n ≤ self.new.log.spare) }
     {
         self.parts.log.reserve(n)
+    }
+
+    /// Makes a place for a program of the node's own for each handler, 7.5 KB each, where there is none. `NoMemory` leaves all of the
+    /// node but its places as it was.
+    pub fn make_places(&mut self) -> Result<(), NoMemory>
+        ensures same { self.new ≡ record self.old { places = self.new.places } }
+        ensures pace { (p : Pace) → HasPace self.old p → HasPace self.new p }
+        ensures places { OnOk result (HasPlaces self.new) }
+        ensures more { self.old.places ≤ self.new.places }
+    {
+        self.parts.handlers.make_room()
     }
 
     /// How many more entries, of whatever kind, it can make without memory.

@@ -17,16 +17,6 @@ pub counted-as : (n : ℕ) (self v : NodeView) → self ≡ v → (kept : Log) (
 counted-as n self v e kept t es same is counted =
     counted-kept n (record { all = self.log; gone = self.gone }) kept t es same (subst (λ (x : NodeView). IsKept (record { all = x.log; gone = x.gone }) kept) (sym e) is) counted
 
-pub same-on : (a b c : NodeView) → IsSameNode a b → IsSameNode b c → IsSameNode a c
-same-on a b c f g = record {
-  description = g.description ∙ f.description;
-  log = record { entries = g.log.entries ∙ f.log.entries; images = g.log.images ∙ f.log.images; stores = g.log.stores ∙ f.log.stores };
-  gone = g.gone ∙ f.gone;
-  line = g.line ∙ f.line;
-  counts = g.counts ∙ f.counts;
-  room = let x = f.room in let y = g.room in omega (arith, x, y);
-}
-
 -- ---- along the run
 
 -- before the first event

@@ -40,6 +40,7 @@ same-then a b c f g = record {
   gone = refl;
   line = g.line ∙ f.line;
   counts = g.counts ∙ f.counts;
+  places = let x = f.places in let y = g.places in omega (arith, x, y);
   room = let x = f.room in let y = g.room in omega (arith, x, y);
 }
 

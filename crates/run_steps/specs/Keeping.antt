@@ -4,7 +4,8 @@ use Rattle.vm_desc.specs.declared.description.Description.{Description}
 use Rattle.mate_journal.specs.Log.{IsEmpty}
 use Rattle.mate_journal.specs.Pace.{no_pace}
 use Rattle.mate_journal.specs.OpenLog.{Gone, nothing_gone}
-use Rattle.open_node.specs.View.{NodeView, HasPace}
+use Rattle.open_node.specs.View.{NodeView, HasPace, HasPlaces}
+use Rattle.run_steps.specs.declared.heap_node.HeapNode.TheInside.{Inside}
 use Rattle.run_steps.specs.declared.heap_node.Written.{Written}
 use Rattle.run_steps.specs.declared.heap_node.Written.TheVariants.{Kept, Forgotten}
 
@@ -14,6 +15,10 @@ pub record IsNewNode (d : Description) (v : NodeView) : Type 0 where
   pub empty : IsEmpty v.log
   pub pace : HasPace v no_pace
   pub whole : v.gone ≡ nothing_gone
+
+-- a node of a run has places for programs of its own
+pub record KeepsPlaces (n : Inside) : Type 0 where
+  pub places : HasPlaces n.node.value
 
 -- no more is gone than was, if what is written is kept
 abbrev pub StaysAsToldTo : Written → Gone → Gone → Type 0

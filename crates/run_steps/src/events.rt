@@ -5,7 +5,7 @@ ghost use Rattle.mate_num.specs.declared.bounds.TheConstants.{CONTEXTS_MAX};
 ghost use Rattle.vm_desc.specs.Whole.{context_count};
 ghost use Rattle.mate_journal.specs.NodeScript.{Install, StepIn, Answer as AnswerStep};
 ghost use Rattle.script_reader.specs.Steps.{IsRightStep, IsRightTurn};
-ghost use Rattle.open_node.specs.View.{Tells};
+ghost use Rattle.open_node.specs.View.{HasPlaces, Tells};
 ghost use Rattle.node_programs.specs.Right.{IsRightProgram, AreRightPrograms};
 ghost use Rattle.node_programs.specs.Sources.{held_as};
 ghost use Rattle.node_programs.specs.ScriptSteps.{step_of, IsProgramOf, program_at};
@@ -20,6 +20,7 @@ use script_reader::Step;
 /// Installs the program, or records that the node holds a version that isn't older.
 fn install(node: &mut OpenNode, program: &Program, at: Stamp)
     requires ready { IsReadyFor node.old at }
+    requires places { HasPlaces node.old }
     requires right { IsRightProgram node.old.description program.now }
     ensures { Tells node.old node.new at (MakesOn node.old (Install (held_as program.now))) }
 {
@@ -59,6 +60,7 @@ fn answer(node: &mut OpenNode, ctx: ContextId, value: i16, at: Stamp)
 /// Installs the file's program, or records that the node holds a version that isn't older.
 fn install_file(node: &mut OpenNode, programs: &Programs, file: u32, at: Stamp)
     requires ready { IsReadyFor node.old at }
+    requires places { HasPlaces node.old }
     requires below { file < length programs.now }
     requires programs { AreRightPrograms node.old.description programs.now }
     ensures { Tells node.old node.new at (MakesOn node.old (Install (program_at programs.now file))) }
@@ -69,6 +71,7 @@ fn install_file(node: &mut OpenNode, programs: &Programs, file: u32, at: Stamp)
 /// Makes the step, as one event with this stamp.
 pub(crate) fn make_step(node: &mut OpenNode, step: &Step, programs: &Programs, at: Stamp)
     requires ready { IsReadyFor node.old at }
+    requires places { HasPlaces node.old }
     requires right { IsRightStep node.old.description (length programs.now) step.now }
     requires programs { AreRightPrograms node.old.description programs.now }
     requires contexts { context_count node.old.description ≤ CONTEXTS_MAX }

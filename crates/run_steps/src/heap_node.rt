@@ -39,7 +39,7 @@ pub enum Written {
     Forgotten,
 }
 
-/// A node on the heap: it is too large to be moved about on the stack. Contracts see the node.
+/// A node on the heap: it is too large to be moved about on the stack. It has places for programs of its own. Contracts see the node.
 #[derive(Drop)]
 pub struct HeapNode {
     node: Box<OpenNode>,
@@ -50,7 +50,11 @@ impl Model for HeapNode {
 
     ghost Value = { NodeView };
 
+    ghost use Rattle.run_steps.specs.Keeping.{KeepsPlaces};
+
     ghost view = { λ held. held.node.value };
+
+    ghost invariant = { KeepsPlaces };
 }
 
 impl HeapNode {
@@ -60,7 +64,9 @@ impl HeapNode {
         ensures { IfOk result (IsNewNode desc.now) }
     {
         let machine = SharedMachine::with_codes(alloc, desc, programs)?;
-        match Box::new(alloc, OpenNode::on(alloc, machine)?) {
+        let mut node = OpenNode::on(alloc, machine)?;
+        node.make_places()?;
+        match Box::new(alloc, node) {
             Ok(node) => Ok(HeapNode { node }),
             Err(_) => Err(NoMemory),
         }

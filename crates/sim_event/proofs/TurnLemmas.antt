@@ -101,6 +101,7 @@ module _ (v : NodeView) (at : Stamp) (none : IsNoneReady (heard_of v)) where
     description = refl;
     grows = record { journal = sym (append-nil (journal_of v.log)); count = omega arith; spare = omega arith; timely = timely };
     gone = refl;
+    places = omega arith;
     paces = λ p pace. (p, record { turns = []; are_turns = tt; made = refl; then = refl; empty = pace.line ∙ empty; settled = none }, pace);
   }
 

@@ -93,6 +93,7 @@ tells-nothing old new at timely same = subst (λ (v : NodeView). Tells old v at 
   description = refl;
   grows = Grows-none old.log at timely;
   gone = refl;
+  places = omega arith;
   paces = λ p has. (p, (refl, refl), has);
 })
 

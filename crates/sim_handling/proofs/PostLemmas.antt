@@ -82,6 +82,7 @@ tells-then old mid new at First Then Both f g goes =
       description = g.description ∙ f.description;
       grows = Grows-then old.log mid.log new.log at f.told g.told f.grows g.grows;
       gone = g.gone ∙ f.gone;
+      places = let first = f.places in let then = g.places in omega (arith, first, then);
       paces = λ p has.
           let x = f.paces p has in
           let y = g.paces x.0 x.2 in

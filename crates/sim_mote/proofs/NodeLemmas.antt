@@ -47,6 +47,7 @@ tells-behind old mid new at Rule same paces t = record {
   description = t.description ∙ same.description;
   grows = grows-behind old.log mid.log new.log at t.told same.log same.room t.grows;
   gone = t.gone ∙ same.gone;
+  places = let before = same.places in let after = t.places in omega (arith, before, after);
   paces = λ p has.
       let x = t.paces p (paces p has) in
       let P : Description → Type 0 = λ d. Rule d (heard_of mid) p t.told x.0 in

@@ -137,7 +137,7 @@ impl Mote {
         if version <= self.exchange.held(handler) || image.is_empty() {
             return Ok(());
         }
-        match self.node.install(image.as_slice(), at) {
+        match self.node.install_anywhere(image.as_slice(), at)? {
             Ok(()) => {
                 self.exchange.installed(handler, version, image);
                 effect.cuts = true;

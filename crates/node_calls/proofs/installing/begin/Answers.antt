@@ -1,6 +1,7 @@
 -- The era begins, and a handler that runs once is posted.
 use Rattle.std.proofs.Common.{◌∙◌, ap, sym, subst, refl, arith, Bool, ◌≡◌}
 use Rattle.std.specs.Prelude.{MatchBool}
+use Rattle.node_contexts.specs.Programs.{HeldPrograms}
 use Rattle.node_invariant.specs.declared.parts.Parts.{Parts}
 use Rattle.node_calls.specs.Arrivals.{IsPosted}
 use Rattle.node_calls.proofs.EraLemmas.{told-one}
@@ -53,3 +54,9 @@ returns-then-runs_once-clause-gone c = c.post_in.ensures.gone ∙ c.begin_era.en
 
 pub returns-else-runs_once-clause-gone : goal.returns-else-runs_once-clause-gone
 returns-else-runs_once-clause-gone c = c.begin_era.ensures.gone
+
+pub returns-then-runs_once-clause-room : goal.returns-then-runs_once-clause-room
+returns-then-runs_once-clause-room c = ap (λ (hs : HeldPrograms). hs.room) c.post_in.ensures.handlers ∙ c.begin_era.ensures.room
+
+pub returns-else-runs_once-clause-room : goal.returns-else-runs_once-clause-room
+returns-else-runs_once-clause-room c = c.begin_era.ensures.room

@@ -27,3 +27,6 @@ pub returns-clause-again : goal.returns-clause-again
 returns-clause-again c = λ a.
     RestsAgain-begun c.args.description.now c.args.handler c.args.at c.args.parts.now a c.in-Some.held.now c.push_install.new.self c.clear.new.parts c.in-Some.ensures
     (record { entries = c.push_install.ensures.entries; images = c.push_install.ensures.images; stores = c.push_install.ensures.stores }) c.push_install.ensures.spare c.clear.ensures
+
+pub returns-clause-room : goal.returns-clause-room
+returns-clause-room c = ap (λ (s : Parts). s.handlers.room) c.clear.ensures.same

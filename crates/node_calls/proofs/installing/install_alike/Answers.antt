@@ -2,14 +2,20 @@
 use Rattle.std.proofs.Common.{◌∙◌, List, Option, refl, ap}
 use Rattle.std.proofs.lemmas.Result.{err_from_is_err_and}
 use Rattle.node_contexts.specs.declared.handlers.Held.{Held}
+use Rattle.node_contexts.specs.Programs.{HeldPrograms}
 use Rattle.node_invariant.specs.declared.parts.Parts.{Parts}
-use Rattle.node_calls.proofs.InstallLemmas.{alike, image-fits, IsInstallable-alike, Refuses-older, shown-places, Arrives-shown, InstallGives-begun}
+use Rattle.node_calls.proofs.InstallLemmas.{alike, image-fits, IsInstallable-alike, Refuses-older, shown-places, shown-room, Arrives-shown, InstallGives-begun}
 use Rattle.node_calls.proofs.installing.install_alike.Goals as goal
 
 pub install_copy-requires-clause-handler : goal.install_copy-requires-clause-handler
 install_copy-requires-clause-handler c =
     shown-places c.args.description.now c.args.parts.now c.prepare.new.parts c.args.at c.args.bytes.now (record { handler = c.args.capsule.now.handler; held = alike c.args.capsule.now c.args.bytes.now c.args.held.now }) c.args.capsule.now.version c.requires.may.rests (IsInstallable-alike c.args.description.now c.args.bytes.now c.args.capsule.now c.args.held.now c.requires.right c.requires.read c.requires.alike) refl
     c.in_ok-prepare.ensures.prepares
+
+pub install_copy-requires-clause-room : goal.install_copy-requires-clause-room
+install_copy-requires-clause-room c =
+    shown-room c.args.description.now c.args.parts.now c.prepare.new.parts c.args.at c.args.bytes.now (record { handler = c.args.capsule.now.handler; held = alike c.args.capsule.now c.args.bytes.now c.args.held.now }) c.args.capsule.now.version c.requires.may.rests (IsInstallable-alike c.args.description.now c.args.bytes.now c.args.capsule.now c.args.held.now c.requires.right c.requires.read c.requires.alike) refl
+    c.in_ok-prepare.ensures.prepares c.requires.room
 
 pub install_copy-requires-clause-fits : goal.install_copy-requires-clause-fits
 install_copy-requires-clause-fits c = image-fits c.args.description.now c.args.bytes.now c.args.capsule.now c.requires.read
@@ -18,13 +24,13 @@ pub begin-requires : goal.begin-requires
 begin-requires c =
     Arrives-shown c.args.description.now c.args.parts.now c.prepare.new.parts c.args.at c.args.bytes.now (record { handler = c.args.capsule.now.handler; held = alike c.args.capsule.now c.args.bytes.now c.args.held.now }) c.args.capsule.now.version c.requires.may.rests (IsInstallable-alike c.args.description.now c.args.bytes.now c.args.capsule.now c.args.held.now c.requires.right c.requires.read c.requires.alike) refl
     c.in_ok-prepare.ensures.prepares
-    _ c.requires.may.room c.requires.may.few (ap (λ (ps : List (Option Held)). let s : Parts = record (c.prepare.new.parts) { handlers = record { programs = ps } } in s) c.install_copy.ensures)
+    _ c.requires.may.room c.requires.may.few (ap (λ (hs : HeldPrograms). let s : Parts = record (c.prepare.new.parts) { handlers = hs } in s) c.install_copy.ensures)
 
 pub returns-clause-installs : goal.returns-clause-installs
 returns-clause-installs c =
     InstallGives-begun c.args.description.now c.args.parts.now c.prepare.new.parts c.args.at c.args.bytes.now (record { handler = c.args.capsule.now.handler; held = alike c.args.capsule.now c.args.bytes.now c.args.held.now }) c.args.capsule.now.version c.requires.may.rests (IsInstallable-alike c.args.description.now c.args.bytes.now c.args.capsule.now c.args.held.now c.requires.right c.requires.read c.requires.alike) refl
     c.in_ok-prepare.ensures.prepares
-    _ c.begin.new.parts c.requires.may.room c.requires.may.few (ap (λ (ps : List (Option Held)). let s : Parts = record (c.prepare.new.parts) { handlers = record { programs = ps } } in s) c.install_copy.ensures) c.begin.ensures.begins
+    _ c.begin.new.parts c.requires.may.room c.requires.may.few (ap (λ (hs : HeldPrograms). let s : Parts = record (c.prepare.new.parts) { handlers = hs } in s) c.install_copy.ensures) c.begin.ensures.begins
 
 pub returns-in_err-prepare-clause-installs : goal.returns-in_err-prepare-clause-installs
 returns-in_err-prepare-clause-installs c =
@@ -35,3 +41,7 @@ returns-in_err-prepare-clause-installs c =
 
 pub returns-clause-gone : goal.returns-clause-gone
 returns-clause-gone c = c.begin.ensures.gone ∙ c.prepare.ensures.gone
+
+pub returns-clause-room : goal.returns-clause-room
+returns-clause-room c =
+    c.begin.ensures.room ∙ ap (λ (hs : HeldPrograms). hs.room) c.install_copy.ensures ∙ c.prepare.ensures.room

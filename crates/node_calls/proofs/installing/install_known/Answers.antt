@@ -2,9 +2,9 @@
 use Rattle.std.proofs.Common.{◌∙◌, List, Option, set, refl, ap}
 use Rattle.std.proofs.lemmas.Result.{err_from_is_err_and}
 use Rattle.node_contexts.specs.declared.handlers.Held.{Held}
-use Rattle.node_contexts.specs.Programs.{held_at, renewed}
+use Rattle.node_contexts.specs.Programs.{HeldPrograms, held_at, renewed}
 use Rattle.node_invariant.specs.declared.parts.Parts.{Parts}
-use Rattle.node_calls.proofs.InstallLemmas.{Refuses-older, shown-places, Arrives-shown, InstallGives-begun}
+use Rattle.node_calls.proofs.InstallLemmas.{Refuses-older, shown-places, shown-room, Arrives-shown, InstallGives-begun}
 use Rattle.node_calls.proofs.installing.install_known.Goals as goal
 
 pub renew-requires-clause-handler : goal.renew-requires-clause-handler
@@ -12,21 +12,26 @@ renew-requires-clause-handler c =
     shown-places c.args.description.now c.args.parts.now c.prepare.new.parts c.args.at c.args.bytes.now (record { handler = c.args.handler; held = c.requires.can.x }) c.args.version c.requires.may.rests c.requires.can.can c.requires.can.version_is
     c.in_ok-prepare.ensures.prepares
 
+pub renew-requires-clause-room : goal.renew-requires-clause-room
+renew-requires-clause-room c =
+    shown-room c.args.description.now c.args.parts.now c.prepare.new.parts c.args.at c.args.bytes.now (record { handler = c.args.handler; held = c.requires.can.x }) c.args.version c.requires.may.rests c.requires.can.can c.requires.can.version_is
+    c.in_ok-prepare.ensures.prepares c.requires.room
+
 pub begin-requires : goal.begin-requires
 begin-requires c =
     let shown = c.in_ok-prepare.ensures.prepares in
-    let programs = c.renew.ensures ∙ ap (λ (o : Option Held). set c.prepare.new.parts.handlers.programs c.args.handler.0 o) (ap (λ (s : Parts). renewed c.args.version (record { items = c.args.bytes.now }) (held_at s.handlers.programs c.args.handler)) shown.tells.same ∙ c.requires.can.after) in
+    let programs = c.renew.ensures ∙ ap (λ (o : Option Held). let hs : HeldPrograms = record (c.prepare.new.parts.handlers) { programs = set c.prepare.new.parts.handlers.programs c.args.handler.0 o } in hs) (ap (λ (s : Parts). renewed c.args.version (record { items = c.args.bytes.now }) (held_at s.handlers.programs c.args.handler)) shown.tells.same ∙ c.requires.can.after) in
     Arrives-shown c.args.description.now c.args.parts.now c.prepare.new.parts c.args.at c.args.bytes.now (record { handler = c.args.handler; held = c.requires.can.x }) c.args.version c.requires.may.rests c.requires.can.can c.requires.can.version_is
     c.in_ok-prepare.ensures.prepares
-    _ c.requires.may.room c.requires.may.few (ap (λ (ps : List (Option Held)). let s : Parts = record (c.prepare.new.parts) { handlers = record { programs = ps } } in s) programs)
+    _ c.requires.may.room c.requires.may.few (ap (λ (hs : HeldPrograms). let s : Parts = record (c.prepare.new.parts) { handlers = hs } in s) programs)
 
 pub returns-clause-installs : goal.returns-clause-installs
 returns-clause-installs c =
     let shown = c.in_ok-prepare.ensures.prepares in
-    let programs = c.renew.ensures ∙ ap (λ (o : Option Held). set c.prepare.new.parts.handlers.programs c.args.handler.0 o) (ap (λ (s : Parts). renewed c.args.version (record { items = c.args.bytes.now }) (held_at s.handlers.programs c.args.handler)) shown.tells.same ∙ c.requires.can.after) in
+    let programs = c.renew.ensures ∙ ap (λ (o : Option Held). let hs : HeldPrograms = record (c.prepare.new.parts.handlers) { programs = set c.prepare.new.parts.handlers.programs c.args.handler.0 o } in hs) (ap (λ (s : Parts). renewed c.args.version (record { items = c.args.bytes.now }) (held_at s.handlers.programs c.args.handler)) shown.tells.same ∙ c.requires.can.after) in
     InstallGives-begun c.args.description.now c.args.parts.now c.prepare.new.parts c.args.at c.args.bytes.now (record { handler = c.args.handler; held = c.requires.can.x }) c.args.version c.requires.may.rests c.requires.can.can c.requires.can.version_is
     c.in_ok-prepare.ensures.prepares
-    _ c.begin.new.parts c.requires.may.room c.requires.may.few (ap (λ (ps : List (Option Held)). let s : Parts = record (c.prepare.new.parts) { handlers = record { programs = ps } } in s) programs) c.begin.ensures.begins
+    _ c.begin.new.parts c.requires.may.room c.requires.may.few (ap (λ (hs : HeldPrograms). let s : Parts = record (c.prepare.new.parts) { handlers = hs } in s) programs) c.begin.ensures.begins
 
 pub returns-in_err-prepare-clause-installs : goal.returns-in_err-prepare-clause-installs
 returns-in_err-prepare-clause-installs c =
@@ -40,3 +45,7 @@ returns-clause-gone c = c.begin.ensures.gone ∙ c.prepare.ensures.gone
 
 pub renew-requires-clause-fits : goal.renew-requires-clause-fits
 renew-requires-clause-fits c = c.requires.can.fits
+
+pub returns-clause-room : goal.returns-clause-room
+returns-clause-room c =
+    c.begin.ensures.room ∙ ap (λ (hs : HeldPrograms). hs.room) c.renew.ensures ∙ c.prepare.ensures.room

@@ -1,5 +1,6 @@
 -- The version is not newer, or the store is told.
-use Rattle.std.proofs.Common.{refl, arith}
+use Rattle.std.proofs.Common.{refl, ap, arith}
+use Rattle.node_contexts.specs.Programs.{HeldPrograms}
 use Rattle.node_calls.proofs.installing.prepare.Goals as goal
 
 pub returns-then-version-held-clause-prepares : goal.returns-then-version-held-clause-prepares
@@ -13,3 +14,6 @@ seen_in-requires-clause-few c = let few = c.requires.few in omega (arith, few)
 
 pub returns-clause-prepares : goal.returns-clause-prepares
 returns-clause-prepares c = record { tells = c.seen_in.ensures.tells; newer = let above = c.if-version-held.false in let same = c.version-held.ensures in omega (arith, above, same) }
+
+pub returns-clause-room : goal.returns-clause-room
+returns-clause-room c = ap (λ (hs : HeldPrograms). hs.room) c.seen_in.ensures.handlers

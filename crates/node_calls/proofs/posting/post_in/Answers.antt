@@ -1,5 +1,5 @@
 -- The event is dropped, or becomes an invocation that may start.
-use Rattle.std.proofs.Common.{sym}
+use Rattle.std.proofs.Common.{sym, ◌∙◌}
 use Rattle.node_calls.proofs.PostingLemmas.{RestsAgain-no_code, RestsAgain-all_busy, room-queued, RestsAgain-posted}
 use Rattle.node_calls.proofs.posting.post_in.Goals as goal
 
@@ -18,3 +18,6 @@ start_all-requires-clause-room c = room-queued c.args.description.now c.args.par
 pub returns-clause-again : goal.returns-clause-again
 returns-clause-again c =
     RestsAgain-posted c.args.description.now c.args.parts.now c.queue-inv.new.parts c.start_all.new.parts c.args.at c.args.handler c.args.payload.now c.queue-inv.result c.queue-inv.ensures.queued c.start_all.ensures.starts
+
+pub returns-clause-handlers : goal.returns-clause-handlers
+returns-clause-handlers c = c.start_all.ensures.starts.some.handlers ∙ c.queue-inv.ensures.handlers

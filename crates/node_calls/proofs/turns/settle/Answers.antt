@@ -37,13 +37,14 @@ loop-ctx-preserved c = record {
       SettlesSome-then c.args.description.now c.args.parts.now c.loop-ctx.parts c.take_turn.new.parts c.give_way.new.self c.args.at c.in-Some.ctx c.in-Some.ensures.first c.loop-ctx.invariant.settles c.give_way.ensures c.length_of_turn-n.result c.take_turn.result
       (subst P c.len.ensures.count c.length_of_turn-n.ensures) c.take_turn.ensures.turn;
   gone = c.take_turn.ensures.gone ∙ c.loop-ctx.invariant.gone;
+  handlers = c.take_turn.ensures.handlers ∙ c.loop-ctx.invariant.handlers;
 }
 
 pub returns-clause-settles : goal.returns-clause-settles
 returns-clause-settles c = SettlesAll-from c.args.description.now c.args.parts.now c.loop-ctx.parts c.args.at c.loop-ctx.invariant.settles c.in_default.ensures.first
 
 pub loop-ctx-init : goal.loop-ctx-init
-loop-ctx-init c = record { settles = SettlesSome-none c.args.description.now c.args.parts.now c.args.at c.requires.rests c.requires.timely; gone = refl }
+loop-ctx-init c = record { settles = SettlesSome-none c.args.description.now c.args.parts.now c.args.at c.requires.rests c.requires.timely; gone = refl; handlers = refl }
 
 pub give_way-requires-clause-small : goal.give_way-requires-clause-small
 give_way-requires-clause-small c = c.in-Some.ensures.small
@@ -62,3 +63,6 @@ take_turn-requires-clause-some c = let are = c.length_of_turn-n.ensures.are in l
 
 pub returns-clause-gone : goal.returns-clause-gone
 returns-clause-gone c = c.loop-ctx.invariant.gone
+
+pub returns-clause-handlers : goal.returns-clause-handlers
+returns-clause-handlers c = c.loop-ctx.invariant.handlers

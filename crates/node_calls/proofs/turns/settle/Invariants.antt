@@ -7,6 +7,7 @@ abbrev pub invariant-loop-ctx : goal.invariant-loop-ctx
 invariant-loop-ctx l = record {
   settles : SettlesSome l.description l.fn.parts l.parts l.at;
   gone : l.parts.log.gone ≡ l.fn.parts.log.gone;
+  handlers : l.parts.handlers ≡ l.fn.parts.handlers;
 }
 
 abbrev pub decreases-loop-ctx : goal.decreases-loop-ctx

@@ -130,3 +130,9 @@ returns-in-Halt-clause-gone c = c.start_all.ensures.gone ∙ c.tell-in-Halt.ensu
 
 pub returns-in-Fault-clause-gone : goal.returns-in-Fault-clause-gone
 returns-in-Fault-clause-gone c = c.start_all-in-Fault.ensures.gone ∙ c.tell-in-Fault.ensures.gone ∙ ap (λ (v : OpenView). v.gone) c.run_some-instructions.ensures.log
+
+pub returns-in-Halt-clause-handlers : goal.returns-in-Halt-clause-handlers
+returns-in-Halt-clause-handlers c = c.start_all.ensures.starts.some.handlers ∙ c.run_some-instructions.ensures.handlers
+
+pub returns-in-Fault-clause-handlers : goal.returns-in-Fault-clause-handlers
+returns-in-Fault-clause-handlers c = c.start_all-in-Fault.ensures.starts.some.handlers ∙ c.run_some-instructions.ensures.handlers

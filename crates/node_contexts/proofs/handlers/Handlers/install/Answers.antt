@@ -2,18 +2,15 @@
 use Rattle.std.proofs.Common.{ℕ, List, Option, None, Some, length, length-set, set, ap, ◌∙◌, arith}
 use Rattle.node_contexts.specs.declared.handlers.Held.{Held}
 use Rattle.node_contexts.specs.Programs.{HeldPrograms}
-use Rattle.node_contexts.proofs.HandlerLemmas.{either-length, either-install}
+use Rattle.node_contexts.proofs.HandlerLemmas.{either-length, either-install, with-programs}
 use Rattle.node_contexts.proofs.handlers.Handlers.install.Goals as goal
 
 pub reach-requires : goal.reach-requires
 reach-requires c =
-    let n = c.self.inside in
-    let long = either-length n.own.items n.shared.items in
-    let same = ap (λ (v : HeldPrograms). length v.programs) c.self.view_is in
     let place = c.from-place.ensures in
-    let below = c.requires in
-    let room = c.self.invariant.room_is in
-    omega (arith, long, same, place, below, room)
+    let below = c.requires.room in
+    let room = ap (λ (v : HeldPrograms). v.room) c.self.view_is in
+    omega (arith, place, below, room)
 
 pub index_mut-requires-2 : goal.index_mut-requires-2
 index_mut-requires-2 c =
@@ -21,7 +18,7 @@ index_mut-requires-2 c =
     let long = either-length n.own.items n.shared.items in
     let same = ap (λ (v : HeldPrograms). length v.programs) c.self.view_is in
     let place = c.from-place.ensures in
-    let below = c.requires in
+    let below = c.requires.handler in
     let size = n.shared.ok.0 in
     omega (arith, long, same, place, below, size)
 
@@ -31,14 +28,12 @@ invariant_of-self c =
     let long = either-length n.own.items n.shared.items in
     let same = ap (λ (v : HeldPrograms). length v.programs) c.self.view_is in
     let place = c.from-place.ensures in
-    let below = c.requires in
+    let below = c.requires.handler in
     let few = c.reach.ensures.few in
     let within = c.self.invariant.within in
-    let room = c.self.invariant.room_is in
-    let capacity = c.reach.ensures.capacity in
     let own = length-set c.reach.new.own.items c.from-place.result (Some c.args.held) in
     let shared = length-set n.shared.items c.from-place.result None in
-    record { within = omega (arith, long, same, place, below, few, within, own, shared); room_is = omega (arith, room, capacity, shared) }
+    record { within = omega (arith, long, same, place, below, few, within, own, shared) }
 
 pub returns : goal.returns
 returns c =
@@ -46,7 +41,9 @@ returns c =
     let x = c.args.held in
     let place = c.from-place.result in
     let reached = c.reach.ensures.reached in
-    either-install c.reach.new.own.items n.shared.items place x (omega (arith, reached))
+    with-programs c.args.self.now _ _ _ _
+    (either-install c.reach.new.own.items n.shared.items place x (omega (arith, reached))
     ∙ ap (λ (l : List (Option Held)). set l place (Some x)) (c.reach.ensures.same n.shared.items)
     ∙ ap (λ (v : HeldPrograms). set v.programs place (Some x)) c.self.view_is
-    ∙ ap (λ (k : ℕ). set c.args.self.now.programs k (Some x)) c.from-place.ensures
+    ∙ ap (λ (k : ℕ). set c.args.self.now.programs k (Some x)) c.from-place.ensures)
+    c.reach.ensures.capacity (ap (λ (v : HeldPrograms). v.room) c.self.view_is)

@@ -2,7 +2,7 @@
 use Rattle.std.proofs.Common.{ℕ, List, Option, Some, set, ap, ◌∙◌, arith}
 use Rattle.node_contexts.specs.declared.handlers.Held.{Held}
 use Rattle.node_contexts.specs.Programs.{HeldPrograms, held_either}
-use Rattle.node_contexts.proofs.HandlerLemmas.{own-below, either-replace}
+use Rattle.node_contexts.proofs.HandlerLemmas.{own-below, either-replace, with-programs}
 use Rattle.node_contexts.proofs.handlers.Handlers.install_copy.Goals as goal
 
 pub copy_own-requires-clause-place : goal.copy_own-requires-clause-place
@@ -16,11 +16,14 @@ pub returns-in-Some : goal.returns-in-Some
 returns-in-Some c =
     let n = c.self.inside in
     let copy : Held = record (c.args.held.now) { version = c.args.version; image = record { items = c.args.image.now } } in
-    ap (λ (own : List (Option Held)). held_either own n.shared.items) c.copy_own.ensures.items
+    with-programs c.args.self.now _ _ _ _
+    (ap (λ (own : List (Option Held)). held_either own n.shared.items) c.copy_own.ensures.items
     ∙ either-replace n.own.items n.shared.items c.from-place.result _ copy c.self.invariant.within c.in-Some.ensures
     ∙ ap (λ (v : HeldPrograms). set v.programs c.from-place.result (Some copy)) c.self.view_is
-    ∙ ap (λ (k : ℕ). set c.args.self.now.programs k (Some copy)) c.from-place.ensures
+    ∙ ap (λ (k : ℕ). set c.args.self.now.programs k (Some copy)) c.from-place.ensures)
+    c.copy_own.ensures.capacity (ap (λ (v : HeldPrograms). v.room) c.self.view_is)
 
 pub returns-in-None : goal.returns-in-None
 returns-in-None c =
-    c.install.ensures ∙ ap (λ (x : Held). set c.args.self.now.programs c.args.handler.0 (Some x)) c.renewed_copy.ensures
+    c.install.ensures
+    ∙ ap (λ (x : Held). let h : HeldPrograms = record (c.args.self.now) { programs = set c.args.self.now.programs c.args.handler.0 (Some x) } in h) c.renewed_copy.ensures

@@ -19,4 +19,4 @@ loop-place-preserved c =
 
 pub returns-clause-none : goal.returns-clause-none
 returns-clause-none c = λ h.
-    subst (λ (own : List (Option Held)). held_at (held_either own c.loop-place.shared.items) h ≡ _) (sym c.in_ok-own.ensures.items) (nothing-held c.loop-place.shared.items c.loop-place.invariant.none h)
+    subst (λ (own : List (Option Held)). held_at (held_either own c.loop-place.shared.items) h ≡ _) (sym c.new.ensures.items) (nothing-held c.loop-place.shared.items c.loop-place.invariant.none h)

@@ -2,7 +2,7 @@
 use Rattle.std.proofs.Common.{ℕ, List, Option, Some, length, set, ap, ◌∙◌, arith}
 use Rattle.node_contexts.specs.declared.handlers.Held.{Held}
 use Rattle.node_contexts.specs.Programs.{HeldPrograms, held_either}
-use Rattle.node_contexts.proofs.HandlerLemmas.{either-length, either-share}
+use Rattle.node_contexts.proofs.HandlerLemmas.{either-length, either-share, with-programs}
 use Rattle.node_contexts.proofs.handlers.Handlers.share.Goals as goal
 
 pub index_mut-requires : goal.index_mut-requires
@@ -20,7 +20,9 @@ returns c =
     let n = c.self.inside in
     let x = c.args.program in
     let place = c.from-place.result in
-    ap (λ (own : List (Option Held)). held_either own (set n.shared.items place (Some x))) c.leave.ensures.items
+    with-programs c.args.self.now _ _ _ _
+    (ap (λ (own : List (Option Held)). held_either own (set n.shared.items place (Some x))) c.leave.ensures.items
     ∙ either-share n.own.items n.shared.items place x
     ∙ ap (λ (v : HeldPrograms). set v.programs place (Some x)) c.self.view_is
-    ∙ ap (λ (k : ℕ). set c.args.self.now.programs k (Some x)) c.from-place.ensures
+    ∙ ap (λ (k : ℕ). set c.args.self.now.programs k (Some x)) c.from-place.ensures)
+    c.leave.ensures.capacity (ap (λ (v : HeldPrograms). v.room) c.self.view_is)

@@ -1,11 +1,12 @@
 -- The answer, or the same node.
-use Rattle.std.proofs.Common.{◌≡◌, ℤ, to_z, of_z, w16, rules, subst, sym}
+use Rattle.std.proofs.Common.{◌≡◌, ℤ, to_z, of_z, w16, rules, subst, sym, ap}
 use Rattle.std.specs.Prelude.{MatchResult}
 use Rattle.mate_journal.specs.NodeScript.{AnswersCall}
 use Rattle.node_invariant.specs.Keeps.{reading}
 use Rattle.node_calls.specs.Calls.{RestsAgain, NobodyWaits}
 use Rattle.vm_desc.specs.declared.description.Description.{Description}
 use Rattle.node_invariant.specs.Starting.{Rests}
+use Rattle.node_contexts.specs.Programs.{HeldPrograms}
 use Rattle.open_node.specs.View.{heard_of, Tells}
 use Rattle.open_node.specs.Calls.{Pacing}
 use Rattle.open_node.proofs.PaceLemmas.{seen_as}
@@ -18,7 +19,7 @@ answer_in-requires-clause-rests c = subst (λ (d : Description). Rests d c.self.
 pub invariant_of-self : goal.invariant_of-self
 invariant_of-self c =
     let n = c.self.inside in
-    record { rests = Rests-either n.machine n.parts c.answer_in.new.parts c.args.at c.self.invariant.rests c.answer_in.ensures.gone c.answer_in.result _ _ (rw c.description.ensures at c.answer_in.ensures.answers) }
+    record { rests = Rests-either n.machine n.parts c.answer_in.new.parts c.args.at c.self.invariant.rests c.answer_in.ensures.gone (ap (λ (hs : HeldPrograms). hs.room) c.answer_in.ensures.handlers) c.answer_in.result _ _ (rw c.description.ensures at c.answer_in.ensures.answers) }
 
 pub returns : goal.returns
 returns c =
@@ -29,4 +30,4 @@ returns c =
     Seen-either n.machine n.parts c.answer_in.new.parts c.args.self.now c.answer_in.result _
     (λ v. Tells v (seen_as n.machine c.answer_in.new.parts) c.args.at (Pacing (λ _. AnswersCall (heard_of v) c.args.ctx c.args.value)))
     _ (λ v _. NobodyWaits (heard_of v) c.args.ctx) c.self.view_is
-    (λ made. Tells-again n.machine n.parts c.answer_in.new.parts c.args.at c.self.invariant.rests c.answer_in.ensures.gone (AnswersCall r c.args.ctx c.args.value) made) (λ _ nobody. nobody) (subst P whole (rw c.description.ensures at c.answer_in.ensures.answers))
+    (λ made. Tells-again n.machine n.parts c.answer_in.new.parts c.args.at c.self.invariant.rests c.answer_in.ensures.gone (ap (λ (hs : HeldPrograms). hs.room) c.answer_in.ensures.handlers) (AnswersCall r c.args.ctx c.args.value) made) (λ _ nobody. nobody) (subst P whole (rw c.description.ensures at c.answer_in.ensures.answers))

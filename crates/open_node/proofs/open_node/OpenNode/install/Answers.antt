@@ -1,12 +1,12 @@
 -- The install, or the same node.
-use Rattle.std.proofs.Common.{◌<◌, ◌≤◌, length, sym, subst}
+use Rattle.std.proofs.Common.{◌<◌, ◌≤◌, length, sym, subst, arith}
 use Rattle.std.specs.Prelude.{All}
 use Rattle.vm_desc.specs.declared.description.Description.{Description}
 use Rattle.node_calls.specs.Installing.{InstallsBytes, IsReadyOn, Refuses}
 use Rattle.mate_journal.specs.declared.report.TheConstants.{ENTRIES_MAX}
 use Rattle.node_invariant.specs.Keeps.{IsTimely}
 use Rattle.node_invariant.specs.Starting.{Rests}
-use Rattle.open_node.specs.View.{NodeView, heard_of, Tells}
+use Rattle.open_node.specs.View.{NodeView, HasPlaces, heard_of, Tells}
 use Rattle.open_node.specs.Calls.{Pacing}
 use Rattle.open_node.proofs.PaceLemmas.{seen_as}
 use Rattle.open_node.proofs.CallLemmas.{Tells-paced, Rests-either, Seen-either}
@@ -25,10 +25,16 @@ install_shared-requires-clause-ready c =
     let P : Description → Type 0 = λ d. All (IsReadyOn d) c.ready-ready.result.now in
     subst P (sym c.description-description.ensures) c.ready-ready.ensures
 
+pub install_shared-requires-clause-room : goal.install_shared-requires-clause-room
+install_shared-requires-clause-room c =
+    let room = subst HasPlaces (sym c.self.view_is) c.requires.places in
+    let places = c.self.invariant.rests.order.keeps.places in
+    omega (arith, room, places)
+
 pub invariant_of-self : goal.invariant_of-self
 invariant_of-self c =
     let n = c.self.inside in
-    record { rests = Rests-either n.machine n.parts c.install_shared.new.parts c.args.at c.self.invariant.rests c.install_shared.ensures.gone c.install_shared.result _ _ (rw c.description-description.ensures at c.install_shared.ensures.installs) }
+    record { rests = Rests-either n.machine n.parts c.install_shared.new.parts c.args.at c.self.invariant.rests c.install_shared.ensures.gone c.install_shared.ensures.room c.install_shared.result _ _ (rw c.description-description.ensures at c.install_shared.ensures.installs) }
 
 pub returns : goal.returns
 returns c =
@@ -36,4 +42,4 @@ returns c =
     Seen-either n.machine n.parts c.install_shared.new.parts c.args.self.now c.install_shared.result _
     (λ v. Tells v (seen_as n.machine c.install_shared.new.parts) c.args.at (Pacing (InstallsBytes v.description (heard_of v) c.args.bytes.now)))
     _ (λ v fault. Refuses v.description (heard_of v) c.args.bytes.now fault) c.self.view_is
-    (λ made. Tells-paced n.machine n.parts c.install_shared.new.parts c.args.at c.self.invariant.rests c.install_shared.ensures.gone _ made) (λ _ why. why) (rw c.description-description.ensures at c.install_shared.ensures.installs)
+    (λ made. Tells-paced n.machine n.parts c.install_shared.new.parts c.args.at c.self.invariant.rests c.install_shared.ensures.gone c.install_shared.ensures.room _ made) (λ _ why. why) (rw c.description-description.ensures at c.install_shared.ensures.installs)

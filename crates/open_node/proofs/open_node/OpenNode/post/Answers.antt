@@ -4,6 +4,7 @@ use Rattle.node_invariant.specs.Meaning.{machine_in}
 use Rattle.node_calls.specs.Posting.{PostGives}
 use Rattle.vm_desc.specs.declared.description.Description.{Description}
 use Rattle.node_invariant.specs.Starting.{Rests}
+use Rattle.node_contexts.specs.Programs.{HeldPrograms}
 use Rattle.open_node.specs.View.{NodeView, heard_of, Tells}
 use Rattle.open_node.specs.Calls.{Pacing}
 use Rattle.open_node.proofs.PaceLemmas.{seen_as}
@@ -25,4 +26,4 @@ pub returns : goal.returns
 returns c =
     let n = c.self.inside in
     let P : NodeView → Type 0 = λ v. Tells v (seen_as n.machine c.post_in.new.parts) c.args.at (Pacing (λ _. PostGives (machine_in v.description) (heard_of v) c.args.handler c.args.payload.now c.post_in.result)) in
-    subst P c.self.view_is (Tells-again n.machine n.parts c.post_in.new.parts c.args.at c.self.invariant.rests c.post_in.ensures.gone _ (rw c.description.ensures at c.post_in.ensures.again))
+    subst P c.self.view_is (Tells-again n.machine n.parts c.post_in.new.parts c.args.at c.self.invariant.rests c.post_in.ensures.gone (ap (λ (hs : HeldPrograms). hs.room) c.post_in.ensures.handlers) _ (rw c.description.ensures at c.post_in.ensures.again))

@@ -1,9 +1,10 @@
 -- The reset, as it is seen.
-use Rattle.std.proofs.Common.{subst, sym}
+use Rattle.std.proofs.Common.{subst, sym, ap}
 use Rattle.mate_journal.specs.NodeScript.{Resets}
 use Rattle.node_invariant.specs.Meaning.{machine_in}
 use Rattle.vm_desc.specs.declared.description.Description.{Description}
 use Rattle.node_invariant.specs.Starting.{Rests}
+use Rattle.node_contexts.specs.Programs.{HeldPrograms}
 use Rattle.open_node.specs.View.{NodeView, heard_of, Tells}
 use Rattle.open_node.specs.Calls.{Pacing}
 use Rattle.open_node.proofs.PaceLemmas.{seen_as}
@@ -20,4 +21,4 @@ pub returns : goal.returns
 returns c =
     let n = c.self.inside in
     let P : NodeView → Type 0 = λ v. Tells v (seen_as n.machine c.reset_in.new.parts) c.args.at (Pacing (Resets (machine_in v.description) (heard_of v))) in
-    subst P c.self.view_is (Tells-paced n.machine n.parts c.reset_in.new.parts c.args.at c.self.invariant.rests c.reset_in.ensures.gone _ (rw c.description.ensures at c.reset_in.ensures.again))
+    subst P c.self.view_is (Tells-paced n.machine n.parts c.reset_in.new.parts c.args.at c.self.invariant.rests c.reset_in.ensures.gone (ap (λ (hs : HeldPrograms). hs.room) c.reset_in.ensures.handlers) _ (rw c.description.ensures at c.reset_in.ensures.again))

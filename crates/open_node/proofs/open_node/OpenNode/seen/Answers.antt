@@ -1,9 +1,10 @@
 -- The store, as it is seen.
-use Rattle.std.proofs.Common.{subst, sym}
+use Rattle.std.proofs.Common.{subst, sym, ap}
 use Rattle.mate_journal.specs.NodeScript.{ShowsOnce}
 use Rattle.node_invariant.specs.Meaning.{machine_in}
 use Rattle.vm_desc.specs.declared.description.Description.{Description}
 use Rattle.node_invariant.specs.Starting.{Rests}
+use Rattle.node_contexts.specs.Programs.{HeldPrograms}
 use Rattle.open_node.specs.View.{NodeView, heard_of, Tells}
 use Rattle.open_node.specs.Calls.{Pacing}
 use Rattle.open_node.proofs.PaceLemmas.{seen_as}
@@ -20,4 +21,4 @@ pub returns : goal.returns
 returns c =
     let n = c.self.inside in
     let P : NodeView → Type 0 = λ v. Tells v (seen_as n.machine c.seen_in.new.parts) c.args.at (Pacing (ShowsOnce (machine_in v.description) (heard_of v))) in
-    subst P c.self.view_is (Tells-store n.machine n.parts c.seen_in.new.parts c.args.at c.self.invariant.rests c.seen_in.ensures.gone (rw c.description.ensures at c.seen_in.ensures.tells))
+    subst P c.self.view_is (Tells-store n.machine n.parts c.seen_in.new.parts c.args.at c.self.invariant.rests c.seen_in.ensures.gone (ap (λ (hs : HeldPrograms). hs.room) c.seen_in.ensures.handlers) (rw c.description.ensures at c.seen_in.ensures.tells))

@@ -2,7 +2,7 @@
 use Rattle.std.proofs.Common.{◌+◌, ◌*◌, ap, subst, arith, sym}
 use Rattle.mate_num.specs.declared.bounds.TheConstants.{CODE_MAX}
 use Rattle.vm_desc.proofs.DescriptionLemmas.{bounds_of}
-use Rattle.node_contexts.specs.Programs.{held_at}
+use Rattle.node_contexts.specs.Programs.{HeldPrograms, held_at}
 use Rattle.node_invariant.specs.Meaning.{machine_in}
 use Rattle.node_invariant.specs.Keeps.{reading}
 use Rattle.node_invariant.proofs.RoomLemmas.{owes-most}
@@ -32,4 +32,4 @@ pub returns : goal.returns
 returns c =
     let n = c.self.inside in
     let P : NodeView → Type 0 = λ v. Tells v (seen_as n.machine c.settle.new.parts) c.args.at (SettlesWithin (machine_in v.description) ((v.description.turns + 1) * CODE_MAX) (heard_of v)) in
-    subst P c.self.view_is (Tells-settled n.machine n.parts c.settle.new.parts c.args.at c.self.invariant.rests c.settle.ensures.gone (rw c.description.ensures at c.settle.ensures.settles))
+    subst P c.self.view_is (Tells-settled n.machine n.parts c.settle.new.parts c.args.at c.self.invariant.rests c.settle.ensures.gone (ap (λ (hs : HeldPrograms). hs.room) c.settle.ensures.handlers) (rw c.description.ensures at c.settle.ensures.settles))

@@ -2,7 +2,7 @@
 use Rattle.std.proofs.Common.{◌≡◌, true, refl, sym, ◌∙◌, ap, subst, arith}
 use Rattle.mate_journal.specs.NodeScript.{IsReadyIn}
 use Rattle.node_contexts.specs.At.{at}
-use Rattle.node_contexts.specs.Programs.{held_at}
+use Rattle.node_contexts.specs.Programs.{HeldPrograms, held_at}
 use Rattle.node_invariant.specs.Meaning.{machine_in}
 use Rattle.node_invariant.specs.Keeps.{reading}
 use Rattle.node_invariant.proofs.MoveLemmas.{none_ready}
@@ -44,4 +44,4 @@ returns c =
     let n = c.self.inside in
     let ready : (at n.parts.contexts c.args.ctx).ready ≡ true = sym c.is_ready.ensures ∙ c.if-not-is_ready.false in
     let P : NodeView → Type 0 = λ v. Tells v (seen_as n.machine c.take_turn.new.parts) c.args.at (HasStepped (machine_in v.description) (heard_of v) c.args.ctx c.args.n c.take_turn.result) in
-    subst P c.self.view_is (Tells-turn n.machine n.parts c.take_turn.new.parts c.args.at c.args.ctx c.args.n c.take_turn.result c.self.invariant.rests ready c.take_turn.ensures.gone (rw c.description.ensures at c.take_turn.ensures.turn))
+    subst P c.self.view_is (Tells-turn n.machine n.parts c.take_turn.new.parts c.args.at c.args.ctx c.args.n c.take_turn.result c.self.invariant.rests ready c.take_turn.ensures.gone (ap (λ (hs : HeldPrograms). hs.room) c.take_turn.ensures.handlers) (rw c.description.ensures at c.take_turn.ensures.turn))

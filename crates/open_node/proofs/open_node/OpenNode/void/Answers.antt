@@ -1,8 +1,9 @@
 -- The entry, as it is seen.
-use Rattle.std.proofs.Common.{◌≡◌, ◌∷◌, [], subst, sym}
+use Rattle.std.proofs.Common.{◌≡◌, ◌∷◌, [], subst, sym, ap}
 use Rattle.mate_journal.specs.Journal.{Void}
 use Rattle.vm_desc.specs.declared.description.Description.{Description}
 use Rattle.node_invariant.specs.Starting.{Rests}
+use Rattle.node_contexts.specs.Programs.{HeldPrograms}
 use Rattle.open_node.specs.View.{NodeView, Tells}
 use Rattle.open_node.specs.Calls.{Pacing}
 use Rattle.open_node.proofs.PaceLemmas.{seen_as}
@@ -19,4 +20,4 @@ pub returns : goal.returns
 returns c =
     let n = c.self.inside in
     let P : NodeView → Type 0 = λ v. Tells v (seen_as n.machine c.void_in.new.parts) c.args.at (Pacing (λ _ told. told ≡ Void c.args.cause ∷ [])) in
-    subst P c.self.view_is (Tells-again n.machine n.parts c.void_in.new.parts c.args.at c.self.invariant.rests c.void_in.ensures.gone _ (rw c.description.ensures at c.void_in.ensures.again))
+    subst P c.self.view_is (Tells-again n.machine n.parts c.void_in.new.parts c.args.at c.self.invariant.rests c.void_in.ensures.gone (ap (λ (hs : HeldPrograms). hs.room) c.void_in.ensures.handlers) _ (rw c.description.ensures at c.void_in.ensures.again))

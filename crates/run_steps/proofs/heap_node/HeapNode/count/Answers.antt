@@ -1,6 +1,6 @@
 use Rattle.std.proofs.Common.{◌^◌, arith}
 use Rattle.report_summary.proofs.TallyLemmas.{up-to}
-use Rattle.run_steps.proofs.CountingLemmas.{same-on}
+use Rattle.open_node.proofs.CallLemmas.{same-on}
 use Rattle.run_steps.proofs.heap_node.HeapNode.count.Goals as goal
 
 pub count_kept-requires : goal.count_kept-requires

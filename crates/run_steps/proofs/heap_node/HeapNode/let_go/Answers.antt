@@ -1,5 +1,6 @@
 use Rattle.std.proofs.Common.{◌≡◌, subst}
-use Rattle.open_node.specs.View.{NodeView, HasPace}
+use Rattle.open_node.specs.View.{NodeView, HasPace, HasPlaces}
+use Rattle.open_node.proofs.CallLemmas.{places-same}
 use Rattle.run_steps.proofs.KeptLemmas.{ranges-forgotten}
 use Rattle.run_steps.proofs.heap_node.HeapNode.let_go.Goals as goal
 
@@ -12,3 +13,8 @@ pub returns-in-Forgotten-clause-ranges : goal.returns-in-Forgotten-clause-ranges
 returns-in-Forgotten-clause-ranges c =
     let e : c.args.self.now ≡ c.deref_mut.result.now = cc in
     ranges-forgotten c.args.self.now c.deref_mut.result.now _ e c.forget.ensures.same
+
+pub invariant_of-self : goal.invariant_of-self
+invariant_of-self c =
+    let e : c.self.inside.node.value ≡ c.deref_mut.result.now = cc in
+    record { places = places-same _ c.forget.new.self (subst HasPlaces e c.self.invariant.places) c.forget.ensures.same }

@@ -1,5 +1,6 @@
 use Rattle.std.proofs.Common.{◌≡◌, subst}
-use Rattle.open_node.specs.View.{NodeView, HasPace}
+use Rattle.open_node.specs.View.{NodeView, HasPace, HasPlaces}
+use Rattle.open_node.proofs.CallLemmas.{places-same}
 use Rattle.run_steps.proofs.KeptLemmas.{ranges-same}
 use Rattle.run_steps.proofs.heap_node.HeapNode.reserve.Goals as goal
 
@@ -12,3 +13,8 @@ pub returns-clause-ranges : goal.returns-clause-ranges
 returns-clause-ranges c =
     let e : c.args.self.now ≡ c.deref_mut.result.now = cc in
     ranges-same c.args.self.now c.deref_mut.result.now _ e c.reserve.ensures.same
+
+pub invariant_of-self : goal.invariant_of-self
+invariant_of-self c =
+    let e : c.self.inside.node.value ≡ c.deref_mut.result.now = cc in
+    record { places = places-same c.deref_mut.result.now c.reserve.new.self (subst HasPlaces e c.self.invariant.places) c.reserve.ensures.same }

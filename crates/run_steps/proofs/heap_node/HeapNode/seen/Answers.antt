@@ -1,4 +1,6 @@
-use Rattle.std.proofs.Common.{◌≡◌}
+use Rattle.std.proofs.Common.{◌≡◌, subst}
+use Rattle.open_node.specs.View.{HasPlaces}
+use Rattle.open_node.proofs.CallLemmas.{places-told}
 use Rattle.run_steps.proofs.KeptLemmas.{ranges-told-as, goes-on-as}
 use Rattle.run_steps.proofs.heap_node.HeapNode.seen.Goals as goal
 
@@ -16,3 +18,8 @@ returns-clause-goes_on c =
     let old : c.args.self.now ≡ c.deref_mut.result.now = cc in
     let last : c.seen.new.self ≡ c.deref-2.result.now = cc in
     goes-on-as c.args.self.now c.deref.result.now c.deref_mut.result.now c.seen.new.self c.deref-2.result.now first old last c.args.at _ c.kept.ensures.keeps c.kept-2.ensures.keeps c.seen.ensures
+
+pub invariant_of-self : goal.invariant_of-self
+invariant_of-self c =
+    let e : c.self.inside.node.value ≡ c.deref_mut.result.now = cc in
+    record { places = places-told c.deref_mut.result.now c.seen.new.self c.args.at _ (subst HasPlaces e c.self.invariant.places) c.seen.ensures }

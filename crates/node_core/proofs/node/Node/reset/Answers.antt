@@ -1,0 +1,8 @@
+use Rattle.std.proofs.Common.{◌∙◌}
+use Rattle.open_node.proofs.CallLemmas.{places-told}
+use Rattle.node_core.proofs.node.Node.reset.Goals as goal
+
+pub invariant_of-self : goal.invariant_of-self
+invariant_of-self c =
+    let n = c.self.inside.node in
+    record { whole = c.reset.ensures.gone ∙ c.self.invariant.whole; places = places-told n c.reset.new.self c.args.at _ c.self.invariant.places c.reset.ensures }
