@@ -162,7 +162,9 @@ fn sum_ending(
         time: world.until,
     };
     let Simulation {
-        radio, mut motes, ..
+        radio,
+        mut motes,
+        ..
     } = sim;
     drop(radio);
     forget_all(&mut motes)?;
