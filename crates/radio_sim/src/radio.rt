@@ -323,7 +323,7 @@ fn none_leaving(alloc: Global) -> Result<Vec<Wires>, NoMemory>
     ensures nodes { IfOk result (λ wires. length wires.items ≡ NODES) }
     ensures empty { IfOk result (λ wires. (node : ℕ) → slice_index_or wires.items node [] ≡ []) }
 {
-    let mut wires = Vec::new(alloc);
+    let mut wires = Vec::with_capacity(alloc, NODES)?;
     for _ in 0..NODES {
         wires.push(Wires::new(alloc))?;
     }
