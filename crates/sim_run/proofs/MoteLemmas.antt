@@ -11,6 +11,7 @@ use Rattle.open_node.specs.Journal.{KeepsJournal}
 use Rattle.vm_desc.specs.declared.description.Description.{Description}
 use Rattle.world_rules.specs.World.{World}
 use Rattle.world_rules.specs.State.{Moment}
+use Rattle.world_rules.specs.Run.{journal}
 use Rattle.sim_run.specs.Standing.{IsMoteAfter}
 use Rattle.sim_mote.specs.declared.mote.Mote.{Mote}
 use Rattle.world_laws.specs.EventText.{TellJournals}

@@ -21,10 +21,9 @@ ghost use Rattle.sim_run.specs.Ranging.{AreInRange};
 ghost use Rattle.sim_run.specs.Keeping.{IsWhole, IsFew, LetsGo, LetsGoAsTold};
 ghost use Rattle.sim_run.specs.Telling.{LogsAreKept};
 
-use capsule_exchange::Exchange;
 use journal_laws::air_is_in_range_from;
 use mate_journal::{NodeLog, Programs, RECORDS_MAX};
-use mate_num::{HandlerId, NoMemory};
+use mate_num::NoMemory;
 use open_node::{OpenNode, SharedMachine};
 use packet_codec::Packet;
 use radio_sim::{Event, Radio};
@@ -93,11 +92,7 @@ impl Simulation {
         if !may_tell(desc, event) {
             return;
         }
-        // (the spare room has none where it was traded)
-        if room.spare() > 0 {
-            return;
-        }
-        self.forget_at(number, true, room);
+        self.let_go(desc, event, number, Written::Forgotten, room);
         let _kept = self.motes[usize::from(number)].node.kept();
     }
 
@@ -121,25 +116,12 @@ impl Simulation {
         match written {
             Written::Kept => {}
             Written::Forgotten => {
-                let mote = &self.motes[usize::from(number)];
-                let trades = needs_room(desc, mote, event);
-                self.forget_at(number, trades, room);
+                let trades = may_tell(desc, event);
+                let node = &mut self.motes[usize::from(number)].node;
+                forget_told(node, trades, room);
+                self.radio.forget();
             }
         }
-    }
-
-    /// Forgets what the node and the radio recorded, and trades the node's room for the spare one, if it trades.
-    fn forget_at(&mut self, number: u8, trades: bool, room: &mut NodeLog)
-        requires node { number < length self.old.motes.items }
-        requires log { (mote : MoteState) → slice_get self.old.motes.items number ≡ Some mote → length mote.node.log.entries < 3999999999 }
-        requires air { length self.old.radio.air < 4000000000 }
-        requires empty { IsEmpty room.old }
-        ensures lets_go { LetsGo self.old self.new number }
-        ensures empty { IsEmpty room.new }
-    {
-        let node = &mut self.motes[usize::from(number)].node;
-        forget_told(node, trades, room);
-        self.radio.forget();
     }
 }
 
@@ -216,32 +198,4 @@ fn may_tell(desc: &Description, event: &Event) -> bool {
             None => true,
         },
     }
-}
-
-/// Whether the node needs room for what it may record in the event.
-fn needs_room(desc: &Description, mote: &Mote, event: &Event) -> bool {
-    may_tell(desc, event) && !is_known(desc, mote, event)
-}
-
-/// Whether the event brings the node a fragment of a version that it holds, or an older one. Most fragments are such, and it records nothing
-/// of them.
-fn is_known(desc: &Description, mote: &Mote, event: &Event) -> bool {
-    match event {
-        Event::Deliver { bytes, .. } => match bytes.packet(desc) {
-            Some(
-                Packet::Fragment {
-                    handler,
-                    version,
-                    ..
-                },
-            ) => holds(&mote.exchange, *handler, *version),
-            _ => false,
-        },
-        _ => false,
-    }
-}
-
-/// Whether the version, or a newer one, is held of the handler.
-fn holds(exchange: &Exchange, handler: HandlerId, version: u32) -> bool {
-    usize::from(handler.0) < exchange.handlers() && version <= exchange.held(handler)
 }

@@ -10,18 +10,18 @@ use Rattle.sim_run.proofs.simulation.Simulation.leave.Goals as goal
 pub returns-then-self-ge-RECORDS_MAX-clause-leaves : goal.returns-then-self-ge-RECORDS_MAX-clause-leaves
 returns-then-self-ge-RECORDS_MAX-clause-leaves c = inl refl
 
-pub forget_at-requires-clause-log : goal.forget_at-requires-clause-log
-forget_at-requires-clause-log c = (c.requires.few c.if-self-ge-RECORDS_MAX.false).log
+pub let_go-requires-clause-log : goal.let_go-requires-clause-log
+let_go-requires-clause-log c = (c.requires.few c.if-self-ge-RECORDS_MAX.false).log
 
-pub forget_at-requires-clause-air : goal.forget_at-requires-clause-air
-forget_at-requires-clause-air c = (c.requires.few c.if-self-ge-RECORDS_MAX.false).air
+pub let_go-requires-clause-air : goal.let_go-requires-clause-air
+let_go-requires-clause-air c = (c.requires.few c.if-self-ge-RECORDS_MAX.false).air
 
 pub returns-clause-leaves : goal.returns-clause-leaves
-returns-clause-leaves c = inr c.forget_at.ensures.lets_go
+returns-clause-leaves c = inr c.let_go.ensures.lets_go
 
 pub index-requires : goal.index-requires
 index-requires c =
-    let go = c.forget_at.ensures.lets_go in
+    let go = c.let_go.ensures.lets_go in
     let long = ap length go.motes ∙ length-set c.args.self.now.motes.items c.args.number go.after in
     let low = c.requires.node in
     let from = c.from.ensures in
@@ -29,8 +29,8 @@ index-requires c =
 
 pub returns-clause-kept : goal.returns-clause-kept
 returns-clause-kept c = λ kept.
-    let s = c.forget_at.new.self in
-    let go = c.forget_at.ensures.lets_go in
+    let s = c.let_go.new.self in
+    let go = c.let_go.ensures.lets_go in
     let x = c.index.result.now in
     let long = ap length go.motes ∙ length-set c.args.self.now.motes.items c.args.number go.after in
     let low = c.requires.node in
