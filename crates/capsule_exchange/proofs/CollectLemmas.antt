@@ -9,7 +9,7 @@ use Rattle.std.proofs.lemmas.List.Elements.{filter-append, filter_map-append}
 use Rattle.std.proofs.lemmas.List.Folds.{find-append}
 use Rattle.arrayvec.specs.ArrayVec.{ArrayVec}
 use Rattle.packet_codec.specs.declared.packet.Packet.{Packet}
-use Rattle.packet_codec.specs.declared.packet.Packet.TheVariants.{Vector, Status, Fragment, App}
+use Rattle.packet_codec.specs.declared.packet.Packet.TheVariants.{Fragment}
 use Rattle.capsule_exchange.specs.declared.handler_state.Form.{Form}
 use Rattle.capsule_exchange.specs.Happenings.{Happening, Hears, TargetFragment, held_version, heard_since, version_in, greatest, target_version, part_in, target_parts, is_alike, alike, collected_at}
 use Rattle.capsule_exchange.specs.Knowledge.{collected_form}

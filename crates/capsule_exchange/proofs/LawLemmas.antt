@@ -18,7 +18,7 @@ use Rattle.arrayvec.specs.ArrayVec.{ArrayVec}
 use Rattle.capsule_codec.specs.Fragments.{count_of, piece_at, pieces_of}
 use Rattle.capsule_codec.proofs.PieceLemmas.{pieces_whole}
 use Rattle.packet_codec.specs.declared.packet.Packet.{Packet}
-use Rattle.packet_codec.specs.declared.packet.Packet.TheVariants.{Vector, Status, Fragment, App}
+use Rattle.packet_codec.specs.declared.packet.Packet.TheVariants.{Fragment}
 use Rattle.capsule_exchange.specs.Happenings.{Happening, TargetFragment, heard_since, target_version, part_in, target_parts, is_alike, alike, collected_at, places_of, gaps, mask_of, piece_bytes, whole, collected_image}
 use Rattle.capsule_exchange.specs.Laws.{IsPutTogether, AreFragmentsOf}
 use Rattle.capsule_exchange.proofs.MaskLemmas.{mask_upto, mask_push}

@@ -121,11 +121,8 @@ impl HandlerState {
     pub(crate) fn install(&mut self, version: u32, image: &Image)
         ensures { self.new ≡ installs version image.now self.old }
     {
-        let Ok(image) = Image::try_from(image.as_slice()) else {
-            unreachable!()
-        };
         self.held = version;
-        self.image = image;
+        write_image(&mut self.image, image);
         self.forget();
     }
 
@@ -201,6 +198,16 @@ impl HandlerState {
             bytes,
         }
     }
+}
+
+// Writes the other image in its place: no more than its bytes, and not all the room that an image has.
+fn write_image(image: &mut Image, other: &Image)
+    ensures { image.new ≡ other.now }
+{
+    image.clear();
+    let Ok(()) = image.try_extend_from_slice(other.as_slice()) else {
+        unreachable!()
+    };
 }
 
 // Marks the places below the count that a bit of `missing` names.

@@ -1,5 +1,5 @@
 -- What waits, as a list of events: scheduling, cancelling and coming, by what the queue says of its items.
-use Rattle.std.proofs.Common.{◌≡◌, ◌≢◌, ℕ, ◌+◌, ◌<◌, ◌≤◌, Bool, true, false, List, [], ◌∷◌, ◌++◌, map, refl, sym, ◌∙◌, ap, subst, arith, rules, append_assoc, inl, inr}
+use Rattle.std.proofs.Common.{◌≡◌, ◌≢◌, ℕ, ◌<◌, ◌≤◌, Bool, true, false, List, [], ◌∷◌, ◌++◌, map, refl, sym, ◌∙◌, ap, subst, arith, rules, append_assoc, inl, inr}
 use Rattle.std.specs.Prelude.{if◌then◌else◌, filter, Some, None}
 use Rattle.std.specs.List.{cons_option}
 use Rattle.std.proofs.lemmas.Bool.{cases_eq, cases_lt, le-leb, lt-leb}
@@ -271,7 +271,7 @@ one_cancelled g x = by x.time x.item
     by t (waiting.Expire node) = refl
     by t (waiting.Pump node) = refl
     by t (waiting.Due node ctx inv value) = refl
-    by t (waiting.Flight flight) = ap (λ (xs : List (Timed Event)). record { time = t; item = delivery_event flight.value.first } ∷ xs) (others_stay g t flight.value.rest.items)
+    by t (waiting.Flight first rest) = ap (λ (xs : List (Timed Event)). record { time = t; item = delivery_event first } ∷ xs) (others_stay g t rest.value.items)
 
 awaited_cancelled : (g : ℕ) (xs : List (Timed Waiting)) → awaited (filter (is_other waiting_group g) xs) ≡ filter (is_other group_of g) (awaited xs)
 awaited_cancelled g [] = refl

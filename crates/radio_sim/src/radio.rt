@@ -17,13 +17,12 @@ ghost use Rattle.radio_sim.specs.Sending.{sent_record, AreLeaving, IsFurther};
 use crate::event::{Cancel, Event};
 use crate::past::PastAir;
 use crate::rooms::Rooms;
-use crate::waiting::{Delivery, Flight, Waiting};
+use crate::waiting::{Deliveries, Waiting, no_deliveries};
 use crate::wire::{Sending, Wire, Wires, copy_of};
 use event_queue::{Queue, Timed};
 use mate_journal::{Air, Aired, Airs};
 use mate_num::{NoMemory, PacketBytes, Stamp};
 use std::alloc::Global;
-use std::collections::VecDeque;
 use std::marker::Model;
 use std::mem;
 use vm_desc::Description;
@@ -41,7 +40,7 @@ pub struct Radio {
     /// When the last event came, in ms.
     came: u32,
     /// What is still to come then of the transmission whose packet came last.
-    coming: VecDeque<Delivery>,
+    coming: Deliveries,
     rooms: Rooms,
     past: PastAir,
     // how many records are gone
@@ -64,7 +63,7 @@ impl Model for Radio {
     ghost use Rattle.radio_sim.specs.Waiting.{radio_agenda};
 
     ghost view = { λ r. record {
-      agenda = radio_agenda r.coming.items r.queue;
+      agenda = radio_agenda r.coming.value.items r.queue;
       air = r.past.air
           ++ r.air;
       gone = r.gone;
@@ -88,11 +87,12 @@ impl Radio {
     {
         let wires = wires_of(alloc, world.random, world.links.as_slice())?;
         let queue = Queue::new(alloc, world.until)?;
+        let coming = no_deliveries(alloc)?;
         Ok(Radio {
             alloc,
             queue,
             came: 0,
-            coming: VecDeque::new(alloc),
+            coming,
             rooms: Rooms::new(alloc),
             past: PastAir::new(),
             gone: 0,
@@ -146,7 +146,6 @@ impl Radio {
         let before = self.air.len();
         let wires = &mut self.wires[node as usize];
         let result = send(
-            self.alloc,
             wires,
             desc,
             sending,
@@ -172,7 +171,7 @@ impl Radio {
         ensures others { self.new ≡ record self.old { agenda = self.new.agenda } }
         ensures none { IfNone result (self.new ≡ self.old) }
     {
-        if let Some(delivery) = self.coming.pop_front() {
+        if let Some(delivery) = self.coming.as_mut().pop_front() {
             return Some((self.came, delivery.into_event()));
         }
         let Timed { time, item } = self.queue.next()?;
@@ -233,10 +232,10 @@ impl Radio {
 }
 
 /// The event that comes first of what waited; what comes behind it is in `coming` then.
-fn come(waiting: Waiting, coming: &mut VecDeque<Delivery>, rooms: &mut Rooms) -> Event
-    requires { coming.old.items ≡ [] }
+fn come(waiting: Waiting, coming: &mut Deliveries, rooms: &mut Rooms) -> Event
+    requires { coming.old.value.items ≡ [] }
     ensures first { result ≡ first_event waiting }
-    ensures later { coming.new.items ≡ later_deliveries waiting }
+    ensures later { coming.new.value.items ≡ later_deliveries waiting }
 {
     match waiting {
         Waiting::Planned(line) => Event::Planned(line),
@@ -255,8 +254,7 @@ fn come(waiting: Waiting, coming: &mut VecDeque<Delivery>, rooms: &mut Rooms) ->
             inv,
             value,
         },
-        Waiting::Flight(flight) => {
-            let Flight { first, rest } = Box::into_inner(flight);
+        Waiting::Flight { first, rest } => {
             rooms.keep(mem::replace(coming, rest));
             first.into_event()
         }
@@ -265,7 +263,6 @@ fn come(waiting: Waiting, coming: &mut VecDeque<Delivery>, rooms: &mut Rooms) ->
 
 /// Records the packet and what the links lose, and schedules what they deliver.
 fn send(
-    alloc: Global,
     wires: &Wires,
     desc: &Description,
     sending: Sending,
@@ -296,12 +293,13 @@ fn send(
         },
     })?;
     let packet = rooms.packet(desc, bytes)?;
-    let mut carried = rooms.take();
-    wires.carry(sending, &packet, air, &mut carried)?;
-    let Some(first) = carried.pop_front() else {
+    let mut rest = rooms.take()?;
+    wires.carry(sending, &packet, air, rest.as_mut())?;
+    let Some(first) = rest.as_mut().pop_front() else {
+        rooms.keep(rest);
         return Ok(());
     };
-    let flight = Waiting::of_flight(alloc, first, carried)?;
+    let flight = Waiting::of_flight(first, rest);
     queue.schedule(sending.at.time + delay, flight)?;
     Ok(())
 }
@@ -325,7 +323,7 @@ fn none_leaving(alloc: Global) -> Result<Vec<Wires>, NoMemory>
     ensures nodes { IfOk result (λ wires. length wires.items ≡ NODES) }
     ensures empty { IfOk result (λ wires. (node : ℕ) → slice_index_or wires.items node [] ≡ []) }
 {
-    let mut wires = Vec::new(alloc);
+    let mut wires = Vec::with_capacity(alloc, NODES)?;
     for _ in 0..NODES {
         wires.push(Wires::new(alloc))?;
     }

@@ -3,19 +3,17 @@
 ghost use Rattle.std.specs.Prelude.{◌≡◌, [], IfOk};
 
 use crate::shared::SharedPacket;
-use crate::waiting::Delivery;
+use crate::waiting::{Deliveries, no_deliveries};
 use mate_num::{NoMemory, PacketBytes};
 use std::alloc::Global;
-use std::collections::VecDeque;
-use std::mem;
 use vm_desc::Description;
 
 /// What transmissions took of memory and need no more: one that is sent when those before it are over takes little anew.
 #[derive(Drop)]
 pub struct Rooms {
     alloc: Global,
-    /// Deliveries that came.
-    deliveries: VecDeque<Delivery>,
+    /// The place of deliveries that came.
+    deliveries: Option<Deliveries>,
     /// The packet that was sent last. Where it came everywhere, the next one has its place.
     packet: Option<SharedPacket>,
 }
@@ -24,7 +22,7 @@ impl Rooms {
     pub fn new(alloc: Global) -> Rooms {
         Rooms {
             alloc,
-            deliveries: VecDeque::new(alloc),
+            deliveries: None,
             packet: None,
         }
     }
@@ -48,16 +46,26 @@ impl Rooms {
     }
 
     /// A list for deliveries. It is empty.
-    pub fn take(&mut self) -> VecDeque<Delivery>
-        ensures { result.items ≡ [] }
+    pub fn take(&mut self) -> Result<Deliveries, NoMemory>
+        ensures { IfOk result (λ list. list.value.items ≡ []) }
     {
-        let mut list = mem::replace(&mut self.deliveries, VecDeque::new(self.alloc));
-        list.clear();
-        list
+        match self.deliveries.take() {
+            Some(list) => Ok(cleared(list)),
+            None => no_deliveries(self.alloc),
+        }
     }
 
     /// Keeps the list, whose deliveries came.
-    pub fn keep(&mut self, list: VecDeque<Delivery>) {
-        self.deliveries = list;
+    pub fn keep(&mut self, list: Deliveries) {
+        self.deliveries = Some(list);
     }
+}
+
+/// The list without its deliveries.
+fn cleared(list: Deliveries) -> Deliveries
+    ensures { result.value.items ≡ [] }
+{
+    let mut list = list;
+    list.as_mut().clear();
+    list
 }

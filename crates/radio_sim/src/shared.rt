@@ -1,6 +1,6 @@
 //! A packet that comes over several links.
 
-ghost use Rattle.std.specs.Prelude.{◌≡◌, length, IfOk, IfSome, MatchBool};
+ghost use Rattle.std.specs.Prelude.{◌≡◌, length, IfOk, IfSome, IsTrue, MatchBool};
 ghost use Rattle.radio_sim.specs.Shared.{IsPacketOf};
 
 use crate::wire::copy_of;
@@ -73,10 +73,24 @@ impl SharedPacket {
         }
     }
 
-    /// Another packet in its place, if it has no other owner: whether that is so.
+    /// Whether it has these bytes, and was read for the machine.
+    fn is_of(&self, desc: &Description, bytes: &PacketBytes) -> bool
+        ensures { IsTrue result → self.now ≡ bytes.now }
+    {
+        let reading = self.reading.as_ref();
+        reading.vm_id == desc.vm_id
+            && reading.handlers == desc.handlers.len()
+            && reading.bytes.as_slice() == bytes.as_slice()
+    }
+
+    /// Another packet in its place, if it has no other owner: whether that is so. One that is there already stays, whoever else has it:
+    /// nodes often send the same versions one after another, and these aren't read again.
     pub fn replace(&mut self, desc: &Description, bytes: &PacketBytes) -> bool
         ensures { MatchBool result (self.new ≡ bytes.now) (self.new ≡ self.old) }
     {
+        if self.is_of(desc, bytes) {
+            return true;
+        }
         match Rc::get_mut(&mut self.reading) {
             Some(reading) => {
                 *reading = Reading::of(desc, bytes);

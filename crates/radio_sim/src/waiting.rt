@@ -37,11 +37,17 @@ impl Delivery {
     }
 }
 
-/// What a transmission delivers, over one link at least, in the order of the links.
-#[derive(Drop)]
-pub struct Flight {
-    pub first: Delivery,
-    pub rest: VecDeque<Delivery>,
+/// Deliveries in one place, so that they are moved at once, and their memory with them.
+pub type Deliveries = Box<VecDeque<Delivery>>;
+
+/// No deliveries.
+pub fn no_deliveries(alloc: Global) -> Result<Deliveries, NoMemory>
+    ensures { IfOk result (λ list. list.value.items ≡ []) }
+{
+    match Box::new(alloc, VecDeque::new(alloc)) {
+        Ok(list) => Ok(list),
+        Err(_) => Err(NoMemory),
+    }
 }
 
 /// What waits for its time: an event that isn't a delivery, or all deliveries of a transmission, which come one after another.
@@ -67,7 +73,11 @@ pub enum Waiting {
         inv: u32,
         value: i16,
     },
-    Flight(Box<Flight>),
+    /// What a transmission delivers, over one link at least, in the order of the links.
+    Flight {
+        first: Delivery,
+        rest: Deliveries,
+    },
 }
 
 impl Waiting {
@@ -102,23 +112,17 @@ impl Waiting {
                     number,
                     bytes,
                 };
-                Waiting::of_flight(alloc, first, VecDeque::new(alloc))
+                let rest = no_deliveries(alloc)?;
+                Ok(Waiting::of_flight(first, rest))
             }
         }
     }
 
     /// The deliveries wait.
-    pub fn of_flight(
-        alloc: Global,
-        first: Delivery,
-        rest: VecDeque<Delivery>,
-    ) -> Result<Waiting, NoMemory>
-        ensures { IfOk result (λ waiting. events_of waiting ≡ delivery_event first ∷ map delivery_event rest.items) }
+    pub fn of_flight(first: Delivery, rest: Deliveries) -> Waiting
+        ensures { events_of result ≡ delivery_event first ∷ map delivery_event rest.value.items }
     {
-        match Box::new(alloc, Flight { first, rest }) {
-            Ok(flight) => Ok(Waiting::Flight(flight)),
-            Err(_) => Err(NoMemory),
-        }
+        Waiting::Flight { first, rest }
     }
 
     /// Which cancel takes the events, if one does.
@@ -129,7 +133,7 @@ impl Waiting {
             Waiting::Fire { node } | Waiting::Expire { node } => Some(Cancel::Timer(*node)),
             Waiting::Pump { node } => Some(Cancel::Pump(*node)),
             Waiting::Due { node, .. } => Some(Cancel::Answers(*node)),
-            Waiting::Planned(_) | Waiting::Period { .. } | Waiting::Flight(_) => None,
+            Waiting::Planned(_) | Waiting::Period { .. } | Waiting::Flight { .. } => None,
         }
     }
 }

@@ -1,38 +1,31 @@
 -- The sources are accepted, within the limits.
-use Rattle.std.proofs.Common.{◌≡◌, ℕ, ◌+◌, ◌*◌, ◌<◌, ◌≤◌, nat_lt, ℤ, pos, negsuc, max, Bool, true, false, cond, List, [], ◌∷◌, ◌++◌, length, map, codes, Option, Some, None, Result, Ok, Err, refl, sym, ◌∙◌, ap, subst, arith, append_assoc, append-nil}
+use Rattle.std.proofs.Common.{◌≡◌, ℕ, ◌+◌, ◌≤◌, nat_lt, ℤ, pos, negsuc, Bool, true, false, cond, List, [], ◌∷◌, ◌++◌, length, map, codes, Option, Some, None, Ok, refl, sym, ◌∙◌, ap, subst, arith, append_assoc, append-nil}
 use Rattle.std.specs.List.{position, list_all}
-use Rattle.std.specs.Option.{ok_or}
 use Rattle.std.specs.Str.{bytes_eq}
 use Rattle.std.proofs.lemmas.Bool.{cond-true, and_parts, lt-ltb}
 use Rattle.mate_num.specs.Number.{wrap}
 use Rattle.mate_num.specs.declared.id.FunId.{FunId}
-use Rattle.mate_num.specs.declared.id.VarId.{VarId}
 use Rattle.vm_desc.specs.declared.description.Description.{Description}
 use Rattle.vm_desc.specs.declared.function.FunKind.TheVariants as fun
-use Rattle.vm_desc.specs.Bounds.{HasBounds, HasItems}
-use Rattle.vm_desc.specs.Limits.{is_function}
-use Rattle.vm_desc.specs.Names.{is_name, first_repeat, repeat_after}
-use Rattle.vm_desc.proofs.DescriptionLemmas.{bounds_of, items_of}
-use Rattle.mate_code.specs.declared.instr.Instr.{Instr}
+use Rattle.vm_desc.specs.Bounds.{HasItems}
+use Rattle.vm_desc.specs.Names.{is_name, first_repeat}
+use Rattle.vm_desc.proofs.DescriptionLemmas.{items_of}
 use Rattle.mate_code.specs.declared.instr.Instr.TheVariants as instr
 use Rattle.mate_code.specs.Instr.{size_of}
 use Rattle.ts_checked.specs.declared.bin_op.BinOp.TheVariants as op
 use Rattle.ts_syntax.specs.declared.word.Word.{Word}
 use Rattle.ts_syntax.specs.declared.script.Decl.{Decl}
 use Rattle.ts_syntax.specs.declared.script.DeclKind.TheVariants as decl
-use Rattle.ts_syntax.specs.declared.token.Token.{Token}
-use Rattle.ts_syntax.specs.declared.token.TokenKind.TheVariants as kind
 use Rattle.ts_checked.specs.declared.checked_stmt.CVar.TheVariants as var
 use Rattle.ts_syntax.specs.Tree.{Tree, number, variable, call, two, no_trees, set, act_then, no_acts, Source}
-use Rattle.ts_checked.specs.Expression.{Expression, no_arguments, Num, Shared, Call, Two}
+use Rattle.ts_checked.specs.Expression.{no_arguments, Num, Shared, Call, Two}
 use Rattle.ts_checked.specs.Statement.{Block, no_statements, statement, Set}
-use Rattle.ts_syntax.specs.Cut.{cut, cut_from, between}
+use Rattle.ts_syntax.specs.Cut.{cut, cut_from}
 use Rattle.ts_syntax.specs.Faults.{Spells}
 use Rattle.ts_checker.specs.Names.{function_from}
-use Rattle.ts_checker.specs.Checks.{checked_source, checked_block, checked_expr}
-use Rattle.ts_checker.specs.declared.fault.CheckFault.TheVariants.{NotInVm}
-use Rattle.ts_meaning.specs.Translation.{number_code, script_size, script_need}
-use Rattle.world_maker.specs.Source.{first_sensor, sensor_term, source_head, assignment, source_with, source_of}
+use Rattle.ts_checker.specs.Checks.{checked_source}
+use Rattle.ts_meaning.specs.Translation.{number_code}
+use Rattle.world_maker.specs.Source.{first_sensor, source_head, assignment, source_with, source_of}
 use Rattle.world_maker.specs.Sound.{IsSoundSource}
 use Rattle.world_maker.proofs.NameLemmas.{IsOneName, name_is_one, same_bytes, sensor_name, IsSensor, found_sensor, last_of_two}
 use Rattle.world_maker.proofs.CutLemmas.{target_place, operand_place, sensor_place, head_tokens, digit_tokens, call_tokens, text_with, digit_text, call_text, head_cut, digit_cut, call_cut}

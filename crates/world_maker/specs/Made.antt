@@ -1,7 +1,7 @@
 -- The world of a number.
-use Rattle.std.specs.Prelude.{ℕ, zero, suc, ◌+◌, ◌-◌, ◌*◌, ◌%◌, nat_lt, nat_le, pos, true, if◌then◌else◌, List, [], ◌∷◌, ◌++◌, length, map}
+use Rattle.std.specs.Prelude.{ℕ, zero, suc, ◌+◌, ◌-◌, ◌*◌, ◌%◌, ◌≤◌, nat_lt, nat_le, pos, true, if◌then◌else◌, List, [], ◌∷◌, ◌++◌, length, map}
 use Rattle.std.specs.Prelude.{replicate}
-use Rattle.std.specs.List.{range_with_len}
+use Rattle.std.specs.List.{range_with_len, AllPairs}
 use Rattle.vm_desc.specs.declared.description.Description.{Description}
 use Rattle.world_maker.specs.Source.{source_of}
 use Rattle.world_script.specs.declared.world.World.{World}
@@ -65,6 +65,10 @@ put_behind e (x ∷ events) = if nat_le x.time e.time then x ∷ put_behind e ev
 abbrev pub sorted_onto : List Planned → List Planned → List Planned
 sorted_onto [] events = events
 sorted_onto (e ∷ more) events = put e (sorted_onto more events)
+
+-- the events are in order of time
+abbrev pub AreInTime : List Planned → Type 0
+AreInTime events = AllPairs (λ a b. a.time ≤ b.time) events
 
 -- ---- the world
 

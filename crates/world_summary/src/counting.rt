@@ -24,6 +24,7 @@ use sim_event::step;
 use sim_mote::{Effect, Mote};
 use sim_run::{Simulation, Written, forget_all, see_stores};
 use std::alloc::Global;
+use std::mem;
 use vm_desc::Description;
 use world_pieces::logs_are_kept;
 use world_run_laws::reports_keep_the_promise;
@@ -136,13 +137,14 @@ fn count_step(
     Ok(())
 }
 
-/// Each node's store is seen and counted, and so the run ends.
+/// Each node's store is seen and counted, and so the run ends. The memory of the radio is free for these stores. That of the nodes isn't
+/// freed piece by piece: only the summary is still to be written, and the end of the process frees all at once.
 #[inline(never)]
 fn sum_ending(
     desc: &Description,
     world: &World,
     programs: &Programs,
-    mut sim: Simulation,
+    sim: Simulation,
     events: u64,
     mut tally: RunTally,
 ) -> Result<Summary, NoMemory>
@@ -159,10 +161,17 @@ fn sum_ending(
         event: events + 1,
         time: world.until,
     };
-    forget_all(&mut sim.motes)?;
-    see_stores(&mut sim.motes, at)?;
-    logs_are_kept(sim.motes.as_slice());
-    count_stores(&mut tally.nodes, sim.motes.as_slice());
+    let Simulation {
+        radio,
+        mut motes,
+        ..
+    } = sim;
+    drop(radio);
+    forget_all(&mut motes)?;
+    see_stores(&mut motes, at)?;
+    logs_are_kept(motes.as_slice());
+    count_stores(&mut tally.nodes, motes.as_slice());
+    mem::forget(motes);
     Ok(tally.summary(events, true))
 }
 

@@ -1,4 +1,6 @@
 use Rattle.std.proofs.Common.{◌≡◌, ℕ, [], ◌++◌, rules, ◌∙◌, sym, ap, subst, List, ◌+◌, arith}
+use Rattle.std.specs.declared.collections.VecDeque.{VecDeque}
+use Rattle.radio_sim.specs.declared.waiting.Delivery.{Delivery}
 use Rattle.arrayvec.specs.ArrayVec.{ArrayVec}
 use Rattle.mate_journal.specs.declared.air.Aired.{Aired}
 use Rattle.radio_sim.specs.Sending.{IsFurther}
@@ -16,6 +18,9 @@ returns-in_err-push-clause-kept c = subst (λ (xs : List Aired). IsFurther c.arg
 pub returns-in_err-packet-clause-kept : goal.returns-in_err-packet-clause-kept
 returns-in_err-packet-clause-kept c = further_push c.args.air.now c.push.new.self _ c.in_ok-push.ensures
 
+pub returns-in_err-rest-clause-kept : goal.returns-in_err-rest-clause-kept
+returns-in_err-rest-clause-kept c = further_push c.args.air.now c.push.new.self _ c.in_ok-push.ensures
+
 pub returns-in_err-carry-clause-kept : goal.returns-in_err-carry-clause-kept
 returns-in_err-carry-clause-kept c = further_both _ _ _ (further_push c.args.air.now c.push.new.self _ c.in_ok-push.ensures) c.in_err-carry.ensures.kept
 
@@ -24,33 +29,41 @@ returns-clause-kept c = further_both _ _ _ (further_push c.args.air.now c.push.n
 
 pub returns-in_default-clause-queue : goal.returns-in_default-clause-queue
 returns-in_default-clause-queue c = λ coming.
-    let none_carried : c.carry.new.carried.items ≡ [] = search rules in
-    let none_left = delivered_none c.args.sending c.args.bytes.now c.args.wires.now c.take-carried.result.items c.carry.new.carried.items c.take-carried.ensures (c.in_ok-carry.ensures.carried ∙ ap (λ (b : ArrayVec ℕ). c.take-carried.result.items ++ carried_by c.args.sending b c.args.wires.now) c.in_ok-packet.ensures) none_carried in
+    let start = ap (λ (q : VecDeque Delivery _). q.items) c.as_mut.ensures.value ∙ c.in_ok-rest.ensures in
+    let none_carried : c.as_mut-2.result.now.items ≡ [] = search rules in
+    let none_left = delivered_none c.args.sending c.args.bytes.now c.args.wires.now c.as_mut.result.now.items c.carry.new.carried.items start (c.in_ok-carry.ensures.carried ∙ ap (λ (b : ArrayVec ℕ). c.as_mut.result.now.items ++ carried_by c.args.sending b c.args.wires.now) c.in_ok-packet.ensures)
+    (ap (λ (q : VecDeque Delivery _). q.items) (sym c.as_mut-2.ensures.value) ∙ none_carried) in
     ap (λ (es : List Event). scheduled_all (radio_agenda coming c.args.queue.now) (c.args.sending.at.time + c.args.delay) es) (sym none_left)
 
 pub returns-in_default-clause-due : goal.returns-in_default-clause-due
 returns-in_default-clause-due c = λ coming.
-    let none_carried : c.carry.new.carried.items ≡ [] = search rules in
-    let none_left = delivered_none c.args.sending c.args.bytes.now c.args.wires.now c.take-carried.result.items c.carry.new.carried.items c.take-carried.ensures (c.in_ok-carry.ensures.carried ∙ ap (λ (b : ArrayVec ℕ). c.take-carried.result.items ++ carried_by c.args.sending b c.args.wires.now) c.in_ok-packet.ensures) none_carried in
+    let start = ap (λ (q : VecDeque Delivery _). q.items) c.as_mut.ensures.value ∙ c.in_ok-rest.ensures in
+    let none_carried : c.as_mut-2.result.now.items ≡ [] = search rules in
+    let none_left = delivered_none c.args.sending c.args.bytes.now c.args.wires.now c.as_mut.result.now.items c.carry.new.carried.items start (c.in_ok-carry.ensures.carried ∙ ap (λ (b : ArrayVec ℕ). c.as_mut.result.now.items ++ carried_by c.args.sending b c.args.wires.now) c.in_ok-packet.ensures)
+    (ap (λ (q : VecDeque Delivery _). q.items) (sym c.as_mut-2.ensures.value) ∙ none_carried) in
     subst (λ (es : List Event). AddsAll (radio_agenda coming c.args.queue.now) (c.args.sending.at.time + c.args.delay) es (radio_agenda coming c.args.queue.now)) (sym none_left)
     (adds_none (radio_agenda coming c.args.queue.now) (c.args.sending.at.time + c.args.delay))
 
 pub returns-clause-queue : goal.returns-clause-queue
 returns-clause-queue c = λ coming.
-    let flight = delivered_flight c.args.sending c.args.bytes.now c.args.wires.now c.take-carried.result.items c.carry.new.carried.items c.pop_front.new.self.items c.in-Some.first c.in_ok-flight.flight c.take-carried.ensures
-    (c.in_ok-carry.ensures.carried ∙ ap (λ (b : ArrayVec ℕ). c.take-carried.result.items ++ carried_by c.args.sending b c.args.wires.now) c.in_ok-packet.ensures) c.in-Some.ensures.items c.in_ok-flight.ensures in
+    let start = ap (λ (q : VecDeque Delivery _). q.items) c.as_mut.ensures.value ∙ c.in_ok-rest.ensures in
+    let cut = ap (λ (q : VecDeque Delivery _). q.items) (sym c.as_mut-2.ensures.value) ∙ c.in-Some.ensures.items in
+    let flight = delivered_flight c.args.sending c.args.bytes.now c.args.wires.now c.as_mut.result.now.items c.carry.new.carried.items c.pop_front.new.self.items c.in-Some.first c.of_flight-flight.result start
+    (c.in_ok-carry.ensures.carried ∙ ap (λ (b : ArrayVec ℕ). c.as_mut.result.now.items ++ carried_by c.args.sending b c.args.wires.now) c.in_ok-packet.ensures) cut c.of_flight-flight.ensures in
     let later = c.requires.ahead in
-    schedules_events coming c.args.queue.now c.schedule.new.self (c.args.sending.at.time + c.args.delay) c.in_ok-flight.flight (omega (arith, later)) c.in_ok-schedule.ensures.list
+    schedules_events coming c.args.queue.now c.schedule.new.self (c.args.sending.at.time + c.args.delay) c.of_flight-flight.result (omega (arith, later)) c.in_ok-schedule.ensures.list
     ∙ ap (λ (es : List Event). scheduled_all (radio_agenda coming c.args.queue.now) (c.args.sending.at.time + c.args.delay) es) flight
 
 pub returns-clause-due : goal.returns-clause-due
 returns-clause-due c = λ coming.
-    let flight = delivered_flight c.args.sending c.args.bytes.now c.args.wires.now c.take-carried.result.items c.carry.new.carried.items c.pop_front.new.self.items c.in-Some.first c.in_ok-flight.flight c.take-carried.ensures
-    (c.in_ok-carry.ensures.carried ∙ ap (λ (b : ArrayVec ℕ). c.take-carried.result.items ++ carried_by c.args.sending b c.args.wires.now) c.in_ok-packet.ensures) c.in-Some.ensures.items c.in_ok-flight.ensures in
+    let start = ap (λ (q : VecDeque Delivery _). q.items) c.as_mut.ensures.value ∙ c.in_ok-rest.ensures in
+    let cut = ap (λ (q : VecDeque Delivery _). q.items) (sym c.as_mut-2.ensures.value) ∙ c.in-Some.ensures.items in
+    let flight = delivered_flight c.args.sending c.args.bytes.now c.args.wires.now c.as_mut.result.now.items c.carry.new.carried.items c.pop_front.new.self.items c.in-Some.first c.of_flight-flight.result start
+    (c.in_ok-carry.ensures.carried ∙ ap (λ (b : ArrayVec ℕ). c.as_mut.result.now.items ++ carried_by c.args.sending b c.args.wires.now) c.in_ok-packet.ensures) cut c.of_flight-flight.ensures in
     subst (λ (es : List Event). AddsAll (radio_agenda coming c.args.queue.now) (c.args.sending.at.time + c.args.delay) es (radio_agenda coming c.schedule.new.self)) flight
-    (adds_events coming c.args.queue.now c.schedule.new.self (c.args.sending.at.time + c.args.delay) c.in_ok-flight.flight c.in_ok-schedule.ensures.now c.in_ok-schedule.ensures.due)
+    (adds_events coming c.args.queue.now c.schedule.new.self (c.args.sending.at.time + c.args.delay) c.of_flight-flight.result c.in_ok-schedule.ensures.now c.in_ok-schedule.ensures.due)
 
 pub returns-clause-ahead : goal.returns-clause-ahead
 returns-clause-ahead c = λ ahead.
     let later = c.requires.ahead in
-    ahead_more c.args.queue.now c.schedule.new.self (c.args.sending.at.time + c.args.delay) c.in_ok-flight.flight (omega (arith, later)) c.in_ok-schedule.ensures.now c.in_ok-schedule.ensures.list c.in_ok-schedule.ensures.due ahead
+    ahead_more c.args.queue.now c.schedule.new.self (c.args.sending.at.time + c.args.delay) c.of_flight-flight.result (omega (arith, later)) c.in_ok-schedule.ensures.now c.in_ok-schedule.ensures.list c.in_ok-schedule.ensures.due ahead

@@ -1,4 +1,4 @@
-use Rattle.std.proofs.Common.{◌∙◌, ◌*◌, [], replicate, ap, List, ℕ}
+use Rattle.std.proofs.Common.{◌∙◌, ◌*◌, [], replicate, ap}
 use Rattle.world_maker.proofs.RightLemmas.{right_parts}
 use Rattle.world_maker.proofs.made.generate.Goals as goal
 

@@ -20,7 +20,7 @@ pub invariant_of-result : goal.invariant_of-result
 invariant_of-result c = record {
   now_is = ap (λ (q : Agenda Waiting). q.now) (sym c.in_ok-queue.ensures);
   ahead = subst (λ (q : Agenda Waiting). IsOnTime q) (sym c.in_ok-queue.ensures) (record { in_time = omega arith; none_before = λ t low. refl });
-  gone_is = ap (λ (xs : List Aired). length xs) (sym c.new-4.ensures);
+  gone_is = ap (λ (xs : List Aired). length xs) (sym c.new-3.ensures);
   gone_few = omega arith;
   counted = omega arith;
   near = (let bounds = bounds_of c.args.desc.now in let near = bounds.delay_high in omega (arith, near));
@@ -31,8 +31,8 @@ pub returns : goal.returns
 returns c =
     let leaving = subst (λ (ls : List Link). AreLeaving c.args.world.now.random ls c.in_ok-wires.wires.items) c.as_slice.ensures c.in_ok-wires.ensures.leaving in
     record {
-      agenda = none_waits c.new-2.result.items c.in_ok-queue.queue c.args.world.now.until c.new-2.ensures.items c.in_ok-queue.ensures;
-      air = ap (λ (xs : List Aired). xs ++ c.new-5.result) c.new-4.ensures ∙ c.new-5.ensures;
+      agenda = none_waits c.in_ok-coming.coming.value.items c.in_ok-queue.queue c.args.world.now.until c.in_ok-coming.ensures c.in_ok-queue.ensures;
+      air = ap (λ (xs : List Aired). xs ++ c.new-4.result) c.new-3.ensures ∙ c.new-4.ensures;
       gone = refl;
       delay = refl;
       stands = record { sent = refl; wires = leaving };

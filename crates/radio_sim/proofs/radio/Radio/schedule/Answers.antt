@@ -11,11 +11,11 @@ returns-clause-list c =
     let i = c.self.inside in
     let with_agenda : Agenda Event → Ether = λ a. record { agenda = a; air = i.past.air ++ i.air; gone = i.gone; sent = i.sent; delay = i.delay; wires = i.wires.items } in
     let later = subst (λ (e : Ether). e.agenda.now ≤ c.args.time) (sym c.self.view_is) c.requires in
-    subst (λ (e : Ether). with_agenda (radio_agenda i.coming.items c.schedule.new.self) ≡ record e { agenda = scheduled e.agenda c.args.time c.args.event }) c.self.view_is
-    (ap with_agenda (schedules_one i.coming.items i.queue c.schedule.new.self c.args.time c.in_ok-waiting.waiting c.args.event later c.in_ok-waiting.ensures c.in_ok-schedule.ensures.list))
+    subst (λ (e : Ether). with_agenda (radio_agenda i.coming.value.items c.schedule.new.self) ≡ record e { agenda = scheduled e.agenda c.args.time c.args.event }) c.self.view_is
+    (ap with_agenda (schedules_one i.coming.value.items i.queue c.schedule.new.self c.args.time c.in_ok-waiting.waiting c.args.event later c.in_ok-waiting.ensures c.in_ok-schedule.ensures.list))
 
 pub returns-clause-due : goal.returns-clause-due
 returns-clause-due c =
     let i = c.self.inside in
-    subst (λ (e : Ether). Adds e.agenda c.args.time c.args.event (radio_agenda i.coming.items c.schedule.new.self)) c.self.view_is
-    (adds_one i.coming.items i.queue c.schedule.new.self c.args.time c.in_ok-waiting.waiting c.args.event c.in_ok-schedule.ensures.now c.in_ok-waiting.ensures c.in_ok-schedule.ensures.due)
+    subst (λ (e : Ether). Adds e.agenda c.args.time c.args.event (radio_agenda i.coming.value.items c.schedule.new.self)) c.self.view_is
+    (adds_one i.coming.value.items i.queue c.schedule.new.self c.args.time c.in_ok-waiting.waiting c.args.event c.in_ok-schedule.ensures.now c.in_ok-waiting.ensures c.in_ok-schedule.ensures.due)

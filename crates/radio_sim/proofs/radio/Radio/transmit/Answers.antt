@@ -14,15 +14,15 @@ returns-clause-sends c =
     let low : c.args.node < 256 = search rules in
     let i = c.self.inside in
     let ok = sym c.is_err.ensures.value ∙ c.if-is_err.false in
-    let before : Ether = record { agenda = radio_agenda i.coming.items i.queue; air = i.past.air ++ i.air; gone = i.gone; sent = i.sent; delay = i.delay; wires = i.wires.items } in
-    let after : Ether = record { agenda = radio_agenda i.coming.items c.send-result.new.queue; air = i.past.air ++ c.send-result.new.air; gone = i.gone; sent = i.sent + 1; delay = i.delay; wires = set i.wires.items c.args.node c.turn.new.self } in
+    let before : Ether = record { agenda = radio_agenda i.coming.value.items i.queue; air = i.past.air ++ i.air; gone = i.gone; sent = i.sent; delay = i.delay; wires = i.wires.items } in
+    let after : Ether = record { agenda = radio_agenda i.coming.value.items c.send-result.new.queue; air = i.past.air ++ c.send-result.new.air; gone = i.gone; sent = i.sent + 1; delay = i.delay; wires = set i.wires.items c.args.node c.turn.new.self } in
     let s : Sending = record { at = c.args.at; node = c.args.node; number = i.sent + 1 } in
     let ws = c.index_mut-wires.result.now in
     let nodes = c.self.invariant.nodes in
     let ws_is : ws ≡ wires_of before c.args.node = c.index_mut-wires.ensures.value ∙ get_or_default i.wires.items c.args.node ws [] (omega (arith, low, nodes)) in
     subst (λ (e : Ether). after ≡ transmitted e (record { at = c.args.at; node = c.args.node; number = e.sent + 1 }) c.args.bytes.now) c.self.view_is
-    (sends-so before s c.args.bytes.now i.past.air i.air c.send-result.new.air ws c.turn.new.self (radio_agenda i.coming.items c.send-result.new.queue) refl ws_is
-    (match-ok c.send-result.result _ _ ok c.send-result.ensures.queue i.coming.items) (if-ok c.send-result.result _ ok c.send-result.ensures.air) c.turn.ensures)
+    (sends-so before s c.args.bytes.now i.past.air i.air c.send-result.new.air ws c.turn.new.self (radio_agenda i.coming.value.items c.send-result.new.queue) refl ws_is
+    (match-ok c.send-result.result _ _ ok c.send-result.ensures.queue i.coming.value.items) (if-ok c.send-result.result _ ok c.send-result.ensures.air) c.turn.ensures)
 
 pub returns-clause-due : goal.returns-clause-due
 returns-clause-due c =
@@ -33,15 +33,15 @@ returns-clause-due c =
     let ws = c.index_mut-wires.result.now in
     let nodes = c.self.invariant.nodes in
     let ws_is : ws ≡ get_or i.wires.items c.args.node [] = c.index_mut-wires.ensures.value ∙ get_or_default i.wires.items c.args.node ws [] (omega (arith, low, nodes)) in
-    let due = on-ok c.send-result.result _ ok c.send-result.ensures.due i.coming.items in
-    subst (λ (e : Ether). AddsAll e.agenda (c.args.at.time + e.delay) (delivered (record { at = c.args.at; node = c.args.node; number = e.sent + 1 }) c.args.bytes.now (wires_of e c.args.node)) (radio_agenda i.coming.items c.send-result.new.queue)) c.self.view_is
-    (subst (λ (us : List Wire). AddsAll (radio_agenda i.coming.items i.queue) (c.args.at.time + i.delay) (delivered s c.args.bytes.now us) (radio_agenda i.coming.items c.send-result.new.queue)) ws_is due)
+    let due = on-ok c.send-result.result _ ok c.send-result.ensures.due i.coming.value.items in
+    subst (λ (e : Ether). AddsAll e.agenda (c.args.at.time + e.delay) (delivered (record { at = c.args.at; node = c.args.node; number = e.sent + 1 }) c.args.bytes.now (wires_of e c.args.node)) (radio_agenda i.coming.value.items c.send-result.new.queue)) c.self.view_is
+    (subst (λ (us : List Wire). AddsAll (radio_agenda i.coming.value.items i.queue) (c.args.at.time + i.delay) (delivered s c.args.bytes.now us) (radio_agenda i.coming.value.items c.send-result.new.queue)) ws_is due)
 
 pub returns-clause-stands : goal.returns-clause-stands
 returns-clause-stands c = λ world senders stood.
     let low : c.args.node < 256 = search rules in
     let wires = c.self.inside.wires.items in
-    let before : Ether = record { agenda = radio_agenda c.self.inside.coming.items c.self.inside.queue; air = c.self.inside.past.air ++ c.self.inside.air; gone = c.self.inside.gone; sent = c.self.inside.sent; delay = c.self.inside.delay; wires = wires } in
+    let before : Ether = record { agenda = radio_agenda c.self.inside.coming.value.items c.self.inside.queue; air = c.self.inside.past.air ++ c.self.inside.air; gone = c.self.inside.gone; sent = c.self.inside.sent; delay = c.self.inside.delay; wires = wires } in
     stands_more world senders before _ c.args.node c.self.invariant.nodes low refl
     (turned_read wires c.args.node c.index_mut-wires.result.now c.turn.new.self c.self.invariant.nodes low c.index_mut-wires.ensures.value c.turn.ensures)
     (subst (λ (e : Ether). IsEtherOf world senders e) (sym c.self.view_is) stood)

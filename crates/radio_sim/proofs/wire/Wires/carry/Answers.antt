@@ -1,4 +1,4 @@
-use Rattle.std.proofs.Common.{◌∙◌, sym, ap, List, [], ◌∷◌, ◌++◌, subst, arith}
+use Rattle.std.proofs.Common.{◌∙◌, sym, ap, List, ◌++◌, subst, arith}
 use Rattle.mate_journal.specs.declared.air.Aired.{Aired}
 use Rattle.radio_sim.specs.Sending.{IsFurther}
 use Rattle.radio_sim.specs.Wires.{carried_by}
