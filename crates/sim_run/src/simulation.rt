@@ -142,7 +142,9 @@ fn forget_told(node: &mut OpenNode, trades: bool, room: &mut NodeLog)
     node.trade(room);
 }
 
-/// The nodes of the world before its first event, in order: the first events of each are due.
+/// The nodes of the world before its first event, in order: the first events of each are due. It stands alone, since a node is large, and
+/// the stack is deepest where programs are made ready for them.
+#[inline(never)]
 fn begin_motes(
     alloc: Global,
     machine: &SharedMachine,

@@ -32,7 +32,8 @@ use world_script::World;
 use world_state_laws::states_are_sound;
 
 /// Runs a world as `run` does, and gives the summary of its report. What a node recorded in an event, and what happened on the air in it,
-/// is counted and then forgotten before the next one, so that a long run takes no more memory than its nodes and its longest event.
+/// is counted and then forgotten before the next one, so that a long run takes no more memory than its nodes and its longest event. The
+/// memory of the nodes is left to the end of the process.
 pub fn sum_world(
     alloc: Global,
     desc: &Description,
@@ -138,7 +139,7 @@ fn count_step(
 }
 
 /// Each node's store is seen and counted, and so the run ends. The memory of the radio is free for these stores. That of the nodes isn't
-/// freed piece by piece: only the summary is still to be written, and the end of the process frees all at once.
+/// freed piece by piece: to free them takes about as long as to make them.
 #[inline(never)]
 fn sum_ending(
     desc: &Description,
