@@ -178,7 +178,7 @@ module _ (d : Description) (old mid : Parts) (c : ContextId) (b : ℕ) (rests : 
     q = reading d old.log.all
 
     becomes-old : Becomes old.contexts after c a
-    becomes-old = record { here = becomes.here; others = λ j other. becomes.others j other ∙ g.becomes.others j other }
+    becomes-old = record { here = becomes.here; others = λ j other. becomes.others j other ∙ g.becomes.others j other; seats = becomes.seats ∙ g.becomes.seats }
 
     heard-mid : reading d log.all ≡ next_state (machine_in d) (reading d mid.log.all) told
     heard-mid = heard-by d mid new mid.log.all at_ entry_ told g.order continues room

@@ -143,6 +143,7 @@ module _ (d : Description) (old now : Parts) (c : ContextId) (k ran : ℕ) (rest
       ask-becomes = record {
         here = asks.becomes.here ∙ ap (λ (a : At). record a { ready = false; call = Some (f, args) }) stops.executes.becomes.here;
         others = λ j other. asks.becomes.others j other ∙ stops.executes.becomes.others j other;
+        seats = asks.becomes.seats ∙ stops.executes.becomes.seats;
       }
 
       ask-next : Continues d stops.mid (record stops.mid { contexts = after; heap = now.heap; log = log }) stops.mid.log.all at_ (entry.Ask t.inv f args) (AskedTold t.inv f args)
@@ -185,6 +186,7 @@ module _ (d : Description) (old now : Parts) (c : ContextId) (k ran : ℕ) (rest
       end-becomes = record {
         here = finishes.becomes.here ∙ ap (λ (a : At). record a { seat = None; holds = None; ready = false; waits = None }) stops.executes.becomes.here;
         others = λ j other. finishes.becomes.others j other ∙ stops.executes.becomes.others j other;
+        seats = finishes.becomes.seats ∙ stops.executes.becomes.seats;
       }
 
       abbrev pub end-parts : Parts

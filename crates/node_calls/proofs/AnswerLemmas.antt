@@ -186,6 +186,7 @@ module _ (d : Description) (old : Parts) (contexts : Contexts) (log : OpenView) 
             places = keeps.places;
             installed = keeps.installed;
             fits = Fits-answered (machine_in d) held r old.contexts c call keeps.fits is_waiting contexts answers.now value now-inv now-handler fitting becomes-ready;
+            seats = let was = keeps.seats in let same = becomes-ready.seats in omega (arith, was, same);
             lengths = keeps.lengths;
             agrees = agrees-now;
           };

@@ -63,7 +63,7 @@ pub record BeginsEra (d : Description) (r : NodeState) (told : JournalEntry) : T
   pub line : (p : Pace) → (paced p told).line ≡ []
 
 module _ (d : Description) (old new : Parts) (before : Log) (stamp : Stamp) (e : Entry) (told : JournalEntry) (rests : Rests d old) (timely : IsTimely stamp old.log.all) (era : BeginsEra d (reading d old.log.all) told)
-    (seen : last_is_seen false (journal_of old.log.all) ≡ true) (idles : AreIdle new.contexts) (zero : new.heap ≡ zero_store (length d.shared.items) (length d.buffers.items)) (posts : new.posts ≡ old.posts)
+    (seen : last_is_seen false (journal_of old.log.all) ≡ true) (idles : AreIdle new.contexts) (seats : length new.contexts.seats ≡ length old.contexts.seats) (zero : new.heap ≡ zero_store (length d.shared.items) (length d.buffers.items)) (posts : new.posts ≡ old.posts)
     (places : length new.handlers.programs ≡ length d.handlers.items)
     (installed : AreInstalled d (next_state (machine_in d) (reading d old.log.all) told).installed (held_at new.handlers.programs))
     (prepared : IsPrepared old.log.all before) (pushed : IsPushed before record { stamp = stamp; entry = e } new.log.all) (tells : journal_entry before e ≡ told) (tidily : AddsTidily d old.log.all e new.log.all)
@@ -107,6 +107,7 @@ module _ (d : Description) (old new : Parts) (before : Log) (stamp : Stamp) (e :
           places = places;
           installed = installed;
           fits = Fits-idle (held_at new.handlers.programs) later new.contexts idles dead;
+          seats = let was = keeps.seats in omega (arith, was, seats);
           lengths = lengths-now;
           agrees = Agrees-idle d later new.contexts new.heap idles (zero ∙ sym era.serial) (λ n. unstarted (later.invocations n).phase (dead n) (is_started (later.invocations n).phase) refl);
         };
@@ -148,11 +149,11 @@ BeginsEra-reset d r = record {
 }
 
 pub RestsAgain-reset : (d : Description) (old new : Parts) (stamp : Stamp) → Rests d old → IsTimely stamp old.log.all → last_is_seen false (journal_of old.log.all) ≡ true → AreIdle new.contexts
-    → new.heap ≡ zero_store (length d.shared.items) (length d.buffers.items) → new.posts ≡ old.posts → new.handlers ≡ old.handlers → IsPushed old.log.all record { stamp = stamp; entry = entry.Reset } new.log.all
+    → length new.contexts.seats ≡ length old.contexts.seats → new.heap ≡ zero_store (length d.shared.items) (length d.buffers.items) → new.posts ≡ old.posts → new.handlers ≡ old.handlers → IsPushed old.log.all record { stamp = stamp; entry = entry.Reset } new.log.all
     → old.log.all.spare ≤ new.log.all.spare + 1 → RestsAgain d old new stamp (λ xs. xs ≡ Reset ∷ [])
-RestsAgain-reset d old new stamp rests timely seen idles zero posts handlers pushed room =
+RestsAgain-reset d old new stamp rests timely seen idles seats zero posts handlers pushed room =
     let P : _ → Type 0 = λ h. AreInstalled d (reading d old.log.all).installed (held_at h.programs) in
-    RestsAgain-era d old new old.log.all stamp entry.Reset Reset rests timely (BeginsEra-reset d (reading d old.log.all)) seen idles zero posts (ap (λ (h : HeldPrograms). length h.programs) handlers ∙ rests.order.keeps.places) (subst P (sym handlers) rests.order.keeps.installed)
+    RestsAgain-era d old new old.log.all stamp entry.Reset Reset rests timely (BeginsEra-reset d (reading d old.log.all)) seen idles seats zero posts (ap (λ (h : HeldPrograms). length h.programs) handlers ∙ rests.order.keeps.places) (subst P (sym handlers) rests.order.keeps.installed)
     (IsPrepared-same old.log.all) pushed refl (AddsTidily-plain d old.log.all new.log.all stamp entry.Reset pushed (record { image = refl; store = refl; in_range = tt })) room
 
 -- the store is told, all is cleared, and the reset is told
@@ -164,6 +165,6 @@ RestsAgain-resets d old mid next log at_ told cleared pushed room =
     let Q : Log → Type 0 = λ l. l.spare ≤ log.all.spare + 1 in
     let last = seen-last old.log.all mid.log.all at_ told.again.adds.told old.heap told.again.adds.grows told.again.adds.made in
     RestsAgain-then d old mid (record next { log = log }) at_ (λ ts. ts ≡ Seen old.heap ∷ []) (λ ts. ts ≡ Reset ∷ []) (AtPace d old (Resets (machine_in d) (reading d old.log.all))) told.again
-    (RestsAgain-reset d mid (record next { log = log }) at_ told.again.rests told.again.adds.grows.timely last cleared.idle cleared.zero (ap (λ (s : Parts). s.posts) cleared.same) (ap (λ (s : Parts). s.handlers) cleared.same)
+    (RestsAgain-reset d mid (record next { log = log }) at_ told.again.rests told.again.adds.grows.timely last cleared.idle cleared.seats cleared.zero (ap (λ (s : Parts). s.posts) cleared.same) (ap (λ (s : Parts). s.handlers) cleared.same)
     (subst P log_is pushed) (subst Q log_is room))
     (λ xs ys e f p has. record { seen = old.heap; shown = told.shown p has; made = ap (λ (l : List JournalEntry). l ++ ys) e ∙ ap (λ (l : List JournalEntry). Seen old.heap ∷ l) f })

@@ -162,12 +162,12 @@ module _ (d : Description) (old new : Parts) (stamp : Stamp) (h : HandlerId) (x 
         full = λ full. record { full = subst I (sym is.images) (All-append F old.log.all.images (x.image ∷ []) full.full (All-cons F x.image [] held_now.full (All-nil F))) };
       }
 
-  pub RestsAgain-installed : IsHeld d x → h.0 < length d.handlers.items → h.0 < length old.handlers.programs → AreIdle new.contexts → new.heap ≡ zero_store (length d.shared.items) (length d.buffers.items) → new.posts ≡ old.posts
+  pub RestsAgain-installed : IsHeld d x → h.0 < length d.handlers.items → h.0 < length old.handlers.programs → AreIdle new.contexts → length new.contexts.seats ≡ length old.contexts.seats → new.heap ≡ zero_store (length d.shared.items) (length d.buffers.items) → new.posts ≡ old.posts
       → new.handlers.programs ≡ set old.handlers.programs h.0 (Some x) → IsInstalledIn old.log.all h x.version x.image stamp new.log.all → old.log.all.spare ≤ new.log.all.spare + 1
       → RestsAgain d old new stamp (λ told. told ≡ Installed (program_of h x) ∷ [])
-  RestsAgain-installed held_now of_machine below idles zero posts set_now is room =
+  RestsAgain-installed held_now of_machine below idles seats zero posts set_now is room =
       let P : List (Option Held) → Type 0 = λ programs. AreInstalled d (installed_with (reading d old.log.all).installed (program_of h x)) (held_at programs) in
-      RestsAgain-era d old new before stamp (entry.Install h x.version (length old.log.all.images)) (Installed (program_of h x)) rests timely (BeginsEra-install d (reading d old.log.all) (program_of h x)) seen idles zero posts
+      RestsAgain-era d old new before stamp (entry.Install h x.version (length old.log.all.images)) (Installed (program_of h x)) rests timely (BeginsEra-install d (reading d old.log.all) (program_of h x)) seen idles seats zero posts
       (ap (λ (programs : List (Option Held)). length programs) set_now ∙ length-set old.handlers.programs h.0 (Some x) ∙ keeps.places)
       (subst P (sym set_now) (AreInstalled-with d (reading d old.log.all).installed old.handlers.programs h x keeps.installed held_now below))
       prepared (record { entries = is.entries; images = is.images; stores = is.stores })
@@ -190,7 +190,7 @@ RestsAgain-begun d h at_ now a held_now pushed new holds is room cleared =
     let R : OpenView → Type 0 = λ l. a.before.log.all.spare ≤ l.all.spare + 1 in
     let S : OpenView → Type 0 = λ l. l.all.spare ≤ pushed.all.spare + 1 in
     let pushed_is : new.log ≡ pushed = ap (λ (s : Parts). s.log) cleared.same in
-    RestsAgain-installed d a.before new at_ h a.x a.rests a.timely a.seen a.is_held a.handler below cleared.idle cleared.zero
+    RestsAgain-installed d a.before new at_ h a.x a.rests a.timely a.seen a.is_held a.handler below cleared.idle (cleared.seats ∙ ap (λ (s : Parts). length s.contexts.seats) a.has_come) cleared.zero
     (ap (λ (s : Parts). s.posts) cleared.same ∙ ap (λ (s : Parts). s.posts) a.has_come)
     (ap (λ (s : Parts). s.handlers.programs) cleared.same ∙ programs)
     (subst N (sym pushed_is) (subst L log_is (subst X same is)))

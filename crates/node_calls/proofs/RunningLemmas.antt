@@ -113,7 +113,7 @@ HasGoneOn-none d s c order is_ready =
       now = h.seat;
       same = record { inv = refl; handler = refl };
       counted = omega arith;
-      becomes = record { here = ap (λ (o : Option Seat). record (at s.contexts c) { seat = o }) h.is; others = λ k other. refl };
+      becomes = record { here = ap (λ (o : Option Seat). record (at s.contexts c) { seat = o }) h.is; others = λ k other. refl; seats = refl };
       locks = refl;
       ring = refl;
       log = refl;
@@ -161,6 +161,7 @@ HasGoneOn-then d old mid contexts heap c n is_ready g ex =
       becomes = record {
         here = ex.becomes.here ∙ ap (λ (a : At). record a { seat = Some ex.now }) g.becomes.here;
         others = λ k other. ex.becomes.others k other ∙ g.becomes.others k other;
+        seats = ex.becomes.seats ∙ g.becomes.seats;
       };
       locks = ex.locks ∙ g.locks;
       ring = ex.ring ∙ g.ring;

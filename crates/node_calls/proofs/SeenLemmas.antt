@@ -74,7 +74,7 @@ module _ (d : Description) (old : Parts) (log : OpenView) (stamp : Stamp) (rests
           shown = shown d (reading d old.log.all) old.contexts (held_at old.handlers.programs) old.heap keeps.fits keeps.installed.each keeps.agrees keeps.lengths;
           before_era = tt;
           numbers = omega arith;
-          after = record { posts = keeps.posts; places = keeps.places; installed = keeps.installed; fits = keeps.fits; lengths = keeps.lengths; agrees = keeps.agrees };
+          after = record { posts = keeps.posts; places = keeps.places; installed = keeps.installed; fits = keeps.fits; seats = keeps.seats; lengths = keeps.lengths; agrees = keeps.agrees };
         }
 
     pub RestsAgain-seen : old.log.all.spare ≤ log.all.spare + 1 → RestsAgain d old (record old { log = log }) stamp (λ told. told ≡ Seen old.heap ∷ [])

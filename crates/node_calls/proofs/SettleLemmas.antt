@@ -129,6 +129,7 @@ module _ (d : Description) (old : Parts) (contexts : Contexts) (c : ContextId) (
             places = keeps.places;
             installed = keeps.installed;
             fits = fits-way (held_at old.handlers.programs) (reading d old.log.all) keeps.fits;
+            seats = let was = keeps.seats in let same = ap (λ (l : List (Option Seat)). length l) way.seats in omega (arith, was, same);
             lengths = keeps.lengths;
             agrees = agrees-way (reading d old.log.all) keeps.agrees;
             serial = keeps.serial;

@@ -41,4 +41,5 @@ pub record TellsStore (d : Description) (old new : Parts) (at : Stamp) : Type 0 
 pub record IsCleared (d : Description) (old new : Parts) : Type 0 where
   pub idle : AreIdle new.contexts
   pub zero : new.heap ≡ zero_store (length d.shared.items) (length d.buffers.items)
+  pub seats : length new.contexts.seats ≡ length old.contexts.seats
   pub same : new ≡ record old { contexts = new.contexts; heap = new.heap }

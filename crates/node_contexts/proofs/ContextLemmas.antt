@@ -1,7 +1,7 @@
 -- What the calls on contexts leave there.
 use Rattle.std.proofs.lemmas.Bool.{cases_eq, cases_lt}
 use Rattle.std.specs.Prelude.{◌⊎◌, IfSome, slice_get, slice_index_or, Result, Ok, Err, MatchResult, OnOk, OnErr}
-use Rattle.std.proofs.Common.{◌≡◌, ◌≢◌, ℕ, zero, suc, ◌+◌, ◌<◌, ◌≤◌, ℤ, Bool, true, false, inl, inr, List, [], ◌∷◌, ◌++◌, length, get_or, set, Option, Some, None, refl, sym, ◌∙◌, ap, subst, arith, get_or-set_same, get_or-set_other}
+use Rattle.std.proofs.Common.{◌≡◌, ◌≢◌, ℕ, zero, suc, ◌+◌, ◌<◌, ◌≤◌, ℤ, Bool, true, false, inl, inr, List, [], ◌∷◌, ◌++◌, length, length-set, get_or, set, Option, Some, None, refl, sym, ◌∙◌, ap, subst, arith, get_or-set_same, get_or-set_other}
 use Rattle.std.proofs.lemmas.List.{set-get_or}
 use Rattle.std.specs.List.{Contains}
 use Rattle.std.specs.Option.{is_some}
@@ -99,6 +99,7 @@ Starts-from old locks ring ctx g once last changes =
         here = same_at (at old ctx) (set_of locks.waiting ctx) (set_of locks.started ctx) (holds ring ctx) None (Some g.claim.set) true g.moves.waits g.moves.holds changes.here;
         others = λ k other. same_at (at old k) (set_of locks.waiting k) (set_of locks.started k) (holds ring k) (set_of old.locks.waiting k) (set_of old.locks.started k) (holds old.ring k)
             (g.moves.others_wait k other) (g.moves.others_hold k other) (changes.others k other);
+        seats = refl;
       };
       grants = g;
       ring = last;
@@ -127,6 +128,7 @@ with_seat-becomes old c s now is =
     record {
       here = ap (λ (o : Option Seat). record (at old c) { seat = o }) (get_or-set_same old.seats c.0 (Some now) None below);
       others = λ k other. ap (λ (o : Option Seat). record (at old k) { seat = o }) (get_or-set_other old.seats c.0 k.0 (Some now) None other);
+      seats = length-set old.seats c.0 (Some now);
     }
 
 -- the seat that is there is no other
@@ -185,6 +187,7 @@ IsAnswered-from old pending ring c value s now place mid same_place is same coun
             ap (λ (a : At). record a { ready = holds ring k; call = call_at pending k }) (b.others k other)
             ∙ ap (λ (r : Bool). record (at old k) { ready = r; call = call_at pending k }) (changes.others k other)
             ∙ ap (λ (o : Option Asked). record (at old k) { call = o }) (others k other);
+        seats = b.seats;
       };
       locks = refl;
       ring = last;

@@ -1,5 +1,5 @@
 -- What is at a context: its invocation, its locks, whether it is ready, and the call that it waits with.
-use Rattle.std.specs.Prelude.{◌≡◌, ◌≢◌, ◌<◌, ℕ, [], ◌∷◌, ◌++◌, Bool, true, false, List, Option, Some, None, IsSome, slice_index_or}
+use Rattle.std.specs.Prelude.{◌≡◌, ◌≢◌, ◌<◌, ℕ, [], ◌∷◌, ◌++◌, Bool, true, false, List, Option, Some, None, IsSome, length, slice_index_or}
 use Rattle.mate_num.specs.declared.bounds.TheConstants.{CONTEXTS_MAX}
 use Rattle.mate_num.specs.declared.id.ContextId.{ContextId}
 use Rattle.mate_num.specs.declared.lock_set.LockSet.{LockSet}
@@ -42,10 +42,11 @@ ready s set = record { seat = Some s; waits = None; holds = Some set; ready = tr
 abbrev pub waiting : Seat → LockSet → Asked → At
 waiting s set call = record { seat = Some s; waits = None; holds = Some set; ready = false; call = Some call }
 
--- this is at the context, and what was at the others
+-- this is at the context, and what was at the others; there are as many seats
 pub record Becomes (old new : Contexts) (c : ContextId) (a : At) : Type 0 where
   pub here : at new c ≡ a
   pub others : (k : ContextId) → k.0 ≢ c.0 → at new k ≡ at old k
+  pub seats : length new.seats ≡ length old.seats
 
 -- the invocation of this number has the context
 pub record IsPlaced (a : At) (n : ℕ) : Type 0 where

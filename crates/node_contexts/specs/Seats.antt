@@ -13,7 +13,7 @@ places_upto (suc n) (seat ∷ seats) = seat ∷ places_upto n seats
 abbrev pub HaveSameSeats : List (Option Seat) → List (Option Seat) → Type 0
 HaveSameSeats seats more = (n : ℕ) → places_upto n more ≡ places_upto n seats
 
--- so many places were made, and there is room for so many
+-- so many places were made, and there is room for so many, a machine's contexts at most
 pub record HaveRoom (made room : ℕ) : Type 0 where
-  pub within : made ≤ CONTEXTS_MAX
-  pub room_is : CONTEXTS_MAX ≤ room
+  pub within : made ≤ room
+  pub few : room ≤ CONTEXTS_MAX

@@ -1,7 +1,7 @@
 //! The contexts of a node: the invocation in each, the locks that it waits for or holds, whether it is ready,
 //! and the call whose answer it waits for.
 
-ghost use Rattle.std.specs.Prelude.{◌≡◌, ℕ, ◌<◌, ◌++◌, ◌∷◌, [], Some, None, IfOk, MatchBool, MatchOption, IsSome, IfSome, slice_get, true};
+ghost use Rattle.std.specs.Prelude.{◌≡◌, ℕ, ◌<◌, ◌≤◌, ◌++◌, ◌∷◌, [], length, Some, None, IfOk, MatchBool, MatchOption, IsSome, IfSome, slice_get, true};
 ghost use Rattle.std.specs.Option.{option_copied};
 ghost use Rattle.mate_num.specs.declared.id.ContextId.{ContextId as Context};
 ghost use Rattle.lock_manager.specs.Claims.{AreOnce, Enqueues, Grants, GrantsNone, Releases};
@@ -28,12 +28,14 @@ impl Contexts {
     ghost use Rattle.node_contexts.specs.At.{at, idle, queued, ready, waiting, seat_at, Becomes, AreIdle, CanStart, StartsContext, Asks, Ends};
     ghost use Rattle.node_contexts.specs.At.{GivesWay, IsAsking, IsNoneAsking};
 
-    /// Contexts that are all idle. No other call takes memory.
-    pub fn new(alloc: Global) -> Result<Contexts, NoMemory>
-        ensures { IfOk result AreIdle }
+    /// Contexts that are all idle, with a seat for each of this number of contexts. No other call takes memory.
+    pub fn new(alloc: Global, count: usize) -> Result<Contexts, NoMemory>
+        requires { count ≤ CONTEXTS_MAX }
+        ensures idle { IfOk result AreIdle }
+        ensures seats { IfOk result (λ contexts. length contexts.seats ≡ count) }
     {
         let ring = Ring::new(alloc)?;
-        let seats = Seats::new(alloc)?;
+        let seats = Seats::new(alloc, count)?;
         Ok(Contexts {
             seats,
             locks: Locks::new(),
@@ -61,6 +63,7 @@ impl Contexts {
     /// Puts an invocation into the idle context. It waits for its locks.
     pub fn post(&mut self, ctx: ContextId, seat: Seat, set: LockSet)
         requires context { ctx.0 < CONTEXTS_MAX }
+        requires seat { ctx.0 < length self.old.seats }
         requires free { at self.old ctx ≡ idle }
         ensures becomes { Becomes self.old self.new ctx (queued seat set) }
         ensures locks { Enqueues self.old.locks self.new.locks ctx set }
@@ -156,7 +159,8 @@ impl Contexts {
 
     /// Makes all contexts idle.
     pub fn clear(&mut self)
-        ensures { AreIdle self.new }
+        ensures idle { AreIdle self.new }
+        ensures seats { length self.new.seats ≡ length self.old.seats }
     {
         self.seats.clear();
         self.locks.clear();

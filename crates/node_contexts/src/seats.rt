@@ -6,14 +6,13 @@ ghost use Rattle.mate_num.specs.declared.bounds.TheConstants.{CONTEXTS_MAX};
 ghost use Rattle.node_contexts.specs.Seats.{HaveSameSeats};
 
 use crate::seat::Seat;
-use mate_num::{CONTEXTS_MAX, NoMemory};
+use mate_num::NoMemory;
 use std::alloc::Global;
 use std::marker::Model;
 
-/// The invocation in each context, if one is there. Contracts see a list of `CONTEXTS_MAX` places.
+/// The invocation in each context, if one is there. Contracts see a list of as many places as the machine has contexts.
 ///
-/// There is room for all of them from the start, but no place is written before an invocation comes there, or behind it: most
-/// machines have few contexts.
+/// There is room for all of them from the start, but no place is written before an invocation comes there, or behind it.
 #[derive(Drop)]
 pub struct Seats {
     /// The first places. Nobody is at those behind them.
@@ -22,33 +21,33 @@ pub struct Seats {
 
 impl Model for Seats {
     ghost use Rattle.std.specs.Prelude.{List, Option, length, vec_capacity};
-    ghost use Rattle.mate_num.specs.declared.bounds.TheConstants.{CONTEXTS_MAX};
     ghost use Rattle.node_contexts.specs.declared.seat.Seat.{Seat as Seated};
     ghost use Rattle.node_contexts.specs.Seats.{places_upto, HaveRoom};
 
     ghost Value = { List (Option Seated) };
 
-    ghost view = { λ s. places_upto CONTEXTS_MAX s.places.items };
+    ghost view = { λ s. places_upto (vec_capacity s.places) s.places.items };
 
     ghost invariant = { λ s. HaveRoom (length s.places.items) (vec_capacity s.places) };
 }
 
 impl Seats {
-    /// Seats that are all free. No other call takes memory.
-    pub fn new(alloc: Global) -> Result<Seats, NoMemory>
-        ensures { IfOk result (λ seats. (k : ℕ) → slice_index_or seats k None ≡ None) }
+    /// So many seats, which are all free. No other call takes memory.
+    pub fn new(alloc: Global, count: usize) -> Result<Seats, NoMemory>
+        requires { count ≤ CONTEXTS_MAX }
+        ensures free { IfOk result (λ seats. (k : ℕ) → slice_index_or seats k None ≡ None) }
+        ensures count { IfOk result (λ seats. length seats ≡ count) }
     {
-        let places = Vec::with_capacity(alloc, CONTEXTS_MAX)?;
+        let places = Vec::with_capacity(alloc, count)?;
         Ok(Seats { places })
     }
 
-    /// How many places there are: `CONTEXTS_MAX`.
+    /// How many places there are, `CONTEXTS_MAX` at most.
     pub fn len(&self) -> usize
         ensures count { result ≡ length self.now }
-        ensures all { result ≡ CONTEXTS_MAX }
+        ensures few { result ≤ CONTEXTS_MAX }
     {
-        let _made = self.places.len();
-        CONTEXTS_MAX
+        self.places.capacity()
     }
 
     /// The invocation at the place.
@@ -60,9 +59,8 @@ impl Seats {
 
     /// The invocation comes to the place.
     pub fn put(&mut self, place: usize, seat: Seat)
-        requires { place < CONTEXTS_MAX }
-        ensures value { self.new ≡ slice_set self.old place (Some seat) }
-        ensures within { place < length self.old }
+        requires { place < length self.old }
+        ensures { self.new ≡ slice_set self.old place (Some seat) }
     {
         reach(&mut self.places, place + 1);
         self.places[place] = Some(seat);
@@ -78,7 +76,8 @@ impl Seats {
 
     /// Takes all invocations.
     pub fn clear(&mut self)
-        ensures { (k : ℕ) → slice_index_or self.new k None ≡ None }
+        ensures free { (k : ℕ) → slice_index_or self.new k None ≡ None }
+        ensures count { length self.new ≡ length self.old }
     {
         self.places.clear();
     }

@@ -147,6 +147,7 @@ module _ (d : Description) (old : Parts) (contexts : Contexts) (log : OpenView) 
           places = keeps.places;
           installed = keeps.installed;
           fits = Fits-started (machine_in d) held r old.contexts contexts c keeps.fits starts s seat;
+          seats = let was = keeps.seats in let same = starts.becomes.seats in omega (arith, was, same);
           lengths = keeps.lengths;
           agrees = Agrees-started d r old.contexts contexts old.heap s.inv c _ s keeps.agrees sits seat queued free;
         };
@@ -288,6 +289,7 @@ module _ (d : Description) (old : Parts) (contexts : Contexts) (heap : Store) (c
           places = keeps.places;
           installed = keeps.installed;
           fits = Fits-executed (machine_in d) programs q old.contexts c keeps.fits is_ready contexts ex.now now-inv now-handler fitting becomes-ready;
+          seats = let was = keeps.seats in let same = becomes-ready.seats in omega (arith, was, same);
           lengths = lengths-after;
           agrees = agrees-next;
           serial = keeps.serial;
@@ -305,6 +307,7 @@ module _ (d : Description) (old : Parts) (contexts : Contexts) (heap : Store) (c
         record {
           here = asks.becomes.here ∙ ap (λ (a : At). record a { ready = false; call = Some (f, args) }) becomes-now.here;
           others = λ k other. asks.becomes.others k other ∙ becomes-now.others k other;
+          seats = asks.becomes.seats ∙ becomes-now.seats;
         }
 
     own-waiting : IsOwnRun d (in_phase (Waiting f args) i) ex.now q.serial heap
@@ -343,6 +346,7 @@ module _ (d : Description) (old : Parts) (contexts : Contexts) (heap : Store) (c
             installed = keeps.installed;
             lengths = lengths-after;
             fits = Fits-asked (machine_in d) programs q old.contexts c keeps.fits is_ready after ex.now f args now-inv now-handler waits-now becomes-waiting;
+            seats = let was = keeps.seats in let same = becomes-waiting.seats in omega (arith, was, same);
             agrees = Agrees-moves d q old.contexts after old.heap heap one.seat.inv (in_phase (Waiting f args) i) c (waiting ex.now x.locks (f, args)) ex.now keeps.agrees
                 (record { becomes = becomes-waiting; seat = refl; number = now-inv; alone = alone })
                 (record { was = started; is = refl; program = refl }) executed-Alters own-waiting;
@@ -358,6 +362,7 @@ module _ (d : Description) (old : Parts) (contexts : Contexts) (heap : Store) (c
         record {
           here = finishes.becomes.here ∙ ap (λ (a : At). record a { seat = None; holds = None; ready = false; waits = None }) becomes-now.here;
           others = λ k other. finishes.becomes.others k other ∙ becomes-now.others k other;
+          seats = finishes.becomes.seats ∙ becomes-now.seats;
         }
 
     last : Own
@@ -404,6 +409,7 @@ module _ (d : Description) (old : Parts) (contexts : Contexts) (heap : Store) (c
             installed = keeps.installed;
             lengths = lengths-after;
             fits = Fits-ended (machine_in d) programs q old.contexts c keeps.fits is_ready after e becomes-idle;
+            seats = let was = keeps.seats in let same = becomes-idle.seats in omega (arith, was, same);
             agrees = Agrees-ended d q old.contexts after old.heap heap (whole d i q.serial).store one.seat.inv (in_phase Gone i) c idle keeps.agrees becomes-idle refl alone started refl seen-last executed-Alters whole-Alters;
           };
         }

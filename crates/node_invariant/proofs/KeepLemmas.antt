@@ -123,6 +123,7 @@ module _ (d : Description) (old new : Parts) (before : Log) (at : Stamp) (e : En
         places = after-new.places;
         installed = after-new.installed;
         fits = after-new.fits;
+        seats = after-new.seats;
         lengths = after-new.lengths;
         agrees = after-new.agrees;
         serial = serial-new;
@@ -161,7 +162,7 @@ pub Continues-same : (d : Description) (old : Parts) (log : OpenView) (at : Stam
     → Continues d old (record old { log = log }) old.log.all at e told
 Continues-same d old log at e told keeps timely pushed tells plain follows ends shown before_era same =
     let n = keeps.numbers in
-    let after : AgreesAfter d (reading d old.log.all) (record old { log = log }) = record { posts = keeps.posts; places = keeps.places; installed = keeps.installed; fits = keeps.fits; lengths = keeps.lengths; agrees = keeps.agrees } in
+    let after : AgreesAfter d (reading d old.log.all) (record old { log = log }) = record { posts = keeps.posts; places = keeps.places; installed = keeps.installed; fits = keeps.fits; seats = keeps.seats; lengths = keeps.lengths; agrees = keeps.agrees } in
     let P : NodeState → Type 0 = λ r. AgreesAfter d r (record old { log = log }) in
     record {
       prepared = IsPrepared-same old.log.all;

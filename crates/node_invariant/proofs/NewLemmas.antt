@@ -2,12 +2,13 @@
 use Rattle.std.specs.Prelude.{All}
 use Rattle.std.proofs.lemmas.List.Elements.{All-nil}
 use Rattle.arrayvec.specs.ArrayVec.{ArrayVec}
-use Rattle.std.proofs.Common.{ℕ, ◌≡◌, true, false, List, [], Option, Some, None, length, refl, sym, ◌∙◌, ap, subst, arith, ◌<◌}
+use Rattle.std.proofs.Common.{ℕ, ◌≡◌, ◌≤◌, true, false, List, [], Option, Some, None, length, refl, sym, ◌∙◌, ap, subst, arith, ◌<◌}
 use Rattle.std.proofs.Math.ListN.{length-replicate}
 use Rattle.std.specs.Option.{option_map}
 use Rattle.mate_num.specs.Store.{zero_store}
 use Rattle.mate_num.specs.declared.id.HandlerId.{HandlerId}
 use Rattle.mate_num.specs.declared.store.Store.{Store}
+use Rattle.vm_desc.specs.Whole.{context_count}
 use Rattle.vm_desc.specs.declared.description.Description.{Description}
 use Rattle.vm_desc.specs.Shapes.{shape_of}
 use Rattle.mate_journal.specs.Log.{IsEmpty}
@@ -40,7 +41,7 @@ all-none : {A : Type 0} (P : A → Type 0) (xs : List A) → xs ≡ [] → All P
 all-none P xs none = let Q : List _ → Type 0 = λ l. All P l in subst Q (sym none) (All-nil P)
 
 module _ (d : Description) (s : Parts) (idles : AreIdle s.contexts) (none : (h : HandlerId) → held_at s.handlers.programs h ≡ None) (places : length s.handlers.programs ≡ length d.handlers.items) (no_posts : s.posts ≡ 0) (empty : IsEmpty s.log.all)
-    (zero : s.heap ≡ zero_store (length d.shared.items) (length d.buffers.items)) where
+    (zero : s.heap ≡ zero_store (length d.shared.items) (length d.buffers.items)) (seats : context_count d ≤ length s.contexts.seats) where
   journal-is : journal_of s.log.all ≡ []
   journal-is = journal_of-empty s.log.all empty
 
@@ -83,6 +84,7 @@ module _ (d : Description) (s : Parts) (idles : AreIdle s.contexts) (none : (h :
         places = places;
         installed = heard_nothing (λ r. AreInstalled d r.installed (held_at s.handlers.programs)) installed-none;
         fits = heard_nothing (λ r. ContextsMatch (held_at s.handlers.programs) r s.contexts) (Fits-idle (held_at s.handlers.programs) (first_state m) s.contexts idles (λ n. refl));
+        seats = seats;
         lengths = subst H (sym zero) (record { shared = length-replicate _ _; buffers = length-replicate _ _ });
         agrees = heard_nothing (λ r. Agrees d r s.contexts s.heap) (Agrees-idle d (first_state m) s.contexts s.heap idles zero (λ n. refl));
         serial = at_start (λ es. IsSerial m (first_state m) es) (record { ends = tt; so_far = runs });

@@ -116,6 +116,7 @@ module _ (d : Description) (old : Parts) (contexts : Contexts) (log : OpenView) 
           places = keeps.places;
           installed = keeps.installed;
           fits = subst Q (sym posts-is) fits-new;
+          seats = let was = keeps.seats in let same = becomes.seats in omega (arith, was, same);
           lengths = keeps.lengths;
           agrees = Agrees-posted d r old.contexts contexts old.heap posts _ c (queued s x.locks) s keeps.agrees (record { becomes = becomes; seat = refl; number = number; alone = alone })
               refl (ap is_started unposted-now) (record { machine = machine; count = none_yet; calls = refl });

@@ -13,6 +13,7 @@ use Rattle.mate_journal.specs.WellFormed.{MayFollow}
 use Rattle.exec_unit.specs.Step.{HasLengths}
 use Rattle.vm_desc.specs.declared.description.Description.{Description}
 use Rattle.vm_desc.specs.Shapes.{shape_of}
+use Rattle.vm_desc.specs.Whole.{context_count}
 use Rattle.node_invariant.specs.declared.parts.Parts.{Parts}
 use Rattle.node_invariant.specs.Meaning.{machine_in}
 use Rattle.node_contexts.specs.Programs.{held_at}
@@ -38,6 +39,7 @@ pub record AgreesAfter (d : Description) (r : NodeState) (new : Parts) : Type 0 
   pub places : length new.handlers.programs ≡ length d.handlers.items
   pub installed : AreInstalled d r.installed (held_at new.handlers.programs)
   pub fits : ContextsMatch (held_at new.handlers.programs) r new.contexts
+  pub seats : context_count d ≤ length new.contexts.seats
   pub lengths : HasLengths (shape_of d) new.heap
   pub agrees : Agrees d r new.contexts new.heap
 

@@ -12,6 +12,7 @@ use Rattle.mate_journal.specs.Stores.{ShowsStores}
 use Rattle.exec_unit.specs.Step.{HasLengths}
 use Rattle.vm_desc.specs.declared.description.Description.{Description}
 use Rattle.vm_desc.specs.Shapes.{shape_of}
+use Rattle.vm_desc.specs.Whole.{context_count}
 use Rattle.node_invariant.specs.declared.parts.Parts.{Parts}
 use Rattle.node_invariant.specs.Meaning.{machine_in}
 use Rattle.node_contexts.specs.Programs.{held_at}
@@ -31,6 +32,7 @@ pub record Keeps (d : Description) (s : Parts) : Type 0 where
   pub places : length s.handlers.programs ≡ length d.handlers.items
   pub installed : AreInstalled d (reading d s.log.all).installed (held_at s.handlers.programs)
   pub fits : ContextsMatch (held_at s.handlers.programs) (reading d s.log.all) s.contexts
+  pub seats : context_count d ≤ length s.contexts.seats
   pub lengths : HasLengths (shape_of d) s.heap
   pub agrees : Agrees d (reading d s.log.all) s.contexts s.heap
   pub serial : IsSerial (machine_in d) (first_state (machine_in d)) (journal_of s.log.all)

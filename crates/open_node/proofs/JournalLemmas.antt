@@ -109,6 +109,7 @@ module _ (d : Description) (s : Parts) (log : OpenView) (same : IsSameLog log.al
             places = keeps.places;
             installed = heard (λ r. AreInstalled d r.installed (held_at s.handlers.programs)) keeps.installed;
             fits = heard (λ r. ContextsMatch (held_at s.handlers.programs) r s.contexts) keeps.fits;
+            seats = keeps.seats;
             lengths = keeps.lengths;
             agrees = heard (λ r. Agrees d r s.contexts s.heap) keeps.agrees;
             serial = along (λ es. IsSerial m n es) keeps.serial;
@@ -140,6 +141,7 @@ Rests-programs d s held same rests =
           places = along (λ ps. length ps ≡ length d.handlers.items) keeps.places;
           installed = along (λ ps. AreInstalled d (reading d s.log.all).installed (held_at ps)) keeps.installed;
           fits = along (λ ps. ContextsMatch (held_at ps) (reading d s.log.all) s.contexts) keeps.fits;
+          seats = keeps.seats;
           lengths = keeps.lengths;
           agrees = keeps.agrees;
           serial = keeps.serial;

@@ -89,7 +89,7 @@ fn new_parts(alloc: Global, description: &Description) -> Result<Parts, NoMemory
             description.shared.len() as u8,
             description.buffers.len() as u8,
         ),
-        contexts: Contexts::new(alloc)?,
+        contexts: Contexts::new(alloc, usize::from(description.contexts()))?,
         handlers: Handlers::new(alloc, description.handlers.len())?,
         posts: 0,
         log: OpenLog::new(alloc),

@@ -1,12 +1,12 @@
 //! The contexts of a new node.
 
-use mate_num::ContextId;
+use mate_num::{CONTEXTS_MAX, ContextId};
 use node_contexts::Contexts;
 use std::test::Fail;
 
 #[test]
 fn all_contexts_are_idle_at_first(rt: HostRuntime) -> Result<(), Fail> {
-    let Ok(contexts) = Contexts::new(rt.alloc()) else {
+    let Ok(contexts) = Contexts::new(rt.alloc(), CONTEXTS_MAX) else {
         return Err("no memory".into());
     };
     let mut idle = 0;

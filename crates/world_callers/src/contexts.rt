@@ -10,7 +10,7 @@ ghost use Rattle.node_contexts.specs.Executing.{CanAnswer};
 ghost use Rattle.node_contexts.specs.Programs.{held_at};
 ghost use Rattle.node_contexts.specs.declared.seat.Seat.{Seat as Sitting};
 
-use mate_num::{ContextId, LockSet, NoMemory, Resource, VarId};
+use mate_num::{CONTEXTS_MAX, ContextId, LockSet, NoMemory, Resource, VarId};
 use node_contexts::{Contexts, Handlers, Seat, answer};
 use std::alloc::Global;
 
@@ -40,7 +40,7 @@ pub fn a_posted_invocation_waits_for_its_locks(
     ensures { IfOk result (λ contexts. IsSomeAnd (at contexts (record { 0 = 3 })).waits
         (λ set. IsTrue ((lock_uses set).writes (Shared (record { 0 = 0 }))))) }
 {
-    let mut contexts = Contexts::new(alloc)?;
+    let mut contexts = Contexts::new(alloc, CONTEXTS_MAX)?;
     let set = LockSet::empty().with_write(Resource::Shared(VarId(0)));
     contexts.post(ContextId(3), seat, set);
     Ok(contexts)

@@ -1,5 +1,6 @@
 -- The invocation is queued, and that is told.
 use Rattle.std.proofs.Common.{arith}
+use Rattle.node_invariant.proofs.PostLemmas.{in-machine}
 use Rattle.node_calls.proofs.PostingLemmas.{idle-first, IsQueued-made}
 use Rattle.node_calls.proofs.posting.queue.Goals as goal
 
@@ -22,3 +23,10 @@ returns-clause-queued c =
 
 pub returns-clause-gone : goal.returns-clause-gone
 returns-clause-gone c = c.tell.ensures.gone
+
+pub post-requires-clause-seat : goal.post-requires-clause-seat
+post-requires-clause-seat c =
+    let can = c.requires.can in
+    let there = (in-machine c.args.description.now c.args.handler c.args.ctx can.first.context).1 in
+    let seats = can.rests.order.keeps.seats in
+    omega (arith, there, seats)
