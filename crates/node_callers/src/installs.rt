@@ -8,7 +8,7 @@ ghost use Rattle.node_invariant.specs.Keeps.{IsTimely};
 ghost use Rattle.node_invariant.specs.Meaning.{machine_in};
 ghost use Rattle.node_calls.specs.Installing.{IsRightCapsule, capsule_handler, program_by};
 ghost use Rattle.node_calls.specs.declared.installing.InstallFault.TheVariants.{NotNewer};
-ghost use Rattle.open_node.specs.View.{heard_of, HasPace, Tells};
+ghost use Rattle.open_node.specs.View.{HasPlaces, heard_of, HasPace, Tells};
 ghost use Rattle.open_node.specs.declared.standing.Standing.TheVariants.{Idle};
 ghost use Rattle.node_callers.specs.Told.{InstallsThis, BeginsWithEvent};
 
@@ -25,6 +25,7 @@ pub fn an_equal_version_is_not_taken(
     requires timely { IsTimely at node.old.log }
     requires few { length node.old.log.entries < 4000000000 }
     requires room { 4 ≤ node.old.log.spare }
+    requires places { HasPlaces node.old }
     ensures { (p : Pace) (c : CapsuleParts) → HasPace node.old p → IsRightCapsule node.old.description bytes.now c
         → c.version ≤ held (heard_of node.old) (capsule_handler c)
         → result ≡ Err (NotNewer (held (heard_of node.old) (capsule_handler c))) }
@@ -41,6 +42,7 @@ pub fn an_install_is_told_as_it_is(
     requires timely { IsTimely at node.old.log }
     requires few { length node.old.log.entries < 4000000000 }
     requires room { 4 ≤ node.old.log.spare }
+    requires places { HasPlaces node.old }
     ensures { OnOk result ((c : CapsuleParts) → IsRightCapsule node.old.description bytes.now c
         → Tells node.old node.new at (λ _ told _. InstallsThis (program_by c bytes.now) (λ _. ⊤) told)) }
 {
@@ -56,6 +58,7 @@ pub fn a_handler_that_runs_once_has_the_event(
     requires timely { IsTimely at node.old.log }
     requires few { length node.old.log.entries < 4000000000 }
     requires room { 4 ≤ node.old.log.spare }
+    requires places { HasPlaces node.old }
     ensures { OnOk result ((c : CapsuleParts) → IsRightCapsule node.old.description bytes.now c
         → (machine_in node.old.description).runs_once (capsule_handler c) ≡ true
         → Tells node.old node.new at (λ _ told _. InstallsThis (program_by c bytes.now) (BeginsWithEvent (capsule_handler c)) told)) }
@@ -72,6 +75,7 @@ pub fn nothing_goes_on_behind_an_install(
     requires timely { IsTimely at node.old.log }
     requires few { length node.old.log.entries < 4000000000 }
     requires room { 4 ≤ node.old.log.spare }
+    requires places { HasPlaces node.old }
     ensures { (p : Pace) (c : CapsuleParts) → HasPace node.old p → IsRightCapsule node.old.description bytes.now c
         → (machine_in node.old.description).runs_once (capsule_handler c) ≡ false → IfOk result (λ standing. standing ≡ Idle) }
 {
