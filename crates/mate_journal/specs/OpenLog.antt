@@ -1,6 +1,6 @@
 -- A log whose front may be forgotten: the whole of it, how much is gone, and the part that is kept.
 use Rattle.std.specs.Prelude.{◌≡◌, ◌≤◌, ◌<◌, ◌+◌, ℕ, [], ◌++◌, length, map, drop, ⊤}
-use Rattle.mate_journal.specs.Log.{Log}
+use Rattle.mate_journal.specs.Log.{Log, IsEmpty}
 use Rattle.mate_journal.specs.declared.entry.Entry.{Entry}
 use Rattle.mate_journal.specs.declared.entry.Entry.TheVariants as entry
 use Rattle.mate_journal.specs.declared.entry.Stamped.{Stamped}
@@ -39,6 +39,10 @@ NumberFits images stores _ = ⊤
 
 abbrev pub stamped_behind : ℕ → ℕ → Stamped → Stamped
 stamped_behind images stores s = record { stamp = s.stamp; entry = entry_behind images stores s.entry }
+
+-- what is kept beside entries is kept with one that names it: without entries, nothing is
+pub record IsKeptWithEntries (kept : Log) : Type 0 where
+  pub empty : kept.entries ≡ [] → IsEmpty kept
 
 -- the log of nothing
 abbrev pub nothing : Log

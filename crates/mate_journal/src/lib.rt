@@ -4,6 +4,7 @@
 pub mod air;
 mod cuts;
 pub mod entry;
+pub mod has_store;
 pub mod images;
 pub mod law;
 pub mod node_log;
@@ -18,6 +19,7 @@ pub mod stores;
 
 pub use air::{Air, Aired, Airs};
 pub use entry::{DropCause, Entry, Stamped, VoidCause};
+pub use has_store::HasStore;
 pub use images::{ImageRef, Images};
 pub use law::{Law, Verdict};
 pub use node_log::NodeLog;

@@ -5,10 +5,11 @@ ghost use Rattle.mate_journal.specs.Log.{Log, IsSameLog};
 ghost use Rattle.mate_journal.specs.declared.entry.Entry.TheVariants as told;
 
 use crate::entry::{Entry, Stamped};
-use crate::{Images, Stores};
-use mate_num::{HandlerId, Image, NoMemory, Stamp, Store};
+use crate::{HasStore, Images, Stores};
+use mate_num::{HandlerId, Image, NoMemory, Stamp};
 use std::alloc::Global;
 use std::marker::Model;
+use std::mem;
 
 /// What happened on one node, in order. After a `reserve` it is written without memory.
 pub struct NodeLog {
@@ -123,13 +124,13 @@ impl NodeLog {
     }
 
     /// Appends a copy of a store, and answers its position.
-    pub fn add_store(&mut self, store: &Store) -> u32
+    pub fn add_store<S: HasStore>(&mut self, store: &S) -> u32
         requires room { 1 ≤ self.old.spare }
         requires count { length self.old.stores < 4100000000 }
         ensures position { result ≡ length self.old.stores }
         ensures entries { self.new.entries ≡ self.old.entries }
         ensures images { self.new.images ≡ self.old.images }
-        ensures stores { self.new.stores ≡ self.old.stores ++ store.now ∷ [] }
+        ensures stores { self.new.stores ≡ self.old.stores ++ S.store_of store.now ∷ [] }
         ensures spare { self.old.spare ≤ self.new.spare + 1 }
     {
         let position = self.stores.len() as u32;
@@ -138,12 +139,12 @@ impl NodeLog {
     }
 
     /// Appends a copy of a store and the entry that shows it. Both take one of the room together.
-    pub fn push_seen(&mut self, at: Stamp, store: &Store)
+    pub fn push_seen<S: HasStore>(&mut self, at: Stamp, store: &S)
         requires room { 1 ≤ self.old.spare }
         requires count { length self.old.stores < 4100000000 }
         ensures entries { self.new.entries ≡ self.old.entries ++ record { stamp = at; entry = told.Seen (length self.old.stores) } ∷ [] }
         ensures images { self.new.images ≡ self.old.images }
-        ensures stores { self.new.stores ≡ self.old.stores ++ store.now ∷ [] }
+        ensures stores { self.new.stores ≡ self.old.stores ++ S.store_of store.now ∷ [] }
         ensures spare { self.old.spare ≤ self.new.spare + 1 }
     {
         let number = self.stores.len() as u32;
@@ -174,6 +175,17 @@ impl NodeLog {
                 image: number,
             },
         });
+    }
+
+    /// Takes the lists of the other log, with their room, and leaves that one its own.
+    pub fn trade(&mut self, other: &mut NodeLog)
+        ensures here { self.new ≡ other.old }
+        ensures there { other.new ≡ self.old }
+    {
+        // (list by list: a whole log is too long to be moved at once)
+        mem::swap(&mut self.entries, &mut other.entries);
+        mem::swap(&mut self.images, &mut other.images);
+        mem::swap(&mut self.stores, &mut other.stores);
     }
 
     /// Keeps that many of each list from the front, or all if there are fewer.

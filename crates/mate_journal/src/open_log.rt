@@ -6,11 +6,10 @@ ghost use Rattle.mate_journal.specs.declared.entry.Entry.TheVariants as told;
 ghost use Rattle.mate_journal.specs.OpenLog.{nothing_gone, gone_of, NamesNothing, IsKept};
 
 use crate::past::Past;
-use crate::{NodeLog, Stamped};
-use mate_num::{HandlerId, Image, NoMemory, Stamp, Store};
+use crate::{HasStore, NodeLog, Stamped};
+use mate_num::{HandlerId, Image, NoMemory, Stamp};
 use std::alloc::Global;
 use std::marker::Model;
-use std::mem;
 
 /// What happened on one node, in order. After a `reserve` it is written without memory. Contracts see all of it; in memory are
 /// the entries since the last `forget`.
@@ -24,13 +23,13 @@ pub struct OpenLog {
 
 impl Model for OpenLog {
     ghost use Rattle.std.specs.Prelude.{◌≡◌, ◌<◌, length};
-    ghost use Rattle.mate_journal.specs.OpenLog.{OpenView, joined, gone_of};
+    ghost use Rattle.mate_journal.specs.OpenLog.{OpenView, joined, gone_of, IsKeptWithEntries};
 
     ghost Value = { OpenView };
 
     ghost view = { λ l. record { all = joined l.past.log l.kept; gone = gone_of l.past.log } };
 
-    ghost invariant = { λ l. (l.gone ≡ length l.past.log.entries) × (l.gone < 4000000000) };
+    ghost invariant = { λ l. (l.gone ≡ length l.past.log.entries) × (l.gone < 4000000000) × IsKeptWithEntries l.kept };
 }
 
 impl OpenLog {
@@ -84,13 +83,13 @@ impl OpenLog {
     }
 
     /// Appends a copy of a store and the entry that shows it.
-    pub fn push_seen(&mut self, at: Stamp, store: &Store)
+    pub fn push_seen<S: HasStore>(&mut self, at: Stamp, store: &S)
         requires room { 1 ≤ self.old.all.spare }
         requires count { length self.old.all.stores < 4100000000 }
         ensures entries { self.new.all.entries ≡ self.old.all.entries
             ++ record { stamp = at; entry = told.Seen (length self.old.all.stores) } ∷ [] }
         ensures images { self.new.all.images ≡ self.old.all.images }
-        ensures stores { self.new.all.stores ≡ self.old.all.stores ++ store.now ∷ [] }
+        ensures stores { self.new.all.stores ≡ self.old.all.stores ++ S.store_of store.now ∷ [] }
         ensures spare { self.old.all.spare ≤ self.new.all.spare + 1 }
         ensures gone { self.new.gone ≡ self.old.gone }
     {
@@ -118,7 +117,11 @@ impl OpenLog {
         ensures gone { self.new.gone ≡ gone_of self.old.all }
         ensures room { self.old.all.spare ≤ self.new.all.spare }
     {
-        self.gone += self.kept.entries().len();
+        let entries = self.kept.entries().len();
+        if entries == 0 {
+            return;
+        }
+        self.gone += entries;
         self.past = Past::with(&self.past, &self.kept);
         self.kept.cut(0, 0, 0);
     }
@@ -132,7 +135,7 @@ impl OpenLog {
         ensures empty { IsEmpty room.new }
         ensures room { room.new.spare ≡ self.old.all.spare }
     {
-        mem::swap(&mut self.kept, room);
+        self.kept.trade(room);
     }
 
     /// The entries since the last `forget`.

@@ -6,6 +6,7 @@ ghost use Rattle.mate_num.specs.Store.{buffer_at};
 ghost use Rattle.mate_journal.specs.Packed.{AreParts, store_parts};
 
 use crate::cuts::Cuts;
+use crate::has_store::HasStore;
 use crate::pieces::Pieces;
 use arrayvec::ArrayVec;
 use mate_num::{BUFFERS_MAX, NoMemory, PAYLOAD_MAX, Payload, SHARED_MAX, Store};
@@ -45,17 +46,17 @@ impl Model for Stores {
 }
 
 /// Appends the parts of a store.
-fn push_parts(parts: &mut Pieces<i16>, store: &Store)
+fn push_parts<S: HasStore>(parts: &mut Pieces<i16>, store: &S)
     requires places { 9 ≤ parts.old.places }
     requires room { 96 ≤ parts.old.room }
-    ensures parts { parts.new.pieces ≡ parts.old.pieces ++ store_parts store.now }
+    ensures parts { parts.new.pieces ≡ parts.old.pieces ++ store_parts (S.store_of store.now) }
     ensures places { parts.old.places ≤ parts.new.places + 9 }
     ensures room { parts.old.room ≤ parts.new.room + 96 }
-    ensures right { AreParts (store_parts store.now) }
+    ensures right { AreParts (store_parts (S.store_of store.now)) }
 {
-    parts.push(store.shared.as_slice());
-    for buffer in store.buffers.as_slice() {
-        parts.push(buffer.as_slice());
+    parts.push(store.shared_values());
+    for buffer in 0..store.buffer_count() {
+        parts.push(store.buffer_values(buffer));
     }
 }
 
@@ -116,14 +117,14 @@ impl Stores {
     }
 
     /// Appends a copy of a store.
-    pub fn push(&mut self, store: &Store)
+    pub fn push<S: HasStore>(&mut self, store: &S)
         requires { 1 ≤ self.old.spare }
-        ensures items { self.new.items ≡ self.old.items ++ store.now ∷ [] }
+        ensures items { self.new.items ≡ self.old.items ++ S.store_of store.now ∷ [] }
         ensures spare { self.old.spare ≤ self.new.spare + 1 }
     {
         push_parts(&mut self.parts, store);
         let _len = self.parts.len();
-        self.counts.push(1 + store.buffers.len());
+        self.counts.push(1 + store.buffer_count());
     }
 
     /// Keeps the first `count` stores, or all if there are fewer.

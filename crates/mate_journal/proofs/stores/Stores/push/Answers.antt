@@ -9,12 +9,12 @@ use Rattle.mate_journal.proofs.StoresLemmas.{items-push, right-push, whole-push}
 use Rattle.mate_journal.proofs.stores.Stores.push.Goals as goal
 
 pub invariant_of-self : goal.invariant_of-self
-invariant_of-self c =
+invariant_of-self g c =
     let ns = c.self.inside.counts.lengths in
     let ps = c.self.inside.parts.pieces in
-    let s = c.args.store.now in
-    let count = 1 + c.len.result in
-    let count_is : count ≡ 1 + length s.buffers.items = omega (arith, c.len.ensures) in
+    let s = g.S.HasStore.store_of c.args.store.now in
+    let count = 1 + c.buffer_count.result in
+    let count_is : count ≡ 1 + length s.buffers.items = omega (arith, c.buffer_count.ensures.value) in
     let lengths_are = c.push.ensures.lengths in
     let parts_are = c.push_parts.ensures.parts in
     let both_are = ap (λ (ks : List ℕ). pieces ks c.push_parts.new.parts.pieces) lengths_are ∙ ap (λ (qs : List (List ℤ)). pieces (ns ++ count ∷ []) qs) parts_are in (
@@ -24,12 +24,12 @@ invariant_of-self c =
     )
 
 pub returns-clause-items : goal.returns-clause-items
-returns-clause-items c =
+returns-clause-items g c =
     let ns = c.self.inside.counts.lengths in
     let ps = c.self.inside.parts.pieces in
-    let s = c.args.store.now in
-    let count = 1 + c.len.result in
-    let count_is : count ≡ 1 + length s.buffers.items = omega (arith, c.len.ensures) in
+    let s = g.S.HasStore.store_of c.args.store.now in
+    let count = 1 + c.buffer_count.result in
+    let count_is : count ≡ 1 + length s.buffers.items = omega (arith, c.buffer_count.ensures.value) in
     let lengths_are = c.push.ensures.lengths in
     let parts_are = c.push_parts.ensures.parts in
     let both_are = ap (λ (ks : List ℕ). pieces ks c.push_parts.new.parts.pieces) lengths_are ∙ ap (λ (qs : List (List ℤ)). pieces (ns ++ count ∷ []) qs) parts_are in
