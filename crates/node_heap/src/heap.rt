@@ -186,12 +186,12 @@ impl Heap {
     pub fn store(&self) -> Store
         ensures { result ≡ self.now }
     {
-        let Ok(shared) = ArrayVec::try_from(self.variables()) else {
-            unreachable!()
-        };
         let mut store = Store {
-            shared,
+            shared: ArrayVec::new(),
             buffers: ArrayVec::new(),
+        };
+        let Ok(()) = store.shared.try_extend_from_slice(self.variables()) else {
+            unreachable!()
         };
         for buf in 0..self.buffer_count() {
             store.buffers.push(self.payload(BufId(buf)));
@@ -200,7 +200,7 @@ impl Heap {
     }
 
     /// How many buffers there are.
-    fn buffer_count(&self) -> u8
+    pub fn buffer_count(&self) -> u8
         ensures value { result ≡ length self.now.buffers.items }
         ensures fits { result ≤ BUFFERS_MAX }
     {
@@ -215,8 +215,8 @@ impl Heap {
         &self.values[..usize::from(self.shared)]
     }
 
-    /// The values in a buffer.
-    fn buffer_values(&self, buf: BufId) -> &[i16]
+    /// The values in a buffer, where they are.
+    pub fn buffer_values(&self, buf: BufId) -> &[i16]
         requires { buf.0 < length self.now.buffers.items }
         ensures value { result.now ≡ buffer_at self.now buf.0 }
         ensures fits { length result.now ≤ PAYLOAD_MAX }
