@@ -9,7 +9,7 @@ ghost use Rattle.mate_num.specs.declared.bounds.TheConstants.{CODE_MAX};
 ghost use Rattle.code_verifier.specs.Verified.{depth_of, IsVerifiedCode, KeepsFitting, Verifies};
 
 use crate::placed::Placed;
-use crate::verifier::Verifier;
+use crate::verifier::read_once;
 use mate_code::{Instr, Instrs, Table, VerifyFault};
 use mate_num::{Code, Shape};
 use std::marker::Model;
@@ -112,15 +112,15 @@ impl Verified {
         requires { table.now ≡ table_of shape }
         ensures { Verifies shape bytes.now result }
     {
-        let mut verifier = Verifier::new();
-        verifier.read(table, &shape, bytes)?;
+        let mut instrs = Placed::new();
+        read_once(&mut instrs, table, &shape, bytes)?;
         let Ok(bytes) = Code::try_from(bytes) else {
             unreachable!()
         };
         Ok(Verified {
             shape,
             bytes,
-            instrs: verifier.into_code(),
+            instrs,
         })
     }
 }

@@ -40,37 +40,47 @@ impl Verifier {
         requires { table.now ≡ table_of (shape_of desc.now) }
         ensures { Accepts (shape_of desc.now) bytes.now result }
     {
-        self.read(table, &shape(desc), bytes)
+        read(&mut self.code, &mut self.marks, table, &shape(desc), bytes)
     }
+}
 
-    // Reads the code that the bytes spell, and verifies it for machines of this shape.
-    pub(crate) fn read(
-        &mut self,
-        table: &Table,
-        shape: &Shape,
-        bytes: &[u8],
-    ) -> Result<(), VerifyFault>
-        requires { table.now ≡ table_of shape.now }
-        ensures { ReadsVerified shape.now bytes.now self.new.code result }
-    {
-        if bytes.len() > CODE_MAX {
-            return Err(VerifyFault::TooLong { len: bytes.len() });
-        }
-        if let Err(fault) = self.code.read(table, bytes) {
-            return Err(of_decode(fault));
-        }
-        let marks = &mut self.marks[..];
-        if pass(shape, &self.code, &mut marks[..bytes.len() + 1])? {
-            Ok(())
-        } else {
-            Err(VerifyFault::NoHalt)
-        }
+/// Verifies code for machines of this shape, with marks of its own. It isn't inlined, so that their room is free again when it
+/// returns.
+#[inline(never)]
+pub(crate) fn read_once(
+    code: &mut Placed,
+    table: &Table,
+    shape: &Shape,
+    bytes: &[u8],
+) -> Result<(), VerifyFault>
+    requires { table.now ≡ table_of shape.now }
+    ensures { ReadsVerified shape.now bytes.now code.new result }
+{
+    let mut marks = [Mark::Blank; MARKS];
+    read(code, &mut marks, table, shape, bytes)
+}
+
+/// Reads the code that the bytes spell, and verifies it for machines of this shape.
+fn read(
+    code: &mut Placed,
+    marks: &mut [Mark; MARKS],
+    table: &Table,
+    shape: &Shape,
+    bytes: &[u8],
+) -> Result<(), VerifyFault>
+    requires { table.now ≡ table_of shape.now }
+    ensures { ReadsVerified shape.now bytes.now code.new result }
+{
+    if bytes.len() > CODE_MAX {
+        return Err(VerifyFault::TooLong { len: bytes.len() });
     }
-
-    // The code that was read last.
-    pub(crate) fn into_code(self) -> Placed
-        ensures { result ≡ self.code }
-    {
-        self.code
+    if let Err(fault) = code.read(table, bytes) {
+        return Err(of_decode(fault));
+    }
+    let marks = &mut marks[..];
+    if pass(shape, code, &mut marks[..bytes.len() + 1])? {
+        Ok(())
+    } else {
+        Err(VerifyFault::NoHalt)
     }
 }
