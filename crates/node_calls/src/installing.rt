@@ -50,7 +50,22 @@ fn image_in(description: &Description, bytes: &[u8], capsule: &CapsuleRef<'_>) -
 
 /// The program of the capsule that the bytes are, with its code.
 #[inline(never)]
-pub(crate) fn new_program(
+fn new_program(
+    description: &Description,
+    bytes: &[u8],
+    capsule: &CapsuleRef<'_>,
+    code: Verified,
+) -> Held
+    requires read { IsReadAs description.now bytes.now capsule.now }
+    requires verified { IsVerificationOf (shape_of description.now) capsule.now.code.now code }
+    ensures { IsInstallable description.now bytes.now (record { handler = capsule.now.handler; held = result }) }
+{
+    program_with(description, bytes, capsule, code)
+}
+
+/// The same, written where its one caller wants it: a program is large.
+#[inline(always)]
+pub(crate) fn program_with(
     description: &Description,
     bytes: &[u8],
     capsule: &CapsuleRef<'_>,

@@ -1,11 +1,13 @@
 //! Capsules that are ready to be installed on the nodes of a machine.
 
 ghost use Rattle.std.specs.Prelude.{◌≡◌, ◌≤◌, All, length, IfOk, IfSome, IsTrue};
-ghost use Rattle.node_calls.specs.Installing.{IsInstallable, IsReady, IsReadyOn};
+ghost use Rattle.vm_desc.specs.Shapes.{shape_of};
+ghost use Rattle.code_verifier.specs.Verified.{IsVerificationOf};
+ghost use Rattle.node_calls.specs.Installing.{IsInstallable, IsReadAs, IsReady, IsReadyOn};
 
-use crate::installing::new_program;
-use capsule_codec::decode_in_place;
-use code_verifier::verify;
+use crate::installing::program_with;
+use capsule_codec::{CapsuleRef, decode_in_place};
+use code_verifier::{Verified, verify};
 use mate_code::Table;
 use mate_num::{HandlerId, IMAGE_HEAD, NoMemory};
 use node_contexts::SharedHeld;
@@ -35,7 +37,7 @@ impl ReadyCapsule {
         let Ok(code) = verify(&table, description, capsule.code) else {
             return Ok(None);
         };
-        let program = SharedHeld::new(alloc, new_program(description, bytes, &capsule, code))?;
+        let program = shared_program(alloc, description, bytes, &capsule, code)?;
         Ok(Some(ReadyCapsule {
             handler: capsule.handler,
             program,
@@ -52,6 +54,9 @@ impl ReadyCapsule {
         let image = self.program.as_held().image.as_slice();
         if image.len() != bytes.len() {
             image.len() < bytes.len()
+        } else if image == bytes {
+            // (to find equal bytes equal is quicker than to find their order)
+            false
         } else if self.has_code(bytes) {
             image < bytes
         } else {
@@ -81,6 +86,24 @@ impl ReadyCapsule {
             Err(_) => None,
         }
     }
+}
+
+/// The program of the capsule that the bytes are, with its code, in one place for all nodes. It isn't inlined, so that it takes no room
+/// while the code is verified.
+#[inline(never)]
+fn shared_program(
+    alloc: Global,
+    description: &Description,
+    bytes: &[u8],
+    capsule: &CapsuleRef<'_>,
+    code: Verified,
+) -> Result<SharedHeld, NoMemory>
+    requires read { IsReadAs description.now bytes.now capsule.now }
+    requires verified { IsVerificationOf (shape_of description.now) capsule.now.code.now code }
+    ensures { IfOk result (λ program. IsInstallable description.now bytes.now
+        (record { handler = capsule.now.handler; held = program })) }
+{
+    SharedHeld::new(alloc, program_with(description, bytes, capsule, code))
 }
 
 /// The code that is in an image, or nothing if the bytes are too few.

@@ -1,6 +1,6 @@
 -- The image is the bytes.
 use Rattle.node_calls.proofs.InstallLemmas.{IsInstallable-from}
-use Rattle.node_calls.proofs.installing.new_program.Goals as goal
+use Rattle.node_calls.proofs.installing.program_with.Goals as goal
 
 pub returns : goal.returns
 returns c =
