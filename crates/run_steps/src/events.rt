@@ -3,7 +3,7 @@
 ghost use Rattle.std.specs.Prelude.{◌≡◌, ◌<◌, ◌≤◌, length};
 ghost use Rattle.mate_num.specs.declared.bounds.TheConstants.{CONTEXTS_MAX};
 ghost use Rattle.vm_desc.specs.Whole.{context_count};
-ghost use Rattle.mate_journal.specs.NodeScript.{Install, StepIn, Answer as AnswerStep};
+ghost use Rattle.mate_journal.specs.NodeScript.{Install, Post as PostStep, StepIn, Answer as AnswerStep};
 ghost use Rattle.script_reader.specs.Steps.{IsRightStep, IsRightTurn};
 ghost use Rattle.open_node.specs.View.{HasPlaces, Tells};
 ghost use Rattle.node_programs.specs.Right.{IsRightProgram, AreRightPrograms};
@@ -12,10 +12,10 @@ ghost use Rattle.node_programs.specs.ScriptSteps.{step_of, IsProgramOf, program_
 ghost use Rattle.run_steps.specs.Running.{IsReadyFor, MakesOn};
 
 use mate_journal::{Program, Programs, VoidCause};
-use mate_num::{ContextId, Stamp};
+use mate_num::{ContextId, HandlerId, Stamp};
 use node_calls::InstallFault;
 use open_node::OpenNode;
-use script_reader::Step;
+use script_reader::{Message, Step};
 
 /// Installs the program, or records that the node holds a version that isn't older.
 fn install(node: &mut OpenNode, program: &Program, at: Stamp)
@@ -30,6 +30,16 @@ fn install(node: &mut OpenNode, program: &Program, at: Stamp)
         Err(InstallFault::Capsule(_)) => unreachable!(),
         Err(InstallFault::Code(_)) => unreachable!(),
     }
+}
+
+/// Posts the payload for the handler. It isn't inlined, so that other steps make no room for a payload.
+#[inline(never)]
+fn post(node: &mut OpenNode, handler: HandlerId, payload: &Message, at: Stamp)
+    requires ready { IsReadyFor node.old at }
+    requires handler { handler.0 < length node.old.description.handlers.items }
+    ensures { Tells node.old node.new at (MakesOn node.old (PostStep handler payload.now)) }
+{
+    let _ = node.post(handler, &payload.payload(), at);
 }
 
 /// Gives the context one turn, or records that no invocation is ready there.
@@ -80,9 +90,7 @@ pub(crate) fn make_step(node: &mut OpenNode, step: &Step, programs: &Programs, a
     match step {
         Step::Install { program, .. } => install_file(node, programs, *program, at),
         Step::Load { program } => install_file(node, programs, *program, at),
-        Step::Post { handler, payload } => {
-            let _ = node.post(*handler, &payload.payload(), at);
-        }
+        Step::Post { handler, payload } => post(node, *handler, payload, at),
         Step::Step { ctx, n } => take_turn(node, *ctx, *n, at),
         Step::Run => node.settle(at),
         Step::Answer { ctx, value } => answer(node, *ctx, *value, at),

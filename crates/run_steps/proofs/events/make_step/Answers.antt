@@ -29,12 +29,6 @@ post-requires-clause-handler c =
     let right = subst (λ (s : Step). IsRightStep c.args.node.now.description (length c.args.programs.now) s) c.in-Post.is c.requires.right in
     right.handler_high
 
-pub post-requires-clause-few : goal.post-requires-clause-few
-post-requires-clause-few c = let few = c.requires.ready.few in omega (arith, few)
-
-pub post-requires-clause-room : goal.post-requires-clause-room
-post-requires-clause-room c = let room = c.requires.ready.room in omega (arith, room)
-
 pub take_turn-requires-clause-right : goal.take_turn-requires-clause-right
 take_turn-requires-clause-right c =
     subst (λ (s : Step). IsRightStep c.args.node.now.description (length c.args.programs.now) s) c.in-Step.is c.requires.right
@@ -78,11 +72,8 @@ returns-in-Step c =
 pub returns-in-Post : goal.returns-in-Post
 returns-in-Post c =
     let v = c.args.node.now in
-    let P : Step → Type 0 = λ s. Tells v c.post.new.self c.args.at (MakesOn v (step_of c.args.programs.now s)) in
-    let Q : ArrayVec ℤ → Type 0 = λ payload. Tells v c.post.new.self c.args.at (Pacing (λ _. PostGives (machine_in v.description) (heard_of v) c.in-Post.handler payload c.post.result)) in
-    subst P (sym c.in-Post.is)
-    (Tells-by v c.post.new.self c.args.at (Pacing (λ _. PostGives (machine_in v.description) (heard_of v) c.in-Post.handler c.in-Post.payload c.post.result)) (MakesOn v (Post c.in-Post.handler c.in-Post.payload))
-    (λ p told q x. (Occasion-given (machine_in v.description) (heard_of v) c.in-Post.handler c.in-Post.payload c.post.result told x.0, x.1)) (subst Q c.payload.ensures c.post.ensures))
+    let P : Step → Type 0 = λ s. Tells v c.post.new.node c.args.at (MakesOn v (step_of c.args.programs.now s)) in
+    subst P (sym c.in-Post.is) c.post.ensures
 
 pub returns-in-Run : goal.returns-in-Run
 returns-in-Run c =
