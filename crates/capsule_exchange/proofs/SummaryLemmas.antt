@@ -1,6 +1,6 @@
 -- The summary of the handlers' states, and a Vector of the versions that it has.
 use Rattle.std.proofs.Common.{◌≡◌, ℕ, zero, suc, ◌+◌, ◌<◌, ◌≤◌, ◌-◌, ◌*◌, ◌/◌, ◌%◌, ◌&&◌, Bool, true, false, ltb, List, [], length, map, set, get_or, refl, sym, ap, ◌∙◌, subst, arith, inl, inr}
-use Rattle.std.specs.Prelude.{◌⊎◌, Option, bytes_eq, is_some}
+use Rattle.std.specs.Prelude.{◌⊎◌, ◌==◌, if◌then◌else◌, Option, bytes_eq, is_some}
 use Rattle.std.specs.List.{filter, find, refill, range_with_len}
 use Rattle.std.proofs.lemmas.Bool.{cases_eq, cases_lt, cond_both, le-ltb}
 use Rattle.std.proofs.lemmas.List.{ext_get_or, get_or-map, get_or-set_same, get_or-set_other, get_or_default, get_or_past, length-map, length-set}
@@ -12,7 +12,8 @@ use Rattle.capsule_exchange.specs.Knowledge.{Knowledge}
 use Rattle.capsule_exchange.specs.Sound.{AreSound}
 use Rattle.capsule_exchange.specs.declared.handler_state.Form.{Form}
 use Rattle.arrayvec.specs.ArrayVec.{ArrayVec}
-use Rattle.capsule_exchange.specs.Steps.{no_state, aimed, kept, hears_fragment, is_marked_in, state_at, aimed_each, asks_upto}
+use Rattle.capsule_codec.specs.Fragments.{count_of}
+use Rattle.capsule_exchange.specs.Steps.{no_state, aimed, kept, marked, hears_status, hears_fragment, is_marked_in, state_at, aimed_each, asks_upto}
 use Rattle.capsule_exchange.specs.Summary.{IsSummaryOf, AreKept}
 use Rattle.capsule_exchange.specs.Happenings.{slots_from}
 use Rattle.capsule_exchange.specs.Marks.{HasMark, HasNoMark}
@@ -75,6 +76,13 @@ as_before s = record { held = refl; marks = refl }
 pub aimed_marks : (version : ℕ) (s : HandlerState) → KeepsMarks s (aimed version s)
 aimed_marks version s = cond_both (ltb s.held version && ltb s.target version) _ s (KeepsMarks s) (λ _. record { held = refl; marks = refl }) (λ _. as_before s)
 
+pub status_held : (version missing : ℕ) (s : HandlerState) → (hears_status version missing s).held ≡ s.held
+status_held version missing s = by (version == s.held)
+  where
+    by : (b : Bool) → (if b then record s { marks = marked (count_of s.image.items) missing s.marks } else s).held ≡ s.held
+    by true = refl
+    by false = refl
+
 pub fragment_marks : (version index : ℕ) (form : Form) (bytes : ArrayVec ℕ) (s : HandlerState) → KeepsMarks s (hears_fragment version index form bytes s)
 fragment_marks version index form bytes s =
     let aim = aimed_marks version s in
@@ -82,12 +90,12 @@ fragment_marks version index form bytes s =
     cond_both _ _ (aimed version s) (KeepsMarks s) (λ _. record { held = aim.held; marks = aim.marks }) (λ _. aim) in
     cond_both _ _ (aimed version s) (KeepsMarks s) (λ _. keep) (λ _. aim)
 
-held_same : (old new : List HandlerState) → length new ≡ length old → ((h : ℕ) → KeepsMarks (state_at old h) (state_at new h)) → held_in old ≡ held_in new
+held_same : (old new : List HandlerState) → length new ≡ length old → ((h : ℕ) → (state_at new h).held ≡ (state_at old h).held) → held_in old ≡ held_in new
 held_same old new long same =
     let held = λ (s : HandlerState). s.held in
     ext_get_or 0 (held_in old) (held_in new) (length-map old held ∙ sym long ∙ sym (length-map new held)) (λ h below.
     let low : h < length old = omega (arith, length-map old held) in
-    held_at old h low ∙ sym (same h).held ∙ sym (held_at new h (omega arith)))
+    held_at old h low ∙ sym (same h) ∙ sym (held_at new h (omega arith)))
 
 owed_same : (old new : List HandlerState) → length new ≡ length old → ((h : ℕ) → KeepsMarks (state_at old h) (state_at new h))
     → find (is_marked_in old) (range_with_len 0 (22 * length old - 0)) ≡ find (is_marked_in new) (range_with_len 0 (22 * length new - 0))
@@ -96,7 +104,7 @@ owed_same old new long same =
     ∙ ap (λ (n : ℕ). find (is_marked_in new) (range_with_len 0 (22 * n - 0))) (sym long)
 
 summed_same : (old new : List HandlerState) (s : Summary) → length new ≡ length old → ((h : ℕ) → KeepsMarks (state_at old h) (state_at new h)) → IsSummaryOf old s → IsSummaryOf new s
-summed_same old new s long same sums = record { held = sums.held ∙ held_same old new long same; owes = sums.owes ∙ ap is_some (owed_same old new long same) }
+summed_same old new s long same sums = record { held = sums.held ∙ held_same old new long (λ h. (same h).held); owes = sums.owes ∙ ap is_some (owed_same old new long same) }
 
 -- one state was changed in place
 summed_one : (n : ℕ) (states lent : List HandlerState) (h : ℕ) (d after : HandlerState) (step : HandlerState → HandlerState) (s : Summary) → n ≡ length states → lent ≡ states → h < length states
@@ -118,6 +126,42 @@ summed_one n states lent h d after step s long same within is keeps sums =
     let whole : refill n states (set lent h after) ≡ now = ap (λ (ss : List HandlerState). refill n states (set ss h after)) same ∙ refill_same n states now long count in
     subst (λ (ss : List HandlerState). IsSummaryOf ss s) (sym whole) all
 
+kept_in : (n : ℕ) (states after : List HandlerState) (s t : Summary) → n ≡ length states → length after ≡ length states → AreSound (refill n states after) → IsSummaryOf (refill n states after) t → AreKept states s
+    → AreKept (refill n states after) t
+kept_in n states after s t long same sound sums kept =
+    let few = kept.few in
+    let whole = refill_same n states after long same in
+    record { few = subst (λ (ss : List HandlerState). length ss ≤ 8) (sym whole) (omega arith); sound = sound; summed = sums }
+
+-- one state was changed in place, and not what it holds: only whether a slot is marked is to be seen anew
+owed_one : (n : ℕ) (states lent : List HandlerState) (h : ℕ) (d after : HandlerState) (step : HandlerState → HandlerState) → n ≡ length states → lent ≡ states → h < length states
+    → after ≡ step (get_or lent h d) → ((x : HandlerState) → (step x).held ≡ x.held) → held_in states ≡ held_in (refill n states (set lent h after))
+owed_one n states lent h d after step long same within is keeps =
+    let now = set states h after in
+    let count = length-set states h after in
+    let at : get_or states h d ≡ state_at states h = get_or_default states h d no_state within in
+    let stepped : after ≡ step (state_at states h) = is ∙ ap (λ (ss : List HandlerState). step (get_or ss h d)) same ∙ ap step at in
+    let each : (k : ℕ) → (state_at now k).held ≡ (state_at states k).held = λ k.
+    elim (cases_eq k h) [
+      | inl here ↦ (
+          let read : state_at now k ≡ step (state_at states k) =
+          ap (state_at now) here ∙ get_or-set_same states h after no_state within ∙ stepped ∙ ap (λ (m : ℕ). step (state_at states m)) (sym here) in
+          ap (λ (s : HandlerState). s.held) read ∙ keeps (state_at states k))
+      | inr other ↦ ap (λ (s : HandlerState). s.held) (get_or-set_other states h k after no_state other)
+    ] in
+    let whole : refill n states (set lent h after) ≡ now = ap (λ (ss : List HandlerState). refill n states (set ss h after)) same ∙ refill_same n states now long count in
+    held_same states now count each ∙ ap held_in (sym whole)
+
+pub kept_owing : (n : ℕ) (states lent : List HandlerState) (h : ℕ) (d after : HandlerState) (step : HandlerState → HandlerState) (s : Summary) (seen : List HandlerState) (owes : Bool) → n ≡ length states → lent ≡ states → h < length states
+    → after ≡ step (get_or lent h d) → ((x : HandlerState) → (step x).held ≡ x.held) → AreSound (refill n states (set lent h after)) → AreKept states s
+    → seen ≡ refill n states (set lent h after) → owes ≡ is_some (find (is_marked_in seen) (slots_from (length seen) 0)) → AreKept (refill n states (set lent h after)) (record s { owes = owes })
+kept_owing n states lent h d after step s seen owes long same within is keeps sound kept seen_is owes_is =
+    kept_in n states (set lent h after) s (record s { owes = owes }) long (length-set lent h after ∙ ap length same) sound
+    (record {
+      held = kept.summed.held ∙ owed_one n states lent h d after step long same within is keeps;
+      owes = owes_is ∙ ap (λ (ss : List HandlerState). is_some (find (is_marked_in ss) (slots_from (length ss) 0))) seen_is;
+    }) kept
+
 -- all were changed in place
 summed_each : (n : ℕ) (states after : List HandlerState) (step : ℕ → HandlerState → HandlerState) (s : Summary) → n ≡ length states
     → after ≡ map (λ (h : ℕ). step h (state_at states h)) (range_with_len 0 (length states)) → ((h : ℕ) (x : HandlerState) → KeepsMarks x (step h x)) → IsSummaryOf states s
@@ -138,23 +182,16 @@ summed_each n states after step s long is keeps sums =
     ] in
     subst (λ (ss : List HandlerState). IsSummaryOf ss s) (sym (refill_same n states after long count)) (summed_same states after s count each sums)
 
-kept_in : (n : ℕ) (states after : List HandlerState) (s : Summary) → n ≡ length states → length after ≡ length states → AreSound (refill n states after) → IsSummaryOf (refill n states after) s → AreKept states s
-    → AreKept (refill n states after) s
-kept_in n states after s long same sound sums kept =
-    let few = kept.few in
-    let whole = refill_same n states after long same in
-    record { few = subst (λ (ss : List HandlerState). length ss ≤ 8) (sym whole) (omega arith); sound = sound; summed = sums }
-
 pub kept_one : (n : ℕ) (states lent : List HandlerState) (h : ℕ) (d after : HandlerState) (step : HandlerState → HandlerState) (s : Summary) → n ≡ length states → lent ≡ states → h < length states
     → after ≡ step (get_or lent h d) → ((x : HandlerState) → KeepsMarks x (step x)) → AreSound (refill n states (set lent h after)) → AreKept states s → AreKept (refill n states (set lent h after)) s
 kept_one n states lent h d after step s long same within is keeps sound kept =
-    kept_in n states (set lent h after) s long (length-set lent h after ∙ ap length same) sound (summed_one n states lent h d after step s long same within is keeps kept.summed) kept
+    kept_in n states (set lent h after) s s long (length-set lent h after ∙ ap length same) sound (summed_one n states lent h d after step s long same within is keeps kept.summed) kept
 
 pub kept_each : (n : ℕ) (states after : List HandlerState) (step : ℕ → HandlerState → HandlerState) (s : Summary) → n ≡ length states
     → after ≡ map (λ (h : ℕ). step h (state_at states h)) (range_with_len 0 (length states)) → ((h : ℕ) (x : HandlerState) → KeepsMarks x (step h x)) → AreSound (refill n states after) → AreKept states s
     → AreKept (refill n states after) s
 kept_each n states after step s long is keeps sound kept =
-    kept_in n states after s long (ap length is ∙ length-map-range_with_len (λ (h : ℕ). step h (state_at states h)) 0 (length states)) sound (summed_each n states after step s long is keeps kept.summed) kept
+    kept_in n states after s s long (ap length is ∙ length-map-range_with_len (λ (h : ℕ). step h (state_at states h)) 0 (length states)) sound (summed_each n states after step s long is keeps kept.summed) kept
 
 -- ---- whether a slot is marked, handler by handler
 

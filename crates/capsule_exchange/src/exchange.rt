@@ -12,7 +12,7 @@ ghost use Rattle.capsule_exchange.specs.Sound.{AreSound};
 ghost use Rattle.capsule_exchange.specs.Steps.{state_at, aimed_each, asks_upto, hears_status, hears_fragment, completes_in, after_sending, is_marked_in, fragment_in};
 
 use crate::handler_state::{Form, HandlerState};
-use crate::handlers::{aim_each, ask_each, forget_each, held_versions, next_slot};
+use crate::handlers::{aim_each, any_marked, ask_each, forget_each, held_versions, next_slot};
 use crate::summary::Summary;
 use arrayvec::ArrayVec;
 use capsule_codec::Piece;
@@ -178,8 +178,9 @@ impl Exchange {
         ensures { self.new ≡ with_state self.old handler.0 (hears_status version missing (state_at self.old.handlers handler.0)) }
     {
         let state = &mut self.handlers.as_mut_slice()[usize::from(handler.0)];
+        // (what is held stays)
         state.hear_status(version, missing);
-        self.summary = Summary::of(self.handlers.as_slice());
+        self.summary.owes = any_marked(self.handlers.as_slice());
     }
 
     // A fragment of the handler was received: the handler, if its fragments became complete.
@@ -252,8 +253,9 @@ impl Exchange {
         let index = slot % FRAGMENTS_MAX;
         let state = &mut self.handlers.as_mut_slice()[handler];
         let packet = state.fragment(HandlerId(handler as u8), index as u8);
+        // (what is held stays)
         state.unmark(index);
-        self.summary = Summary::of(self.handlers.as_slice());
+        self.summary.owes = any_marked(self.handlers.as_slice());
         self.last = Some(slot as u8);
         packet
     }
