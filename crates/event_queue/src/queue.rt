@@ -23,7 +23,8 @@ pub struct Timed<T: Grouped> {
 #[derive(Drop)]
 pub struct Queue<T: Grouped> {
     until: u32,
-    wheel: Wheel<T>,
+    // (in a place of its own: it is large, and whoever makes a queue moves it)
+    wheel: Box<Wheel<T>>,
 }
 
 impl<T: Grouped> Model for Queue<T> {
@@ -32,19 +33,22 @@ impl<T: Grouped> Model for Queue<T> {
 
     ghost Value = { Agenda T };
 
-    ghost view = { λ q. agenda_of T.group_of q.until q.wheel };
+    ghost view = { λ q. agenda_of T.group_of q.until q.wheel.value };
 
-    ghost invariant = { λ q. IsRightQueue T.group_of q.until q.wheel };
+    ghost invariant = { λ q. IsRightQueue T.group_of q.until q.wheel.value };
 }
 
 impl<T: Grouped> Queue<T> {
     /// An empty queue, which keeps what is scheduled up to `until`.
+    #[inline(never)]
     pub fn new(alloc: Global, until: u32) -> Result<Queue<T>, NoMemory>
         requires { until < 4194304 }
         ensures { IfOk result (λ q. q ≡ record { until = until; now = 0; items = [] }) }
     {
-        let wheel = Wheel::new(alloc)?;
-        Ok(Queue { until, wheel })
+        match Box::new(alloc, Wheel::new(alloc)?) {
+            Ok(wheel) => Ok(Queue { until, wheel }),
+            Err(_) => Err(NoMemory),
+        }
     }
 
     /// Schedules an item, behind all that come by its time. One that would come after `until` is not kept. `NoMemory` leaves
@@ -58,7 +62,7 @@ impl<T: Grouped> Queue<T> {
         if time > self.until {
             return Ok(());
         }
-        self.wheel.put(time, item)
+        self.wheel.as_mut().put(time, item)
     }
 
     /// Takes out the first item with its time. None where there is no item, which changes nothing.
@@ -66,21 +70,20 @@ impl<T: Grouped> Queue<T> {
         ensures first { MatchOption result (self.old.items ≡ []) (λ first. Comes self.old first self.new) }
         ensures none { IfNone result (self.new ≡ self.old) }
     {
-        if self.wheel.is_idle() {
+        let until = self.until;
+        let wheel = self.wheel.as_mut();
+        if wheel.is_idle() {
             return None;
         }
-        let now = self.wheel.at;
-        let item = seek(&mut self.wheel, self.until);
-        match item {
-            Some(item) => Some(Timed {
-                time: self.wheel.at,
-                item,
-            }),
-            None => {
-                self.wheel.rewind(now);
-                None
-            }
-        }
+        let now = wheel.at;
+        let Some(item) = seek(wheel, until) else {
+            wheel.rewind(now);
+            return None;
+        };
+        Some(Timed {
+            time: wheel.at,
+            item,
+        })
     }
 
     /// Cancels the items of a group: the others stay, in their order.
@@ -88,7 +91,7 @@ impl<T: Grouped> Queue<T> {
         requires { group < GROUPS }
         ensures { self.new ≡ record self.old { items = filter (is_other T.group_of group) self.old.items } }
     {
-        self.wheel.cancel(group);
+        self.wheel.as_mut().cancel(group);
     }
 }
 

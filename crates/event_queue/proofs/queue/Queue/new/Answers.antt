@@ -1,5 +1,9 @@
+use Rattle.std.proofs.Common.{sym, ◌∙◌, ap}
+use Rattle.event_queue.specs.View.{agenda_of}
 use Rattle.event_queue.proofs.QueueLemmas.{made}
 use Rattle.event_queue.proofs.queue.Queue.new.Goals as goal
 
-pub returns : goal.returns
-returns g c = made g.T.Grouped.group_of c.args.until c.in_ok-wheel.wheel c.in_ok-wheel.ensures.at c.in_ok-wheel.ensures.none
+pub returns-in-Ok : goal.returns-in-Ok
+returns-in-Ok g c =
+    ap (agenda_of g.T.Grouped.group_of c.args.until) c.in-Ok.ensures.ok
+    ∙ made g.T.Grouped.group_of c.args.until c.in_ok-new.field-0 c.in_ok-new.ensures.at c.in_ok-new.ensures.none
