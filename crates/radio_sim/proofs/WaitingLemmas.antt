@@ -1,6 +1,6 @@
 -- What waits, as a list of events: scheduling, cancelling and coming, by what the queue says of its items.
 use Rattle.std.proofs.Common.{◌≡◌, ◌≢◌, ℕ, ◌<◌, ◌≤◌, Bool, true, false, List, [], ◌∷◌, ◌++◌, map, refl, sym, ◌∙◌, ap, subst, arith, rules, append_assoc, inl, inr}
-use Rattle.std.specs.Prelude.{if◌then◌else◌, filter, Some, None}
+use Rattle.std.specs.Prelude.{if◌then◌else◌, filter, length, Some, None}
 use Rattle.std.specs.List.{cons_option}
 use Rattle.std.proofs.lemmas.Bool.{cases_eq, cases_lt, le-leb, lt-leb}
 use Rattle.std.proofs.lemmas.List.{append-nil}
@@ -17,6 +17,7 @@ use Rattle.radio_sim.specs.declared.waiting.Waiting.TheVariants as waiting
 use Rattle.radio_sim.specs.declared.wire.Wire.{Wire}
 use Rattle.radio_sim.specs.declared.wire.Sending.{Sending}
 use Rattle.radio_sim.specs.Events.{group_of}
+use Rattle.radio_sim.specs.Flight.{InOrder, in_order}
 use Rattle.radio_sim.specs.Waiting.{delivery_event, first_event, later_deliveries, events_of, waiting_group, all_at, awaited, radio_agenda, IsOnTime}
 use Rattle.radio_sim.specs.Wires.{loses, delivered, carried_by}
 
@@ -271,7 +272,7 @@ one_cancelled g x = by x.time x.item
     by t (waiting.Expire node) = refl
     by t (waiting.Pump node) = refl
     by t (waiting.Due node ctx inv value) = refl
-    by t (waiting.Flight first rest) = ap (λ (xs : List (Timed Event)). record { time = t; item = delivery_event first } ∷ xs) (others_stay g t rest.value.items)
+    by t (waiting.Flight f) = ap (λ (xs : List (Timed Event)). record { time = t; item = delivery_event f.first } ∷ xs) (others_stay g t f.rest)
 
 awaited_cancelled : (g : ℕ) (xs : List (Timed Waiting)) → awaited (filter (is_other waiting_group g) xs) ≡ filter (is_other group_of g) (awaited xs)
 awaited_cancelled g [] = refl
@@ -307,11 +308,25 @@ deliveries_events s bytes (w ∷ ws) = by (loses w)
     by true = refl
     by false = refl
 
+pub none_long : (ds : List Delivery) → length ds ≡ 0 → ds ≡ []
+none_long [] empty = refl
+none_long (d ∷ ds) empty = cc
+
+-- deliveries in their order are the deliveries
+pub in_order_list : (ds : List Delivery) → ds ≢ [] → ds ≡ (in_order ds).first ∷ (in_order ds).rest
+in_order_list [] some = absurd (some refl)
+in_order_list (d ∷ ds) some = refl
+
+in_order_events : (ds : List Delivery) → ds ≢ [] → events_of (waiting.Flight (in_order ds)) ≡ map delivery_event ds
+in_order_events ds some = ap (map delivery_event) (sym (in_order_list ds some))
+
 pub delivered_none : (s : Sending) (bytes : ArrayVec ℕ) (ws : List Wire) (none carried : List Delivery) → none ≡ [] → carried ≡ none ++ carried_by s bytes ws → carried ≡ [] → delivered s bytes ws ≡ []
 delivered_none s bytes ws none carried start is empty =
     sym (deliveries_events s bytes ws) ∙ ap (map delivery_event) (sym (is ∙ ap (λ (ds : List Delivery). ds ++ carried_by s bytes ws) start) ∙ empty)
 
-pub delivered_flight : (s : Sending) (bytes : ArrayVec ℕ) (ws : List Wire) (none carried rest : List Delivery) (first : Delivery) (w : Waiting) → none ≡ [] → carried ≡ none ++ carried_by s bytes ws → carried ≡ first ∷ rest
-    → events_of w ≡ delivery_event first ∷ map delivery_event rest → events_of w ≡ delivered s bytes ws
-delivered_flight s bytes ws none carried rest first w start is cut flight =
-    flight ∙ ap (map delivery_event) (sym cut ∙ is ∙ ap (λ (ds : List Delivery). ds ++ carried_by s bytes ws) start) ∙ deliveries_events s bytes ws
+pub delivered_flight : (s : Sending) (bytes : ArrayVec ℕ) (ws : List Wire) (none carried : List Delivery) (f : InOrder) → none ≡ [] → carried ≡ none ++ carried_by s bytes ws → carried ≢ [] → f ≡ in_order carried
+    → events_of (waiting.Flight f) ≡ delivered s bytes ws
+delivered_flight s bytes ws none carried f start is some flight =
+    ap (λ (i : InOrder). events_of (waiting.Flight i)) flight
+    ∙ in_order_events carried some
+    ∙ ap (map delivery_event) (is ∙ ap (λ (ds : List Delivery). ds ++ carried_by s bytes ws) start) ∙ deliveries_events s bytes ws

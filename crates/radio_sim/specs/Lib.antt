@@ -1,4 +1,5 @@
 pub mod Events
+pub mod Flight
 pub mod Waiting
 pub mod Shared
 pub mod Wires

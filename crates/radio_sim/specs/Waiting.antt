@@ -20,7 +20,7 @@ first_event (waiting.Fire node) = event.Fire node
 first_event (waiting.Expire node) = event.Expire node
 first_event (waiting.Pump node) = event.Pump node
 first_event (waiting.Due node ctx inv value) = event.Due node ctx inv value
-first_event (waiting.Flight first rest) = delivery_event first
+first_event (waiting.Flight f) = delivery_event f.first
 
 abbrev pub later_deliveries : Waiting → List Delivery
 later_deliveries (waiting.Planned line) = []
@@ -29,7 +29,7 @@ later_deliveries (waiting.Fire node) = []
 later_deliveries (waiting.Expire node) = []
 later_deliveries (waiting.Pump node) = []
 later_deliveries (waiting.Due node ctx inv value) = []
-later_deliveries (waiting.Flight first rest) = rest.value.items
+later_deliveries (waiting.Flight f) = f.rest
 
 abbrev pub events_of : Waiting → List Event
 events_of w = first_event w ∷ map delivery_event (later_deliveries w)

@@ -17,7 +17,7 @@ ghost use Rattle.radio_sim.specs.Sending.{sent_record, AreLeaving, IsFurther};
 use crate::event::{Cancel, Event};
 use crate::past::PastAir;
 use crate::rooms::Rooms;
-use crate::waiting::{Deliveries, Waiting, no_deliveries};
+use crate::waiting::{Deliveries, Flight, Waiting, no_deliveries};
 use crate::wire::{Sending, Wire, Wires, copy_of};
 use event_queue::{Queue, Timed};
 use mate_journal::{Air, Aired, Airs};
@@ -138,6 +138,28 @@ impl Radio {
         ensures stands { OnOk result ((world : World) (senders : List ℕ) → IsEtherOf world senders self.old
             → IsEtherOf world (senders ++ node ∷ []) self.new) }
     {
+        self.transmit_own(desc, node, copy_of(bytes), at)
+    }
+
+    /// The node sends a packet in the event `at`, as `transmit` does. Its bytes are moved into the record, and not copied.
+    pub fn transmit_own(
+        &mut self,
+        desc: &Description,
+        node: u8,
+        bytes: PacketBytes,
+        at: Stamp,
+    ) -> Result<(), NoMemory>
+        requires ahead { self.old.agenda.now ≤ at.time }
+        requires hour { at.time ≤ HOUR }
+        requires few { length self.old.air < 4000000000 }
+        ensures sends { MatchResult result (λ _. self.new
+            ≡ transmitted self.old (record { at = at; node = node; number = self.old.sent + 1 }) bytes) (λ _. self.new ≡ self.old) }
+        ensures due { OnOk result (AddsAll self.old.agenda (at.time + self.old.delay)
+            (delivered (record { at = at; node = node; number = self.old.sent + 1 }) bytes (wires_of self.old node)) self.new.agenda) }
+        ensures now { self.new.agenda.now ≡ self.old.agenda.now }
+        ensures stands { OnOk result ((world : World) (senders : List ℕ) → IsEtherOf world senders self.old
+            → IsEtherOf world (senders ++ node ∷ []) self.new) }
+    {
         let sending = Sending {
             at,
             node,
@@ -171,12 +193,28 @@ impl Radio {
         ensures others { self.new ≡ record self.old { agenda = self.new.agenda } }
         ensures none { IfNone result (self.new ≡ self.old) }
     {
+        let mut event = Event::Planned(0);
+        let time = self.next_into(&mut event)?;
+        Some((time, event))
+    }
+
+    /// Takes out the first event, in the place of another one: its time. None if no event waits, which changes nothing. So the parts of an
+    /// event are written where they are read: a processor waits if it reads as a whole what it just wrote in parts.
+    pub fn next_into(&mut self, event: &mut Event) -> Option<u32>
+        ensures first { MatchOption result (self.old.agenda.items ≡ [])
+            (λ time. Comes self.old.agenda (record { time = time; item = event.new }) self.new.agenda) }
+        ensures others { self.new ≡ record self.old { agenda = self.new.agenda } }
+        ensures none { IfNone result (self.new ≡ self.old) }
+        ensures kept { IfNone result (event.new ≡ event.old) }
+    {
         if let Some(delivery) = self.coming.as_mut().pop_front() {
-            return Some((self.came, delivery.into_event()));
+            *event = delivery.into_event();
+            return Some(self.came);
         }
         let Timed { time, item } = self.queue.next()?;
         self.came = time;
-        Some((time, come(item, &mut self.coming, &mut self.rooms)))
+        *event = come(item, &mut self.coming, &mut self.rooms);
+        Some(time)
     }
 
     /// Cancels events of a node: the others stay, in their order.
@@ -254,8 +292,12 @@ fn come(waiting: Waiting, coming: &mut Deliveries, rooms: &mut Rooms) -> Event
             inv,
             value,
         },
-        Waiting::Flight { first, rest } => {
-            rooms.keep(mem::replace(coming, rest));
+        Waiting::Flight(flight) => {
+            let mut list = flight.into_list();
+            let Some(first) = list.as_mut().pop_front() else {
+                unreachable!()
+            };
+            rooms.keep(mem::replace(coming, list));
             first.into_event()
         }
     }
@@ -266,7 +308,7 @@ fn send(
     wires: &Wires,
     desc: &Description,
     sending: Sending,
-    bytes: &PacketBytes,
+    bytes: PacketBytes,
     delay: u32,
     rooms: &mut Rooms,
     queue: &mut Queue<Waiting>,
@@ -275,31 +317,31 @@ fn send(
     requires ahead { queue.old.now ≤ sending.at.time }
     requires room { sending.at.time + delay < 2 ^ 32 }
     ensures queue { MatchResult result (λ _. (coming : List Coming) → radio_agenda coming queue.new
-        ≡ scheduled_all (radio_agenda coming queue.old) (sending.at.time + delay) (delivered sending bytes.now wires.now))
+        ≡ scheduled_all (radio_agenda coming queue.old) (sending.at.time + delay) (delivered sending bytes wires.now))
         (λ _. queue.new ≡ queue.old) }
-    ensures air { IfOk result (λ _. air.new ≡ air.old ++ sent_record sending bytes.now ∷ [] ++ losts sending wires.now) }
+    ensures air { IfOk result (λ _. air.new ≡ air.old ++ sent_record sending bytes ∷ [] ++ losts sending wires.now) }
     ensures kept { IsFurther air.old air.new }
     ensures due { OnOk result ((coming : List Coming) → AddsAll (radio_agenda coming queue.old) (sending.at.time + delay)
-        (delivered sending bytes.now wires.now) (radio_agenda coming queue.new)) }
+        (delivered sending bytes wires.now) (radio_agenda coming queue.new)) }
     ensures now { queue.new.now ≡ queue.old.now }
     ensures ahead { IsOnTime queue.old → IsOnTime queue.new }
 {
+    let packet = rooms.packet(desc, &bytes)?;
     air.push(Aired {
         stamp: sending.at,
         node: sending.node,
         air: Air::Sent {
             number: sending.number,
-            bytes: copy_of(bytes),
+            bytes,
         },
     })?;
-    let packet = rooms.packet(desc, bytes)?;
-    let mut rest = rooms.take()?;
-    wires.carry(sending, &packet, air, rest.as_mut())?;
-    let Some(first) = rest.as_mut().pop_front() else {
-        rooms.keep(rest);
+    let mut list = rooms.take()?;
+    wires.carry(sending, &packet, air, list.as_mut())?;
+    if list.as_ref().is_empty() {
+        rooms.keep(list);
         return Ok(());
-    };
-    let flight = Waiting::of_flight(first, rest);
+    }
+    let flight = Waiting::Flight(Flight::of(list));
     queue.schedule(sending.at.time + delay, flight)?;
     Ok(())
 }

@@ -12,8 +12,8 @@ use vm_desc::Description;
 #[derive(Drop)]
 pub struct Rooms {
     alloc: Global,
-    /// The place of deliveries that came.
-    deliveries: Option<Deliveries>,
+    /// The places of deliveries that came.
+    deliveries: Vec<Deliveries>,
     /// The packet that was sent last. Where it came everywhere, the next one has its place.
     packet: Option<SharedPacket>,
 }
@@ -22,7 +22,7 @@ impl Rooms {
     pub fn new(alloc: Global) -> Rooms {
         Rooms {
             alloc,
-            deliveries: None,
+            deliveries: Vec::new(alloc),
             packet: None,
         }
     }
@@ -49,15 +49,15 @@ impl Rooms {
     pub fn take(&mut self) -> Result<Deliveries, NoMemory>
         ensures { IfOk result (λ list. list.value.items ≡ []) }
     {
-        match self.deliveries.take() {
+        match self.deliveries.pop() {
             Some(list) => Ok(cleared(list)),
             None => no_deliveries(self.alloc),
         }
     }
 
-    /// Keeps the list, whose deliveries came.
+    /// Keeps the list, whose deliveries came, if there is memory to keep it.
     pub fn keep(&mut self, list: Deliveries) {
-        self.deliveries = Some(list);
+        let _kept = self.deliveries.push(list);
     }
 }
 

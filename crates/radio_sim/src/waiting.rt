@@ -1,7 +1,8 @@
 //! What waits in a radio's queue: one event, or all that a transmission delivers.
 
-ghost use Rattle.std.specs.Prelude.{◌≡◌, [], ◌∷◌, map, IfOk};
+ghost use Rattle.std.specs.Prelude.{◌≡◌, ◌≢◌, [], ◌∷◌, map, IfOk};
 ghost use Rattle.radio_sim.specs.Events.{cancelled_by};
+ghost use Rattle.radio_sim.specs.Flight.{in_order};
 ghost use Rattle.radio_sim.specs.Waiting.{delivery_event, first_event, events_of};
 
 use crate::event::{Cancel, Event};
@@ -10,6 +11,7 @@ use event_queue::Grouped;
 use mate_num::{ContextId, HandlerId, NoMemory};
 use std::alloc::Global;
 use std::collections::VecDeque;
+use std::marker::Model;
 
 /// The packet of transmission `number` on its way over the link at this position.
 #[derive(Drop)]
@@ -50,6 +52,51 @@ pub fn no_deliveries(alloc: Global) -> Result<Deliveries, NoMemory>
     }
 }
 
+/// What a transmission delivers, over one link at least, in the order of the links.
+#[derive(Drop)]
+pub struct Flight {
+    list: Deliveries,
+}
+
+impl Model for Flight {
+    ghost use Rattle.std.specs.Prelude.{◌≢◌, []};
+    ghost use Rattle.radio_sim.specs.Flight.{InOrder, in_order};
+
+    ghost Value = { InOrder };
+
+    ghost view = { λ f. in_order f.list.value.items };
+
+    ghost invariant = { λ f. f.list.value.items ≢ [] };
+}
+
+impl Flight {
+    /// The deliveries, of which there is one at least.
+    pub fn of(list: Deliveries) -> Flight
+        requires { list.value.items ≢ [] }
+        ensures { result ≡ in_order list.value.items }
+    {
+        Flight { list }
+    }
+
+    /// One delivery alone. It isn't inlined, so that whatever else is scheduled is scheduled in few instructions.
+    #[inline(never)]
+    fn alone(alloc: Global, delivery: Delivery) -> Result<Flight, NoMemory>
+        ensures { IfOk result (λ flight. flight ≡ record { first = delivery; rest = [] }) }
+    {
+        let mut list = no_deliveries(alloc)?;
+        list.as_mut().push_back(delivery)?;
+        Ok(Flight::of(list))
+    }
+
+    /// The deliveries again.
+    pub fn into_list(self) -> Deliveries
+        ensures { result.value.items ≡ self.first ∷ self.rest }
+    {
+        let Flight { list } = self;
+        list
+    }
+}
+
 /// What waits for its time: an event that isn't a delivery, or all deliveries of a transmission, which come one after another.
 #[derive(Drop)]
 pub enum Waiting {
@@ -73,11 +120,7 @@ pub enum Waiting {
         inv: u32,
         value: i16,
     },
-    /// What a transmission delivers, over one link at least, in the order of the links.
-    Flight {
-        first: Delivery,
-        rest: Deliveries,
-    },
+    Flight(Flight),
 }
 
 impl Waiting {
@@ -112,17 +155,9 @@ impl Waiting {
                     number,
                     bytes,
                 };
-                let rest = no_deliveries(alloc)?;
-                Ok(Waiting::of_flight(first, rest))
+                Ok(Waiting::Flight(Flight::alone(alloc, first)?))
             }
         }
-    }
-
-    /// The deliveries wait.
-    pub fn of_flight(first: Delivery, rest: Deliveries) -> Waiting
-        ensures { events_of result ≡ delivery_event first ∷ map delivery_event rest.value.items }
-    {
-        Waiting::Flight { first, rest }
     }
 
     /// Which cancel takes the events, if one does.
@@ -133,7 +168,7 @@ impl Waiting {
             Waiting::Fire { node } | Waiting::Expire { node } => Some(Cancel::Timer(*node)),
             Waiting::Pump { node } => Some(Cancel::Pump(*node)),
             Waiting::Due { node, .. } => Some(Cancel::Answers(*node)),
-            Waiting::Planned(_) | Waiting::Period { .. } | Waiting::Flight { .. } => None,
+            Waiting::Planned(_) | Waiting::Period { .. } | Waiting::Flight(_) => None,
         }
     }
 }

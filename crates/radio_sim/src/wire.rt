@@ -152,7 +152,8 @@ impl Wires {
 pub fn copy_of(bytes: &PacketBytes) -> PacketBytes
     ensures { result ≡ bytes.now }
 {
-    let Ok(copy) = PacketBytes::try_from(bytes.as_slice()) else {
+    let mut copy = PacketBytes::new();
+    let Ok(()) = copy.try_extend_from_slice(bytes.as_slice()) else {
         unreachable!()
     };
     copy

@@ -5,7 +5,7 @@ use Rattle.event_queue.specs.Agenda.{Comes}
 use Rattle.radio_sim.specs.Radio.{Ether}
 use Rattle.radio_sim.specs.Waiting.{radio_agenda}
 use Rattle.radio_sim.proofs.WaitingLemmas.{comes_left, comes_next}
-use Rattle.radio_sim.proofs.radio.Radio.next.Goals as goal
+use Rattle.radio_sim.proofs.radio.Radio.next_into.Goals as goal
 
 pub returns-in-Some-clause-first : goal.returns-in-Some-clause-first
 returns-in-Some-clause-first c =

@@ -7,7 +7,7 @@ use Rattle.radio_sim.specs.Radio.{Ether, wires_of, transmitted, IsEtherOf}
 use Rattle.radio_sim.specs.Waiting.{radio_agenda}
 use Rattle.radio_sim.specs.Wires.{delivered}
 use Rattle.radio_sim.proofs.RadioLemmas.{turned_read, stands_more, on-ok, if-ok, match-ok, sends-so}
-use Rattle.radio_sim.proofs.radio.Radio.transmit.Goals as goal
+use Rattle.radio_sim.proofs.radio.Radio.transmit_own.Goals as goal
 
 pub returns-clause-sends : goal.returns-clause-sends
 returns-clause-sends c =
@@ -20,8 +20,8 @@ returns-clause-sends c =
     let ws = c.index_mut-wires.result.now in
     let nodes = c.self.invariant.nodes in
     let ws_is : ws ≡ wires_of before c.args.node = c.index_mut-wires.ensures.value ∙ get_or_default i.wires.items c.args.node ws [] (omega (arith, low, nodes)) in
-    subst (λ (e : Ether). after ≡ transmitted e (record { at = c.args.at; node = c.args.node; number = e.sent + 1 }) c.args.bytes.now) c.self.view_is
-    (sends-so before s c.args.bytes.now i.past.air i.air c.send-result.new.air ws c.turn.new.self (radio_agenda i.coming.value.items c.send-result.new.queue) refl ws_is
+    subst (λ (e : Ether). after ≡ transmitted e (record { at = c.args.at; node = c.args.node; number = e.sent + 1 }) c.args.bytes) c.self.view_is
+    (sends-so before s c.args.bytes i.past.air i.air c.send-result.new.air ws c.turn.new.self (radio_agenda i.coming.value.items c.send-result.new.queue) refl ws_is
     (match-ok c.send-result.result _ _ ok c.send-result.ensures.queue i.coming.value.items) (if-ok c.send-result.result _ ok c.send-result.ensures.air) c.turn.ensures)
 
 pub returns-clause-due : goal.returns-clause-due
@@ -34,8 +34,8 @@ returns-clause-due c =
     let nodes = c.self.invariant.nodes in
     let ws_is : ws ≡ get_or i.wires.items c.args.node [] = c.index_mut-wires.ensures.value ∙ get_or_default i.wires.items c.args.node ws [] (omega (arith, low, nodes)) in
     let due = on-ok c.send-result.result _ ok c.send-result.ensures.due i.coming.value.items in
-    subst (λ (e : Ether). AddsAll e.agenda (c.args.at.time + e.delay) (delivered (record { at = c.args.at; node = c.args.node; number = e.sent + 1 }) c.args.bytes.now (wires_of e c.args.node)) (radio_agenda i.coming.value.items c.send-result.new.queue)) c.self.view_is
-    (subst (λ (us : List Wire). AddsAll (radio_agenda i.coming.value.items i.queue) (c.args.at.time + i.delay) (delivered s c.args.bytes.now us) (radio_agenda i.coming.value.items c.send-result.new.queue)) ws_is due)
+    subst (λ (e : Ether). AddsAll e.agenda (c.args.at.time + e.delay) (delivered (record { at = c.args.at; node = c.args.node; number = e.sent + 1 }) c.args.bytes (wires_of e c.args.node)) (radio_agenda i.coming.value.items c.send-result.new.queue)) c.self.view_is
+    (subst (λ (us : List Wire). AddsAll (radio_agenda i.coming.value.items i.queue) (c.args.at.time + i.delay) (delivered s c.args.bytes us) (radio_agenda i.coming.value.items c.send-result.new.queue)) ws_is due)
 
 pub returns-clause-stands : goal.returns-clause-stands
 returns-clause-stands c = λ world senders stood.
