@@ -1,24 +1,67 @@
 //! The calls of a node's scripts.
 
-ghost use Rattle.std.specs.Prelude.{◌≡◌, ◌+◌, ◌<◌, ◌≤◌, ℕ, [], ◌∷◌, ◌++◌, List, length, min, All, slice_index, slice_set};
+ghost use Rattle.std.specs.Prelude.{◌≡◌, ◌+◌, ◌<◌, ◌≤◌, ℕ, [], ◌∷◌, ◌++◌, List, length, min, All, IfOk, slice_index, slice_set};
 ghost use Rattle.mate_num.specs.declared.bounds.TheConstants.{HOUR};
 ghost use Rattle.mate_num.specs.declared.id.FunId.{FunId as FunName};
 ghost use Rattle.rand_pcg.specs.Pcg.{pcg32};
 ghost use Rattle.world_rules.specs.World.{World, series_in};
 ghost use Rattle.world_rules.specs.State.{series_value};
 
-use arrayvec::ArrayVec;
-use mate_num::{FUNCTIONS_MAX, FunId};
+use mate_num::{FunId, NoMemory};
 use rand_core::utils::NextWord;
 use rand_pcg::Lcg64Xsh32;
+use std::alloc::Global;
+use std::marker::Model;
 use vm_desc::{Description, FunKind};
 use world_script::Series;
+
+/// How often each function of a machine was called, as far as 64 bits count.
+#[derive(Drop)]
+pub struct Counts {
+    list: Vec<u64>,
+}
+
+impl Model for Counts {
+    ghost use Rattle.sim_air.specs.Counts.{CountList};
+
+    ghost Value = { CountList };
+
+    ghost view = { λ c. record { items = c.list.items } };
+}
+
+impl Counts {
+    /// No call of any of so many functions. It takes memory for so many.
+    fn none(alloc: Global, functions: usize) -> Result<Counts, NoMemory>
+        ensures count { IfOk result (λ counts. length counts.items ≡ functions) }
+        ensures none { IfOk result (λ counts. All (λ n. n ≡ 0) counts.items) }
+    {
+        let mut list = Vec::with_capacity(alloc, functions)?;
+        for _ in 0..functions {
+            list.push(0)?;
+        }
+        Ok(Counts { list })
+    }
+
+    /// Counts a call of the function: how many calls of it were counted before.
+    fn count(&mut self, fun: FunId) -> u64
+        requires { fun.0 < length self.old.items }
+        ensures before { result ≡ slice_index self.old.items fun.0 }
+        ensures after { self.new ≡ record {
+          items = slice_set self.old.items fun.0 (min (slice_index self.old.items fun.0 + 1) u64.MAX);
+        } }
+    {
+        let count = &mut self.list[usize::from(fun.0)];
+        let before = *count;
+        *count = before.saturating_add(1);
+        before
+    }
+}
 
 /// What the scripts of a node called so far.
 #[derive(Drop)]
 pub struct Calls {
-    /// How often each function was called, as far as 64 bits count.
-    pub counts: ArrayVec<u64, FUNCTIONS_MAX>,
+    /// How often each function was called.
+    pub counts: Counts,
     /// The random words that are left to the node.
     pub words: Lcg64Xsh32,
 }
@@ -35,13 +78,13 @@ impl Calls {
     ghost use Rattle.sim_air.specs.Calls.{AreCallsOf, HasSensors, call_answer, value_by, words_past};
 
     /// Nothing was called.
-    pub fn new(desc: &Description, random: u64, node: u8) -> Calls
-        ensures { (w : World) → w.description ≡ desc.now → w.random ≡ random → AreCallsOf w node [] result }
+    pub fn new(alloc: Global, desc: &Description, random: u64, node: u8) -> Result<Calls, NoMemory>
+        ensures { IfOk result (λ calls. (w : World) → w.description ≡ desc.now → w.random ≡ random → AreCallsOf w node [] calls) }
     {
-        Calls {
-            counts: no_counts(desc.functions.len()),
+        Ok(Calls {
+            counts: Counts::none(alloc, desc.functions.len())?,
             words: Lcg64Xsh32::new(random, 2 * u64::from(node) + 1),
-        }
+        })
     }
 
     /// The function is called once more, now: the answer to this call.
@@ -104,24 +147,8 @@ impl Calls {
           };
         } }
     {
-        let count = &mut self.counts.as_mut_slice()[usize::from(fun.0)];
-        let before = *count;
-        *count = before.saturating_add(1);
-        before
+        self.counts.count(fun)
     }
-}
-
-/// No call of any of so many functions.
-fn no_counts(functions: usize) -> ArrayVec<u64, FUNCTIONS_MAX>
-    requires { functions ≤ 32 }
-    ensures count { length result.items ≡ functions }
-    ensures none { All (λ n. n ≡ 0) result.items }
-{
-    let mut counts: ArrayVec<u64, FUNCTIONS_MAX> = ArrayVec::new();
-    for _ in 0..functions {
-        counts.push(0);
-    }
-    counts
 }
 
 /// The value at a place of the node's series for the function. The last value goes on; without a series it is 0.

@@ -39,7 +39,7 @@ pub fn send(
     ensures steady { OnOk result (IsSteady node 1 radio.old radio.new) }
 {
     let bytes = encode(desc, packet);
-    radio.transmit(desc, node, &bytes, at)?;
+    radio.transmit_own(desc, node, bytes, at)?;
     Ok(())
 }
 

@@ -53,7 +53,7 @@ impl Mote {
             timer: Trickle::start(desc.trickle, random, node, 0),
             exchange: Exchange::new(alloc, desc.handlers.len() as u8)?,
             pumps: false,
-            calls: Calls::new(desc, random, node),
+            calls: Calls::new(alloc, desc, random, node)?,
         })
     }
 

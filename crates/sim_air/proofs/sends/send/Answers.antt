@@ -14,9 +14,9 @@ returns-clause-sends c = λ w senders same stood.
     let pack : List ℕ → ArrayVec ℕ = λ bs. record { items = bs } in
     let bytes_are : c.encode-bytes.result ≡ sent_bytes w c.args.packet.now =
     ap pack (c.encode-bytes.ensures.bytes ∙ ap (λ (d : Description). packet_bytes d.vm_id c.args.packet.now) (sym same)) in
-    sends-one w c.args.node c.args.at senders c.args.packet.now c.encode-bytes.result c.args.radio.now c.transmit.new.self low stood
+    sends-one w c.args.node c.args.at senders c.args.packet.now c.encode-bytes.result c.args.radio.now c.transmit_own.new.self low stood
     (record { right = subst (λ (d : Description). IsRightPacket (length d.handlers.items) c.args.packet.now) (sym same) c.requires.right; ranges = c.encode-bytes.ensures.ranges })
-    bytes_are c.in_ok-transmit.ensures.sends c.in_ok-transmit.ensures.due (c.in_ok-transmit.ensures.stands (air_script w) senders stood.stands)
+    bytes_are c.in_ok-transmit_own.ensures.sends c.in_ok-transmit_own.ensures.due (c.in_ok-transmit_own.ensures.stands (air_script w) senders stood.stands)
 
 pub returns-clause-steady : goal.returns-clause-steady
-returns-clause-steady c = steady-one _ c.encode-bytes.result c.args.radio.now c.transmit.new.self c.in_ok-transmit.ensures.sends
+returns-clause-steady c = steady-one _ c.encode-bytes.result c.args.radio.now c.transmit_own.new.self c.in_ok-transmit_own.ensures.sends

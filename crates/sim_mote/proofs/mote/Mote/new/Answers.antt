@@ -11,7 +11,7 @@ start-requires-clause-settings c = trickle_rules c.description-desc.result.now
 
 pub returns : goal.returns
 returns c =
-    let m : Mote = record { node = c.in_ok-on.field-0; timer = c.start.result; exchange = c.in_ok-new.field-0; pumps = false; calls = c.new-2.result } in
+    let m : Mote = record { node = c.in_ok-on.field-0; timer = c.start.result; exchange = c.in_ok-new.field-0; pumps = false; calls = c.in_ok-new-2.field-0 } in
     let P : Description → Type 0 = λ d. BeginsMote d c.args.random c.args.node m in
     subst P c.description-desc.ensures record {
       description = c.in_ok-on.ensures.0 ∙ c.in_ok-share.ensures ∙ sym c.description-desc.ensures;
@@ -21,5 +21,5 @@ returns c =
       timer = c.start.ensures.first;
       exchange = c.in_ok-new.ensures ∙ ap (λ (n : ℕ). knowledge n []) c.len.ensures.value;
       pumps = refl;
-      calls = c.new-2.ensures;
+      calls = c.in_ok-new-2.ensures;
     }
