@@ -43,13 +43,35 @@ pub fn sum_world(
     requires { AreProgramsOfWorld desc.now world.now programs.now }
     ensures { IfOk result (IsRunSummary desc.now (IsReportOfWorld desc.now world.now programs.now)) }
 {
+    let mut tally = RunTally::new(alloc, world.nodes, desc.handlers.len())?;
+    let sim = Simulation::start(alloc, desc, world, programs)?;
+    logs_are_kept(sim.motes.as_slice());
+    count_event(&mut tally, &sim, 0);
+    sum_started(alloc, desc, world, programs, sim, tally)
+}
+
+/// Runs a world whose start was counted. It isn't inlined, so that it takes no room on the stack yet where that is deepest: while programs
+/// are made ready.
+#[inline(never)]
+fn sum_started(
+    alloc: Global,
+    desc: &Description,
+    world: &World,
+    programs: &Programs,
+    mut sim: Simulation,
+    mut tally: RunTally,
+) -> Result<Summary, NoMemory>
+    requires right { AreProgramsOfWorld desc.now world.now programs.now }
+    requires starts { StartsCounted (length desc.now.handlers.items) (code_world desc.now world.now programs.now) sim tally }
+    ensures { IfOk result (IsRunSummary desc.now (IsReportOfWorld desc.now world.now programs.now)) }
+{
     reports_keep_the_promise();
     states_are_sound();
-    let (mut sim, mut tally) = start_counted(alloc, desc, world, programs)?;
     let mut room = NodeLog::new(alloc);
     let mut effect = Effect::none();
+    let mut event = Event::Planned(0);
     for events in 0..u64::MAX {
-        let Some((time, event)) = sim.radio.next() else {
+        let Some(time) = sim.radio.next_into(&mut event) else {
             return sum_ending(desc, world, programs, sim, events, tally);
         };
         if sim.records >= RECORDS_MAX {
@@ -73,24 +95,6 @@ pub fn sum_world(
     }
     // (more events than 64 bits count)
     Err(NoMemory)
-}
-
-/// The world before its first event, and what is counted of its start.
-fn start_counted(
-    alloc: Global,
-    desc: &Description,
-    world: &World,
-    programs: &Programs,
-) -> Result<(Simulation, RunTally), NoMemory>
-    requires { AreProgramsOfWorld desc.now world.now programs.now }
-    ensures { IfOk result (λ made. StartsCounted (length desc.now.handlers.items) (code_world desc.now world.now programs.now) made.0
-        made.1) }
-{
-    let mut tally = RunTally::new(alloc, world.nodes, desc.handlers.len())?;
-    let sim = Simulation::start(alloc, desc, world, programs)?;
-    logs_are_kept(sim.motes.as_slice());
-    count_event(&mut tally, &sim, 0);
-    Ok((sim, tally))
 }
 
 /// The event comes, with this stamp, and what was recorded in it is counted. If a next one may come, it is then forgotten, and the room of
@@ -177,6 +181,7 @@ fn sum_ending(
 }
 
 /// Counts what a node and the radio have at hand.
+#[inline(always)]
 fn count_event(tally: &mut RunTally, sim: &Simulation, node: u8)
     requires node { node < length sim.now.motes.items }
     requires count { length tally.old.nodes.items ≡ length sim.now.motes.items }

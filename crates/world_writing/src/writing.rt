@@ -85,8 +85,9 @@ pub fn write_run<S: Sink>(
     }
     let mut room = NodeLog::new(alloc);
     let mut effect = Effect::none();
+    let mut event = Event::Planned(0);
     for events in 0..u64::MAX {
-        let Some((time, event)) = sim.radio.next() else {
+        let Some(time) = sim.radio.next_into(&mut event) else {
             return write_ending(desc, world, programs, sim, events, records, out);
         };
         if sim.records >= RECORDS_MAX {

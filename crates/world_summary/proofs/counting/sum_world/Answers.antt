@@ -1,96 +1,30 @@
-use Rattle.std.proofs.Common.{ℕ, ◌≤◌, false, length, refl, sym, ◌∙◌, ap, subst, arith, inr}
-use Rattle.mate_journal.specs.NodeScript.{Whole, Full}
-use Rattle.radio_sim.specs.Radio.{Ether}
-use Rattle.world_run_laws.specs.Promise.{IsReportOfWorld}
-use Rattle.world_state_laws.specs.Coming.{code_world}
-use Rattle.sim_run.specs.Reporting.{told_report}
-use Rattle.sim_run.specs.declared.simulation.Simulation.{Simulation}
-use Rattle.sim_run.proofs.RangeLemmas.{same-ranges, report-ranges, few-of}
-use Rattle.sim_run.proofs.RunLemmas.{behind, is-done}
-use Rattle.world_pieces.proofs.WritingLemmas.{at-end, full-report-now}
-use Rattle.world_summary.proofs.CountingLemmas.{tallied-air, run-summary}
+use Rattle.std.proofs.Common.{length, sym, ◌∙◌, subst, arith}
+use Rattle.report_summary.specs.Summary.{IsNewTally}
+use Rattle.sim_run.specs.Telling.{LogsAreKept}
+use Rattle.world_summary.proofs.CountingLemmas.{start-tallied, start-few}
 use Rattle.world_summary.proofs.counting.sum_world.Goals as goal
 
-pub loop-events-init : goal.loop-events-init
-loop-events-init c =
-    let s = c.in_ok-sim.ensures in
+pub count_event-requires-clause-node : goal.count_event-requires-clause-node
+count_event-requires-clause-node c =
+    let some = c.requires.world.nodes_low in
+    let count = (c.in_ok-sim.ensures.stands c.args.programs.now).nodes in
+    omega (arith, some, count)
+
+pub count_event-requires-clause-count : goal.count_event-requires-clause-count
+count_event-requires-clause-count c = c.in_ok-tally.ensures.count ∙ sym (c.in_ok-sim.ensures.stands c.args.programs.now).nodes
+
+pub count_event-requires-clause-few : goal.count_event-requires-clause-few
+count_event-requires-clause-few c = start-few c.len.result c.args.world.now.nodes c.in_ok-tally.tally c.in_ok-tally.ensures
+
+pub sum_started-requires-clause-starts : goal.sum_started-requires-clause-starts
+sum_started-requires-clause-starts c =
+    let n = length c.args.desc.now.handlers.items in
+    let new = subst (λ k. IsNewTally k c.args.world.now.nodes c.in_ok-tally.tally) c.len.ensures.value c.in_ok-tally.ensures in
     record {
-      stands = s.stands;
-      kept = s.kept;
-      empty = record { entries = c.new-room.ensures.entries; images = c.new-room.ensures.images; stores = c.new-room.ensures.stores };
-      plain = c.none-effect.ensures;
-      ranges = s.ranges;
-      counted = s.counted;
-      small = s.small;
+      stands = c.in_ok-sim.ensures.stands c.args.programs.now;
+      kept = subst LogsAreKept c.as_slice.ensures.value c.logs_are_kept.ensures;
+      ranges = c.in_ok-sim.ensures.ranges;
+      counted = c.count_event.ensures.counted n
+          (start-tallied n c.args.world.now.nodes c.in_ok-tally.tally c.in_ok-sim.sim new (c.in_ok-sim.ensures.stands c.args.programs.now).nodes c.in_ok-sim.ensures.whole c.in_ok-sim.ensures.empty);
+      small = c.count_event.ensures.small;
     }
-
-pub sum_ending-requires-clause-ends : goal.sum_ending-requires-clause-ends
-sum_ending-requires-clause-ends c =
-    let b = c.loop-events.invariant.stands in
-    let w = code_world c.args.desc.now c.args.world.now c.args.programs.now in
-    at-end w Whole c.loop-events.events c.loop-events.sim (record { radio = c.next.new.self; motes = c.loop-events.sim.motes; records = c.loop-events.sim.records }) b
-    (is-done w b.moments c.loop-events.sim.radio b.radio c.in_default.ensures.first) c.loop-events.invariant.kept (ap (λ (e : Ether). e.air) c.next.ensures.others) refl
-
-pub sum_ending-requires-clause-ranges : goal.sum_ending-requires-clause-ranges
-sum_ending-requires-clause-ranges c =
-    same-ranges c.loop-events.sim (record { radio = c.next.new.self; motes = c.loop-events.sim.motes; records = c.loop-events.sim.records }) refl (ap (λ (e : Ether). e.air) c.next.ensures.others)
-    (ap (λ (e : Ether). e.gone) c.next.ensures.others) c.loop-events.invariant.ranges
-
-pub sum_ending-requires-clause-counted : goal.sum_ending-requires-clause-counted
-sum_ending-requires-clause-counted c =
-    tallied-air (length c.args.desc.now.handlers.items) c.loop-events.tally c.loop-events.sim (record { radio = c.next.new.self; motes = c.loop-events.sim.motes; records = c.loop-events.sim.records })
-    (ap (λ (e : Ether). e.air) c.next.ensures.others) refl c.loop-events.invariant.counted
-
-pub returns-then-sim-ge-RECORDS_MAX : goal.returns-then-sim-ge-RECORDS_MAX
-returns-then-sim-ge-RECORDS_MAX c =
-    let b = c.loop-events.invariant.stands in
-    let d = c.args.desc.now in
-    let script = c.args.world.now in
-    let ps = c.args.programs.now in
-    let w = code_world d script ps in
-    let sim : Simulation = record { radio = c.next.new.self; motes = c.loop-events.sim.motes; records = c.loop-events.sim.records } in
-    let air = ap (λ (e : Ether). e.air) c.next.ensures.others in
-    let n = behind w b.moments c.loop-events.sim.radio c.next.new.self c.in-Some.time c.in-Some.event c.requires.world.nodes_high (c.states_are_sound.ensures.dues d script ps c.requires) b.come b.radio c.in-Some.ensures.first
-    c.next.ensures.others in
-    let e = at-end w Full c.loop-events.events c.loop-events.sim sim b (subst (λ (k : ℕ). 1000000 ≤ k) b.records c.if-sim-ge-RECORDS_MAX.true, c.in-Some.time, n.cause, n.within, n.next) c.loop-events.invariant.kept air refl in
-    let is = full-report-now d script ps e.moments c.loop-events.events sim e.come e.air e.nodes e.each (sym e.count) e.kept e.ends in
-    let ranges = report-ranges sim c.loop-events.events false (same-ranges c.loop-events.sim sim refl air (ap (λ (x : Ether). x.gone) c.next.ensures.others) c.loop-events.invariant.ranges) (few-of c.loop-events.events c.loop-events-test.true) in
-    let count = b.nodes in
-    let high = c.requires.world.nodes_high in
-    run-summary d (IsReportOfWorld d script ps) c.loop-events.tally sim c.loop-events.events false c.summary.result
-    (tallied-air (length d.handlers.items) c.loop-events.tally c.loop-events.sim sim air refl c.loop-events.invariant.counted) c.loop-events.invariant.small (omega (arith, count, high))
-    (inr (c.reports_keep_the_promise.ensures d script ps Full (told_report sim c.loop-events.events false) c.requires is ranges)) c.summary.ensures
-
-pub count_step-requires-clause-stands : goal.count_step-requires-clause-stands
-count_step-requires-clause-stands c =
-    let b = c.loop-events.invariant.stands in
-    let count = b.count in
-    let n = behind (code_world c.args.desc.now c.args.world.now c.args.programs.now) b.moments c.loop-events.sim.radio c.next.new.self c.in-Some.time c.in-Some.event c.requires.world.nodes_high
-    (c.states_are_sound.ensures.dues c.args.desc.now c.args.world.now c.args.programs.now c.requires) b.come b.radio c.in-Some.ensures.first c.next.ensures.others in
-    record {
-      moments = b.moments;
-      cause = n.cause;
-      come = b.come;
-      next = n.next;
-      in_time = n.within;
-      room = c.if-sim-ge-RECORDS_MAX.false;
-      is = n.is;
-      stamp = omega (arith, count);
-      taken = n.taken;
-      air = ap (λ (e : Ether). e.air) c.next.ensures.others ∙ b.radio.air;
-      nodes = b.nodes;
-      motes = b.motes;
-      records = b.records;
-      fit = b.radio.fit;
-      well_formed = b.well_formed;
-    }
-
-pub count_step-requires-clause-ranges : goal.count_step-requires-clause-ranges
-count_step-requires-clause-ranges c =
-    same-ranges c.loop-events.sim (record { radio = c.next.new.self; motes = c.loop-events.sim.motes; records = c.loop-events.sim.records }) refl (ap (λ (e : Ether). e.air) c.next.ensures.others)
-    (ap (λ (e : Ether). e.gone) c.next.ensures.others) c.loop-events.invariant.ranges
-
-pub count_step-requires-clause-counted : goal.count_step-requires-clause-counted
-count_step-requires-clause-counted c =
-    tallied-air (length c.args.desc.now.handlers.items) c.loop-events.tally c.loop-events.sim (record { radio = c.next.new.self; motes = c.loop-events.sim.motes; records = c.loop-events.sim.records })
-    (ap (λ (e : Ether). e.air) c.next.ensures.others) refl c.loop-events.invariant.counted

@@ -22,17 +22,17 @@ returns-in-Err-clause-gives g c =
 pub write_ending-requires-clause-ends : goal.write_ending-requires-clause-ends
 write_ending-requires-clause-ends g c =
     let b = c.loop-events.invariant.stands in
-    at-end (code_world c.args.desc.now c.args.world.now c.args.programs.now) Whole c.loop-events.events c.loop-events.sim (record { radio = c.next.new.self; motes = c.loop-events.sim.motes; records = c.loop-events.sim.records }) b
-    (is-done (code_world c.args.desc.now c.args.world.now c.args.programs.now) b.moments c.loop-events.sim.radio b.radio c.in_default-next.ensures.first) c.loop-events.invariant.kept (ap (λ (e : Ether). e.air) c.next.ensures.others) refl
+    at-end (code_world c.args.desc.now c.args.world.now c.args.programs.now) Whole c.loop-events.events c.loop-events.sim (record { radio = c.next_into.new.self; motes = c.loop-events.sim.motes; records = c.loop-events.sim.records }) b
+    (is-done (code_world c.args.desc.now c.args.world.now c.args.programs.now) b.moments c.loop-events.sim.radio b.radio c.in_default-next_into.ensures.first) c.loop-events.invariant.kept (ap (λ (e : Ether). e.air) c.next_into.ensures.others) refl
 
 pub write_ending-requires-clause-recorded : goal.write_ending-requires-clause-recorded
-write_ending-requires-clause-recorded g c = (recorded-as c.loop-events.records c.loop-events.sim (record { radio = c.next.new.self; motes = c.loop-events.sim.motes; records = c.loop-events.sim.records }) (all-self (mote_logs c.loop-events.sim.motes.items)) (ap (λ (e : Ether). e.air) c.next.ensures.others) c.loop-events.invariant.recorded)
+write_ending-requires-clause-recorded g c = (recorded-as c.loop-events.records c.loop-events.sim (record { radio = c.next_into.new.self; motes = c.loop-events.sim.motes; records = c.loop-events.sim.records }) (all-self (mote_logs c.loop-events.sim.motes.items)) (ap (λ (e : Ether). e.air) c.next_into.ensures.others) c.loop-events.invariant.recorded)
 
 pub write_ending-requires-clause-ranges : goal.write_ending-requires-clause-ranges
-write_ending-requires-clause-ranges g c = (same-ranges c.loop-events.sim (record { radio = c.next.new.self; motes = c.loop-events.sim.motes; records = c.loop-events.sim.records }) refl (ap (λ (e : Ether). e.air) c.next.ensures.others) (ap (λ (e : Ether). e.gone) c.next.ensures.others) c.loop-events.invariant.ranges)
+write_ending-requires-clause-ranges g c = (same-ranges c.loop-events.sim (record { radio = c.next_into.new.self; motes = c.loop-events.sim.motes; records = c.loop-events.sim.records }) refl (ap (λ (e : Ether). e.air) c.next_into.ensures.others) (ap (λ (e : Ether). e.gone) c.next_into.ensures.others) c.loop-events.invariant.ranges)
 
-pub returns-in_default-next-clause-gives : goal.returns-in_default-next-clause-gives
-returns-in_default-next-clause-gives g c = c.write_ending.ensures.writes _ _ (written-air c.args.desc.now c.loop-events.sim (record { radio = c.next.new.self; motes = c.loop-events.sim.motes; records = c.loop-events.sim.records }) (ap (λ (e : Ether). e.air) c.next.ensures.others) refl _ _ _ _ c.loop-events.invariant.written)
+pub returns-in_default-next_into-clause-gives : goal.returns-in_default-next_into-clause-gives
+returns-in_default-next_into-clause-gives g c = c.write_ending.ensures.writes _ _ (written-air c.args.desc.now c.loop-events.sim (record { radio = c.next_into.new.self; motes = c.loop-events.sim.motes; records = c.loop-events.sim.records }) (ap (λ (e : Ether). e.air) c.next_into.ensures.others) refl _ _ _ _ c.loop-events.invariant.written)
 
 pub write_last-requires : goal.write_last-requires
 write_last-requires g c =
@@ -43,20 +43,20 @@ write_last-requires g c =
 pub returns-then-sim-ge-RECORDS_MAX-clause-gives : goal.returns-then-sim-ge-RECORDS_MAX-clause-gives
 returns-then-sim-ge-RECORDS_MAX-clause-gives g c =
     let b = c.loop-events.invariant.stands in
-    let n = behind (code_world c.args.desc.now c.args.world.now c.args.programs.now) b.moments c.loop-events.sim.radio c.next.new.self c.in-Some.time c.in-Some.event c.requires.right.world.nodes_high
-    (c.states_are_sound.ensures.dues c.args.desc.now c.args.world.now c.args.programs.now c.requires.right) b.come b.radio c.in-Some.ensures.first c.next.ensures.others in
-    full-ends c.args.desc.now c.args.world.now c.args.programs.now (record { radio = c.next.new.self; motes = c.loop-events.sim.motes; records = c.loop-events.sim.records }) c.loop-events.events
-    (at-end (code_world c.args.desc.now c.args.world.now c.args.programs.now) Full c.loop-events.events c.loop-events.sim (record { radio = c.next.new.self; motes = c.loop-events.sim.motes; records = c.loop-events.sim.records }) b
-    (subst (λ (k : ℕ). 1000000 ≤ k) b.records c.if-sim-ge-RECORDS_MAX.true, c.in-Some.time, n.cause, n.within, n.next) c.loop-events.invariant.kept (ap (λ (e : Ether). e.air) c.next.ensures.others) refl)
-    (same-ranges c.loop-events.sim (record { radio = c.next.new.self; motes = c.loop-events.sim.motes; records = c.loop-events.sim.records }) refl (ap (λ (e : Ether). e.air) c.next.ensures.others) (ap (λ (e : Ether). e.gone) c.next.ensures.others) c.loop-events.invariant.ranges)
-    (few-of c.loop-events.events c.loop-events-test.true) c.write_last.result c.loop-events.records (recorded-as c.loop-events.records c.loop-events.sim (record { radio = c.next.new.self; motes = c.loop-events.sim.motes; records = c.loop-events.sim.records }) (all-self (mote_logs c.loop-events.sim.motes.items)) (ap (λ (e : Ether). e.air) c.next.ensures.others) c.loop-events.invariant.recorded) _ _ _ _ _ _ (written-air c.args.desc.now c.loop-events.sim (record { radio = c.next.new.self; motes = c.loop-events.sim.motes; records = c.loop-events.sim.records }) (ap (λ (e : Ether). e.air) c.next.ensures.others) refl _ _ _ _ c.loop-events.invariant.written) c.write_last.ensures
+    let n = behind (code_world c.args.desc.now c.args.world.now c.args.programs.now) b.moments c.loop-events.sim.radio c.next_into.new.self c.in-Some.time c.next_into.new.event c.requires.right.world.nodes_high
+    (c.states_are_sound.ensures.dues c.args.desc.now c.args.world.now c.args.programs.now c.requires.right) b.come b.radio c.in-Some.ensures.first c.next_into.ensures.others in
+    full-ends c.args.desc.now c.args.world.now c.args.programs.now (record { radio = c.next_into.new.self; motes = c.loop-events.sim.motes; records = c.loop-events.sim.records }) c.loop-events.events
+    (at-end (code_world c.args.desc.now c.args.world.now c.args.programs.now) Full c.loop-events.events c.loop-events.sim (record { radio = c.next_into.new.self; motes = c.loop-events.sim.motes; records = c.loop-events.sim.records }) b
+    (subst (λ (k : ℕ). 1000000 ≤ k) b.records c.if-sim-ge-RECORDS_MAX.true, c.in-Some.time, n.cause, n.within, n.next) c.loop-events.invariant.kept (ap (λ (e : Ether). e.air) c.next_into.ensures.others) refl)
+    (same-ranges c.loop-events.sim (record { radio = c.next_into.new.self; motes = c.loop-events.sim.motes; records = c.loop-events.sim.records }) refl (ap (λ (e : Ether). e.air) c.next_into.ensures.others) (ap (λ (e : Ether). e.gone) c.next_into.ensures.others) c.loop-events.invariant.ranges)
+    (few-of c.loop-events.events c.loop-events-test.true) c.write_last.result c.loop-events.records (recorded-as c.loop-events.records c.loop-events.sim (record { radio = c.next_into.new.self; motes = c.loop-events.sim.motes; records = c.loop-events.sim.records }) (all-self (mote_logs c.loop-events.sim.motes.items)) (ap (λ (e : Ether). e.air) c.next_into.ensures.others) c.loop-events.invariant.recorded) _ _ _ _ _ _ (written-air c.args.desc.now c.loop-events.sim (record { radio = c.next_into.new.self; motes = c.loop-events.sim.motes; records = c.loop-events.sim.records }) (ap (λ (e : Ether). e.air) c.next_into.ensures.others) refl _ _ _ _ c.loop-events.invariant.written) c.write_last.ensures
 
 pub write_step-requires-clause-stands : goal.write_step-requires-clause-stands
 write_step-requires-clause-stands g c =
     let b = c.loop-events.invariant.stands in
     let count = b.count in
-    let n = behind (code_world c.args.desc.now c.args.world.now c.args.programs.now) b.moments c.loop-events.sim.radio c.next.new.self c.in-Some.time c.in-Some.event c.requires.right.world.nodes_high
-    (c.states_are_sound.ensures.dues c.args.desc.now c.args.world.now c.args.programs.now c.requires.right) b.come b.radio c.in-Some.ensures.first c.next.ensures.others in
+    let n = behind (code_world c.args.desc.now c.args.world.now c.args.programs.now) b.moments c.loop-events.sim.radio c.next_into.new.self c.in-Some.time c.next_into.new.event c.requires.right.world.nodes_high
+    (c.states_are_sound.ensures.dues c.args.desc.now c.args.world.now c.args.programs.now c.requires.right) b.come b.radio c.in-Some.ensures.first c.next_into.ensures.others in
     record {
       moments = b.moments;
       cause = n.cause;
@@ -67,7 +67,7 @@ write_step-requires-clause-stands g c =
       is = n.is;
       stamp = omega (arith, count);
       taken = n.taken;
-      air = (ap (λ (e : Ether). e.air) c.next.ensures.others) ∙ b.radio.air;
+      air = (ap (λ (e : Ether). e.air) c.next_into.ensures.others) ∙ b.radio.air;
       nodes = b.nodes;
       motes = b.motes;
       records = b.records;
@@ -76,13 +76,13 @@ write_step-requires-clause-stands g c =
     }
 
 pub write_step-requires-clause-recorded : goal.write_step-requires-clause-recorded
-write_step-requires-clause-recorded g c = (recorded-as c.loop-events.records c.loop-events.sim (record { radio = c.next.new.self; motes = c.loop-events.sim.motes; records = c.loop-events.sim.records }) (all-self (mote_logs c.loop-events.sim.motes.items)) (ap (λ (e : Ether). e.air) c.next.ensures.others) c.loop-events.invariant.recorded)
+write_step-requires-clause-recorded g c = (recorded-as c.loop-events.records c.loop-events.sim (record { radio = c.next_into.new.self; motes = c.loop-events.sim.motes; records = c.loop-events.sim.records }) (all-self (mote_logs c.loop-events.sim.motes.items)) (ap (λ (e : Ether). e.air) c.next_into.ensures.others) c.loop-events.invariant.recorded)
 
 pub write_step-requires-clause-ranges : goal.write_step-requires-clause-ranges
-write_step-requires-clause-ranges g c = (same-ranges c.loop-events.sim (record { radio = c.next.new.self; motes = c.loop-events.sim.motes; records = c.loop-events.sim.records }) refl (ap (λ (e : Ether). e.air) c.next.ensures.others) (ap (λ (e : Ether). e.gone) c.next.ensures.others) c.loop-events.invariant.ranges)
+write_step-requires-clause-ranges g c = (same-ranges c.loop-events.sim (record { radio = c.next_into.new.self; motes = c.loop-events.sim.motes; records = c.loop-events.sim.records }) refl (ap (λ (e : Ether). e.air) c.next_into.ensures.others) (ap (λ (e : Ether). e.gone) c.next_into.ensures.others) c.loop-events.invariant.ranges)
 
 pub returns-in-Err-write_step-clause-gives : goal.returns-in-Err-write_step-clause-gives
-returns-in-Err-write_step-clause-gives g c = c.in-Err-write_step.ensures.writes _ _ (written-air c.args.desc.now c.loop-events.sim (record { radio = c.next.new.self; motes = c.loop-events.sim.motes; records = c.loop-events.sim.records }) (ap (λ (e : Ether). e.air) c.next.ensures.others) refl _ _ _ _ c.loop-events.invariant.written)
+returns-in-Err-write_step-clause-gives g c = c.in-Err-write_step.ensures.writes _ _ (written-air c.args.desc.now c.loop-events.sim (record { radio = c.next_into.new.self; motes = c.loop-events.sim.motes; records = c.loop-events.sim.records }) (ap (λ (e : Ether). e.air) c.next_into.ensures.others) refl _ _ _ _ c.loop-events.invariant.written)
 
 pub loop-events-preserved : goal.loop-events-preserved
 loop-events-preserved g c = record {
@@ -90,7 +90,7 @@ loop-events-preserved g c = record {
   kept = c.in_default-write_step.ensures.writes.1;
   empty = c.in_default-write_step.ensures.empty;
   plain = c.in_default-write_step.ensures.plain;
-  written = c.in_default-write_step.ensures.writes.2 _ _ (written-air c.args.desc.now c.loop-events.sim (record { radio = c.next.new.self; motes = c.loop-events.sim.motes; records = c.loop-events.sim.records }) (ap (λ (e : Ether). e.air) c.next.ensures.others) refl _ _ _ _ c.loop-events.invariant.written);
+  written = c.in_default-write_step.ensures.writes.2 _ _ (written-air c.args.desc.now c.loop-events.sim (record { radio = c.next_into.new.self; motes = c.loop-events.sim.motes; records = c.loop-events.sim.records }) (ap (λ (e : Ether). e.air) c.next_into.ensures.others) refl _ _ _ _ c.loop-events.invariant.written);
   recorded = c.in_default-write_step.ensures.writes.3;
   ranges = c.in_default-write_step.ensures.writes.4;
   same = c.in_default-write_step.ensures.kept ∙ c.loop-events.invariant.same;
@@ -111,11 +111,11 @@ returns-clause-gives g c =
 pub returns-in-Err-clause-later : goal.returns-in-Err-clause-later
 returns-in-Err-clause-later g c = c.in-Err.ensures.later
 
-pub returns-in_default-next-clause-kept : goal.returns-in_default-next-clause-kept
-returns-in_default-next-clause-kept g c = c.write_ending.ensures.kept ∙ c.loop-events.invariant.same
+pub returns-in_default-next_into-clause-kept : goal.returns-in_default-next_into-clause-kept
+returns-in_default-next_into-clause-kept g c = c.write_ending.ensures.kept ∙ c.loop-events.invariant.same
 
-pub returns-in_default-next-clause-later : goal.returns-in_default-next-clause-later
-returns-in_default-next-clause-later g c = let a = c.loop-events.invariant.written.later in let b = c.write_ending.ensures.later in omega (arith, a, b)
+pub returns-in_default-next_into-clause-later : goal.returns-in_default-next_into-clause-later
+returns-in_default-next_into-clause-later g c = let a = c.loop-events.invariant.written.later in let b = c.write_ending.ensures.later in omega (arith, a, b)
 
 pub returns-then-sim-ge-RECORDS_MAX-clause-kept : goal.returns-then-sim-ge-RECORDS_MAX-clause-kept
 returns-then-sim-ge-RECORDS_MAX-clause-kept g c = c.loop-events.invariant.same

@@ -6,7 +6,7 @@ use Rattle.sim_run.specs.Ranging.{AreInRange}
 use Rattle.sim_run.specs.Running.{StandsAfter}
 use Rattle.sim_run.specs.Telling.{LogsAreKept}
 use Rattle.world_summary.specs.Counting.{IsTallied, IsSmallTally}
-use Rattle.world_summary.proofs.counting.sum_world.Given as goal
+use Rattle.world_summary.proofs.counting.sum_started.Given as goal
 
 abbrev pub invariant-loop-events : goal.invariant-loop-events
 invariant-loop-events l = record {
