@@ -1,6 +1,6 @@
 //! The exchange of one node.
 
-ghost use Rattle.std.specs.Prelude.{◌≡◌, ◌*◌, ◌/◌, ◌%◌, ◌<◌, ◌≤◌, ◌↔◌, [], length, map, IsTrue, IfOk, IfSome, is_some, All};
+ghost use Rattle.std.specs.Prelude.{◌≡◌, ◌*◌, ◌/◌, ◌%◌, ◌<◌, ◌≤◌, ◌↔◌, [], ◌∷◌, length, map, IsTrue, IfOk, IfSome, is_some, All, Some, if◌then◌else◌};
 ghost use Rattle.std.specs.List.{list_any};
 ghost use Rattle.std.specs.Option.{option_map};
 ghost use Rattle.mate_num.specs.declared.bounds.TheConstants.{FRAGMENTS_MAX, HANDLERS_MAX};
@@ -12,7 +12,9 @@ ghost use Rattle.capsule_exchange.specs.Sound.{AreSound};
 ghost use Rattle.capsule_exchange.specs.Steps.{state_at, aimed_each, asks_upto, hears_status, hears_fragment, completes_in, after_sending, is_marked_in, fragment_in};
 
 use crate::handler_state::{Form, HandlerState};
-use crate::handlers::{aim_each, any_marked, ask_each, forget_each, held_versions, next_slot};
+use crate::handlers::{
+    aim_each, any_marked, ask_each, forget_each, held_versions, next_slot, write_held,
+};
 use crate::summary::Summary;
 use arrayvec::ArrayVec;
 use capsule_codec::Piece;
@@ -220,6 +222,21 @@ impl Exchange {
         }
     }
 
+    /// Appends the versions that the node holds, where there is no packet yet. They are written where they stay.
+    pub fn push_vector(&self, packets: &mut ArrayVec<Packet, HANDLERS_MAX>)
+        requires { packets.old.items ≡ [] }
+        ensures value { Whatever self.now (λ n hs. packets.new.items ≡ Vector (record { items = held_versions n hs }) ∷ []) }
+        ensures right { All (IsRightPacket (length self.now.handlers)) packets.new.items }
+    {
+        packets.push(Packet::Vector {
+            versions: ArrayVec::new(),
+        });
+        match &mut packets.as_mut_slice()[0] {
+            Packet::Vector { versions } => write_held(versions, self.handlers.as_slice()),
+            _ => unreachable!(),
+        }
+    }
+
     /// Whether a fragment is marked, that is, to be sent.
     pub fn marked(&self) -> bool
         ensures { Whatever self.now (λ n hs. result ≡ list_any (is_marked_slot hs) (slots_from n 0)) }
@@ -265,7 +282,21 @@ impl Exchange {
         requires { handler.0 < length self.now.handlers }
         ensures { Whatever self.now (λ n hs. result ≡ collected_image handler.0 hs) }
     {
-        self.handlers[usize::from(handler.0)].collected()
+        let mut image = Image::new();
+        if self.complete_into(handler, &mut image) {
+            Some(image)
+        } else {
+            None
+        }
+    }
+
+    /// The image of the handler's target in the place of another: whether there is a target and no fragment of it is missing. Else that one
+    /// stays. An image is large, and `complete` moves it.
+    pub fn complete_into(&self, handler: HandlerId, image: &mut Image) -> bool
+        requires { handler.0 < length self.now.handlers }
+        ensures { Whatever self.now (λ n hs. (if result then Some image.new else None) ≡ collected_image handler.0 hs) }
+    {
+        self.handlers[usize::from(handler.0)].collect_into(image)
     }
 
     /// The image was installed: what was collected and marked of the handler is dropped.

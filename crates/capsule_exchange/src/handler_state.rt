@@ -1,6 +1,6 @@
 //! What a node holds of one handler, what it collects of a newer version, and which fragments it has yet to send.
 
-ghost use Rattle.std.specs.Prelude.{◌≡◌, ℕ, ◌<◌, ◌≤◌, length, IfSome};
+ghost use Rattle.std.specs.Prelude.{◌≡◌, ℕ, ◌<◌, ◌≤◌, length, IfSome, Some, if◌then◌else◌};
 ghost use Rattle.mate_num.specs.declared.bounds.TheConstants.{FRAGMENTS_MAX};
 ghost use Rattle.packet_codec.specs.Packet.{IsRightPacket};
 ghost use Rattle.capsule_codec.specs.Fragments.{count_of};
@@ -8,7 +8,7 @@ ghost use Rattle.capsule_exchange.specs.Happenings.{fragment_of};
 ghost use Rattle.capsule_exchange.specs.Steps.{no_state, aimed, takes, kept, hears_fragment, marked, hears_status, after_sending, installs, forgets, places_in, image_held, complete_in, ask_in};
 
 use crate::kept_piece::KeptPiece;
-use crate::pieces::{is_whole, joined, missing_mask, no_marks, no_pieces};
+use crate::pieces::{is_whole, join_into, missing_mask, no_marks, no_pieces};
 use capsule_codec::{Piece, count, fragment};
 use mate_num::{FRAGMENTS_MAX, HandlerId, Image, SHORT_IMAGE};
 use packet_codec::Packet;
@@ -148,12 +148,12 @@ impl HandlerState {
         }
     }
 
-    /// The target's image; None exactly if there is no target, or a fragment of it is missing.
-    pub(crate) fn collected(&self) -> Option<Image>
+    /// The target's image in the place of another: whether there is a target and no fragment of it is missing. Else that one stays.
+    pub(crate) fn collect_into(&self, image: &mut Image) -> bool
         requires { IfSome self.now.form (λ form. form.count ≤ FRAGMENTS_MAX) }
-        ensures { result ≡ image_held self.now }
+        ensures { (if result then Some image.new else None) ≡ image_held self.now }
     {
-        joined(self.places())
+        join_into(self.places(), image)
     }
 
     /// The target if all its fragments are collected, else 0.

@@ -19,10 +19,19 @@ pub(crate) fn held_versions(states: &[HandlerState]) -> ArrayVec<u32, HANDLERS_M
     ensures { result.items ≡ map (λ s. s.held) states.now }
 {
     let mut versions: ArrayVec<u32, HANDLERS_MAX> = ArrayVec::new();
+    write_held(&mut versions, states);
+    versions
+}
+
+/// Appends the versions that are held.
+pub(crate) fn write_held(versions: &mut ArrayVec<u32, HANDLERS_MAX>, states: &[HandlerState])
+    requires few { length states.now ≤ HANDLERS_MAX }
+    requires empty { versions.old.items ≡ [] }
+    ensures { versions.new.items ≡ map (λ s. s.held) states.now }
+{
     for state in states {
         versions.push(state.held);
     }
-    versions
 }
 
 /// Each handler's version was named by a Vector.

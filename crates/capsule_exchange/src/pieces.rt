@@ -1,6 +1,6 @@
 //! The pieces of an image that are collected, by index.
 
-ghost use Rattle.std.specs.Prelude.{◌≡◌, ◌+◌, ◌≤◌, ◌++◌, length, false, is_some};
+ghost use Rattle.std.specs.Prelude.{◌≡◌, ◌+◌, ◌≤◌, ◌++◌, length, false, is_some, Some, if◌then◌else◌};
 ghost use Rattle.std.specs.List.{flat_map, list_all};
 ghost use Rattle.mate_num.specs.declared.bounds.TheConstants.{FRAGMENTS_MAX, IMAGE_MAX};
 ghost use Rattle.capsule_codec.specs.declared.fragments.TheConstants.{PIECE_MAX};
@@ -38,16 +38,16 @@ pub(crate) fn missing_mask(places: &[Option<KeptPiece>]) -> u32
     mask
 }
 
-/// The pieces put together; None exactly if one is missing.
-pub(crate) fn joined(places: &[Option<KeptPiece>]) -> Option<Image>
+/// The pieces put together in the place of other bytes: whether none is missing. If one is, these stay.
+pub(crate) fn join_into(places: &[Option<KeptPiece>], image: &mut Image) -> bool
     requires { length places.now ≤ FRAGMENTS_MAX }
-    ensures { result ≡ whole places.now }
+    ensures { (if result then Some image.new else None) ≡ whole places.now }
 {
-    if is_whole(places) {
-        Some(bytes_in(places))
-    } else {
-        None
+    if !is_whole(places) {
+        return false;
     }
+    write_bytes(places, image);
+    true
 }
 
 /// Whether no piece is missing.
@@ -57,16 +57,15 @@ pub(crate) fn is_whole(places: &[Option<KeptPiece>]) -> bool
     places.iter().all(|place| place.is_some())
 }
 
-// The bytes of the pieces, in order.
-fn bytes_in(places: &[Option<KeptPiece>]) -> Image
+// Writes the bytes of the pieces, in order, in the place of others.
+fn write_bytes(places: &[Option<KeptPiece>], image: &mut Image)
     requires { length places.now ≤ FRAGMENTS_MAX }
-    ensures { result.items ≡ flat_map piece_bytes places.now }
+    ensures { image.new.items ≡ flat_map piece_bytes places.now }
 {
-    let mut image = Image::new();
+    image.clear();
     for place in places {
-        append(&mut image, place);
+        append(image, place);
     }
-    image
 }
 
 // Appends the bytes of the piece, if there is one; there must be room for them.

@@ -23,7 +23,7 @@ ghost use Rattle.sim_mote.specs.Standing.{IsMoteOf};
 ghost use Rattle.sim_handling.specs.Handling.{IsFitEvent, IsOpenExchange, IsPaced, Handled, DoesBy, IsFragmentOf, receivers_below};
 
 use mate_journal::Programs;
-use mate_num::{HandlerId, NoMemory, Payload, Stamp};
+use mate_num::{HandlerId, Image, NoMemory, Payload, Stamp};
 use packet_codec::{Packet, decode};
 use radio_sim::{Event, SharedPacket};
 use sim_mote::{Effect, Mote};
@@ -252,10 +252,11 @@ fn hear_fragment(
     let Some(handler) = heard.complete else {
         return Ok(());
     };
-    match mote.exchange.complete(handler) {
-        Some(image) => mote.install(handler, version, &image, at, effect),
-        None => Ok(()),
+    let mut image = Image::new();
+    if mote.exchange.complete_into(handler, &mut image) {
+        return mote.install(handler, version, &image, at, effect);
     }
+    Ok(())
 }
 
 /// A message is posted to the handlers that receive messages, in their order.

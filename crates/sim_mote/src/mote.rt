@@ -157,7 +157,7 @@ impl Mote {
         ensures right { All (IsRightPacket (length self.old.exchange.handlers)) effect.new.sends.items }
     {
         match self.timer.fire(suppress) {
-            Fire::Send => effect.sends.push(self.exchange.vector()),
+            Fire::Send => self.exchange.push_vector(&mut effect.sends),
             Fire::Keep => effect.first.keep(),
         }
     }

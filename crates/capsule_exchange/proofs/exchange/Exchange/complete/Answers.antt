@@ -1,16 +1,11 @@
-use Rattle.std.proofs.Common.{◌≡◌, ℕ, get_or, ap, subst, ◌∙◌}
-use Rattle.capsule_exchange.specs.Knowledge.{Knowledge}
-use Rattle.capsule_exchange.specs.Sound.{AreSound}
-use Rattle.capsule_exchange.proofs.AnswerLemmas.{collected_is}
+use Rattle.std.proofs.Common.{Bool, sym, ◌∙◌, ap}
+use Rattle.std.specs.Prelude.{Some, None, if◌then◌else◌}
 use Rattle.capsule_exchange.proofs.exchange.Exchange.complete.Goals as goal
 
-pub returns : goal.returns
-returns c =
-    let h = c.args.handler.0 in
-    let state = c.index.result.now in
-    let sound = subst (λ (k : Knowledge). AreSound k.handlers) c.self.view_is c.self.invariant.sound in
-    let read : state ≡ get_or c.args.self.now.handlers h state =
-    c.index.ensures
-    ∙ ap (λ (k : ℕ). get_or c.self.inside.handlers.items k state) c.from.ensures
-    ∙ ap (λ (k : Knowledge). get_or k.handlers h state) c.self.view_is in
-    collected_is c.args.self.now h state c.collected.result sound c.requires read c.collected.ensures
+pub returns-then-complete_into : goal.returns-then-complete_into
+returns-then-complete_into c = λ n hs known.
+    ap (λ (b : Bool). if b then Some c.complete_into.new.image else None) (sym c.if-complete_into.true) ∙ c.complete_into.ensures n hs known
+
+pub returns-else-complete_into : goal.returns-else-complete_into
+returns-else-complete_into c = λ n hs known.
+    ap (λ (b : Bool). if b then Some c.complete_into.new.image else None) (sym c.if-complete_into.false) ∙ c.complete_into.ensures n hs known

@@ -1,7 +1,7 @@
 use Rattle.std.proofs.Common.{◌≡◌, ◌*◌, ◌≤◌, length, take}
 use Rattle.std.specs.List.{flat_map}
 use Rattle.capsule_exchange.specs.Happenings.{piece_bytes}
-use Rattle.capsule_exchange.proofs.pieces.bytes_in.Given as goal
+use Rattle.capsule_exchange.proofs.pieces.write_bytes.Given as goal
 
 abbrev pub invariant-loop-place : goal.invariant-loop-place
 invariant-loop-place l = record {
