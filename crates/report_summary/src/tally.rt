@@ -3,15 +3,14 @@
 ghost use Rattle.std.specs.Prelude.{◌≡◌, ◌+◌, ◌++◌, ◌≤◌, ◌<◌, ◌^◌, ℕ, List, [], length, IfOk, slice_index_or, if◌then◌else◌, ◌==◌};
 ghost use Rattle.mate_journal.specs.declared.air.Aired.{Aired as AirRecord};
 ghost use Rattle.mate_journal.specs.declared.entry.Stamped.{Stamped as StampedEntry};
-ghost use Rattle.report_text.specs.Brief.{is_entry, is_air, one_if};
-ghost use Rattle.report_text.specs.declared.kinds.AirKind.TheVariants as air_kinds;
+ghost use Rattle.report_text.specs.Brief.{is_entry, one_if};
 ghost use Rattle.report_text.specs.declared.kinds.EntryKind.TheVariants as kinds;
 ghost use Rattle.report_summary.specs.Tally.{entries_counted, install_told, with_version, versions_none, versions_at, CountsUpTo, IsUpTo};
 ghost use Rattle.report_summary.specs.Tally.{IsLogTally, InstallsVersion, Notes, AddsEntry, IsAirTally, IsAirTallyUpTo, AddsAir};
 
 use mate_journal::{Air, Aired, Entry, Stamped};
 use mate_num::{HandlerId, NoMemory};
-use report_text::kinds::{AirKind, EntryKind};
+use report_text::kinds::EntryKind;
 use std::alloc::Global;
 
 /// How many entries of each kind there are.
@@ -219,9 +218,12 @@ impl AirTally {
         ensures { AddsAir self.old self.new air.now }
     {
         self.records += 1;
-        self.sent += one_if(is_air(air, AirKind::Sent));
-        self.got += one_if(is_air(air, AirKind::Got));
-        self.lost += one_if(is_air(air, AirKind::Lost));
+        match air {
+            Air::Sent { .. } => self.sent += 1,
+            Air::Got { .. } => self.got += 1,
+            Air::Lost { .. } => self.lost += 1,
+            _ => {}
+        }
     }
 }
 
@@ -241,15 +243,5 @@ fn is_entry(entry: &Entry, kind: EntryKind) -> bool
         EntryKind::Halt => matches!(entry, Entry::Halt { .. }),
         EntryKind::Fault => matches!(entry, Entry::Fault { .. }),
         EntryKind::Install => matches!(entry, Entry::Install { .. }),
-    }
-}
-
-fn is_air(air: &Air, kind: AirKind) -> bool
-    ensures { result ≡ is_air kind air.now }
-{
-    match kind {
-        AirKind::Sent => matches!(air, Air::Sent { .. }),
-        AirKind::Got => matches!(air, Air::Got { .. }),
-        AirKind::Lost => matches!(air, Air::Lost { .. }),
     }
 }

@@ -5,11 +5,11 @@ use Rattle.report_summary.proofs.tally.AirTally.add.Goals as goal
 pub overflow_add-self : goal.overflow_add-self
 overflow_add-self c = omega (arith, c.requires.records)
 
-pub overflow_add-self-2 : goal.overflow_add-self-2
-overflow_add-self-2 c = omega (arith, c.requires.counts kinds.Sent, c.one_if.ensures.most)
+pub overflow_add-self-in-Sent : goal.overflow_add-self-in-Sent
+overflow_add-self-in-Sent c = omega (arith, c.requires.counts kinds.Sent)
 
-pub overflow_add-self-3 : goal.overflow_add-self-3
-overflow_add-self-3 c = omega (arith, c.requires.counts kinds.Got, c.one_if-2.ensures.most)
+pub overflow_add-self-in-Got : goal.overflow_add-self-in-Got
+overflow_add-self-in-Got c = omega (arith, c.requires.counts kinds.Got)
 
-pub overflow_add-self-4 : goal.overflow_add-self-4
-overflow_add-self-4 c = omega (arith, c.requires.counts kinds.Lost, c.one_if-3.ensures.most)
+pub overflow_add-self-in-Lost : goal.overflow_add-self-in-Lost
+overflow_add-self-in-Lost c = omega (arith, c.requires.counts kinds.Lost)
