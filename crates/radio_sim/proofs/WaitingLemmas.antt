@@ -17,7 +17,7 @@ use Rattle.radio_sim.specs.declared.waiting.Waiting.TheVariants as waiting
 use Rattle.radio_sim.specs.declared.wire.Wire.{Wire}
 use Rattle.radio_sim.specs.declared.wire.Sending.{Sending}
 use Rattle.radio_sim.specs.Events.{group_of}
-use Rattle.radio_sim.specs.Flight.{InOrder, in_order}
+use Rattle.radio_sim.specs.Flight.{FirstAndRest, first_and_rest}
 use Rattle.radio_sim.specs.Waiting.{delivery_event, first_event, later_deliveries, events_of, waiting_group, all_at, awaited, radio_agenda, IsOnTime}
 use Rattle.radio_sim.specs.Wires.{loses, delivered, carried_by}
 
@@ -313,20 +313,20 @@ none_long [] empty = refl
 none_long (d ∷ ds) empty = cc
 
 -- deliveries in their order are the deliveries
-pub in_order_list : (ds : List Delivery) → ds ≢ [] → ds ≡ (in_order ds).first ∷ (in_order ds).rest
-in_order_list [] some = absurd (some refl)
-in_order_list (d ∷ ds) some = refl
+pub first_and_rest_list : (ds : List Delivery) → ds ≢ [] → ds ≡ (first_and_rest ds).first ∷ (first_and_rest ds).rest
+first_and_rest_list [] some = absurd (some refl)
+first_and_rest_list (d ∷ ds) some = refl
 
-in_order_events : (ds : List Delivery) → ds ≢ [] → events_of (waiting.Flight (in_order ds)) ≡ map delivery_event ds
-in_order_events ds some = ap (map delivery_event) (sym (in_order_list ds some))
+first_and_rest_events : (ds : List Delivery) → ds ≢ [] → events_of (waiting.Flight (first_and_rest ds)) ≡ map delivery_event ds
+first_and_rest_events ds some = ap (map delivery_event) (sym (first_and_rest_list ds some))
 
 pub delivered_none : (s : Sending) (bytes : ArrayVec ℕ) (ws : List Wire) (none carried : List Delivery) → none ≡ [] → carried ≡ none ++ carried_by s bytes ws → carried ≡ [] → delivered s bytes ws ≡ []
 delivered_none s bytes ws none carried start is empty =
     sym (deliveries_events s bytes ws) ∙ ap (map delivery_event) (sym (is ∙ ap (λ (ds : List Delivery). ds ++ carried_by s bytes ws) start) ∙ empty)
 
-pub delivered_flight : (s : Sending) (bytes : ArrayVec ℕ) (ws : List Wire) (none carried : List Delivery) (f : InOrder) → none ≡ [] → carried ≡ none ++ carried_by s bytes ws → carried ≢ [] → f ≡ in_order carried
+pub delivered_flight : (s : Sending) (bytes : ArrayVec ℕ) (ws : List Wire) (none carried : List Delivery) (f : FirstAndRest) → none ≡ [] → carried ≡ none ++ carried_by s bytes ws → carried ≢ [] → f ≡ first_and_rest carried
     → events_of (waiting.Flight f) ≡ delivered s bytes ws
 delivered_flight s bytes ws none carried f start is some flight =
-    ap (λ (i : InOrder). events_of (waiting.Flight i)) flight
-    ∙ in_order_events carried some
+    ap (λ (i : FirstAndRest). events_of (waiting.Flight i)) flight
+    ∙ first_and_rest_events carried some
     ∙ ap (map delivery_event) (is ∙ ap (λ (ds : List Delivery). ds ++ carried_by s bytes ws) start) ∙ deliveries_events s bytes ws

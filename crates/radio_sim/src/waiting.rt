@@ -2,7 +2,7 @@
 
 ghost use Rattle.std.specs.Prelude.{◌≡◌, ◌≢◌, [], ◌∷◌, map, IfOk};
 ghost use Rattle.radio_sim.specs.Events.{cancelled_by};
-ghost use Rattle.radio_sim.specs.Flight.{in_order};
+ghost use Rattle.radio_sim.specs.Flight.{first_and_rest};
 ghost use Rattle.radio_sim.specs.Waiting.{delivery_event, first_event, events_of};
 
 use crate::event::{Cancel, Event};
@@ -60,11 +60,11 @@ pub struct Flight {
 
 impl Model for Flight {
     ghost use Rattle.std.specs.Prelude.{◌≢◌, []};
-    ghost use Rattle.radio_sim.specs.Flight.{InOrder, in_order};
+    ghost use Rattle.radio_sim.specs.Flight.{FirstAndRest, first_and_rest};
 
-    ghost Value = { InOrder };
+    ghost Value = { FirstAndRest };
 
-    ghost view = { λ f. in_order f.list.value.items };
+    ghost view = { λ f. first_and_rest f.list.value.items };
 
     ghost invariant = { λ f. f.list.value.items ≢ [] };
 }
@@ -73,7 +73,7 @@ impl Flight {
     /// The deliveries, of which there is one at least.
     pub fn of(list: Deliveries) -> Flight
         requires { list.value.items ≢ [] }
-        ensures { result ≡ in_order list.value.items }
+        ensures { result ≡ first_and_rest list.value.items }
     {
         Flight { list }
     }
