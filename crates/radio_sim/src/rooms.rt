@@ -14,6 +14,8 @@ pub struct Rooms {
     alloc: Global,
     /// The places of deliveries that came.
     deliveries: Vec<Deliveries>,
+    /// How many such places were made.
+    made: usize,
     /// The packet that was sent last. Where it came everywhere, the next one has its place.
     packet: Option<SharedPacket>,
 }
@@ -23,6 +25,7 @@ impl Rooms {
         Rooms {
             alloc,
             deliveries: Vec::new(alloc),
+            made: 0,
             packet: None,
         }
     }
@@ -49,15 +52,20 @@ impl Rooms {
     pub fn take(&mut self) -> Result<Deliveries, NoMemory>
         ensures { IfOk result (λ list. list.value.items ≡ []) }
     {
-        match self.deliveries.pop() {
-            Some(list) => Ok(cleared(list)),
-            None => no_deliveries(self.alloc),
+        if let Some(list) = self.deliveries.pop() {
+            return Ok(cleared(list));
         }
+        // (all lists that were made are in use: there is one more to keep later)
+        self.made = self.made.saturating_add(1);
+        self.deliveries.reserve(self.made)?;
+        no_deliveries(self.alloc)
     }
 
-    /// Keeps the list, whose deliveries came, if there is memory to keep it.
+    /// Keeps the list, whose deliveries came, if there is room for it. It takes no memory.
     pub fn keep(&mut self, list: Deliveries) {
-        let _kept = self.deliveries.push(list);
+        if self.deliveries.len() < self.deliveries.capacity() {
+            self.deliveries.push_reserved(list);
+        }
     }
 }
 

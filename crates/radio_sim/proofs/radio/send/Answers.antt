@@ -1,4 +1,4 @@
-use Rattle.std.proofs.Common.{◌≡◌, ◌≢◌, ℕ, [], ◌++◌, rules, ◌∙◌, sym, ap, subst, List, ◌+◌, arith}
+use Rattle.std.proofs.Common.{◌≡◌, ℕ, [], ◌++◌, rules, ◌∙◌, sym, ap, subst, List, ◌+◌, arith}
 use Rattle.std.specs.declared.collections.VecDeque.{VecDeque}
 use Rattle.radio_sim.specs.declared.waiting.Delivery.{Delivery}
 use Rattle.radio_sim.specs.declared.waiting.Waiting.TheVariants as waiting
