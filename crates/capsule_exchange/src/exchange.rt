@@ -1,6 +1,6 @@
 //! The exchange of one node.
 
-ghost use Rattle.std.specs.Prelude.{◌≡◌, ◌*◌, ◌/◌, ◌%◌, ◌<◌, ◌≤◌, ◌↔◌, [], ◌∷◌, length, map, IsTrue, IfOk, IfSome, is_some, All, Some, if◌then◌else◌};
+ghost use Rattle.std.specs.Prelude.{◌≡◌, ◌*◌, ◌/◌, ◌%◌, ◌<◌, ◌≤◌, ◌↔◌, [], ◌∷◌, length, map, false, IsTrue, IfOk, IfSome, is_some, All, Some, if◌then◌else◌};
 ghost use Rattle.std.specs.List.{list_any};
 ghost use Rattle.std.specs.Option.{option_map};
 ghost use Rattle.mate_num.specs.declared.bounds.TheConstants.{FRAGMENTS_MAX, HANDLERS_MAX};
@@ -294,7 +294,8 @@ impl Exchange {
     /// stays. An image is large, and `complete` moves it.
     pub fn complete_into(&self, handler: HandlerId, image: &mut Image) -> bool
         requires { handler.0 < length self.now.handlers }
-        ensures { Whatever self.now (λ n hs. (if result then Some image.new else None) ≡ collected_image handler.0 hs) }
+        ensures image { Whatever self.now (λ n hs. (if result then Some image.new else None) ≡ collected_image handler.0 hs) }
+        ensures kept { result ≡ false → image.new ≡ image.old }
     {
         self.handlers[usize::from(handler.0)].collect_into(image)
     }

@@ -1,6 +1,6 @@
 //! What a node holds of one handler, what it collects of a newer version, and which fragments it has yet to send.
 
-ghost use Rattle.std.specs.Prelude.{◌≡◌, ℕ, ◌<◌, ◌≤◌, length, IfSome, Some, if◌then◌else◌};
+ghost use Rattle.std.specs.Prelude.{◌≡◌, ℕ, ◌<◌, ◌≤◌, length, false, IfSome, Some, if◌then◌else◌};
 ghost use Rattle.mate_num.specs.declared.bounds.TheConstants.{FRAGMENTS_MAX};
 ghost use Rattle.packet_codec.specs.Packet.{IsRightPacket};
 ghost use Rattle.capsule_codec.specs.Fragments.{count_of};
@@ -151,7 +151,8 @@ impl HandlerState {
     /// The target's image in the place of another: whether there is a target and no fragment of it is missing. Else that one stays.
     pub(crate) fn collect_into(&self, image: &mut Image) -> bool
         requires { IfSome self.now.form (λ form. form.count ≤ FRAGMENTS_MAX) }
-        ensures { (if result then Some image.new else None) ≡ image_held self.now }
+        ensures held { (if result then Some image.new else None) ≡ image_held self.now }
+        ensures kept { result ≡ false → image.new ≡ image.old }
     {
         join_into(self.places(), image)
     }

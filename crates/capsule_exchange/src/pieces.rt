@@ -41,7 +41,8 @@ pub(crate) fn missing_mask(places: &[Option<KeptPiece>]) -> u32
 /// The pieces put together in the place of other bytes: whether none is missing. If one is, these stay.
 pub(crate) fn join_into(places: &[Option<KeptPiece>], image: &mut Image) -> bool
     requires { length places.now ≤ FRAGMENTS_MAX }
-    ensures { (if result then Some image.new else None) ≡ whole places.now }
+    ensures whole { (if result then Some image.new else None) ≡ whole places.now }
+    ensures kept { result ≡ false → image.new ≡ image.old }
 {
     if !is_whole(places) {
         return false;

@@ -42,7 +42,7 @@ returns-then-complete_into-clause-does c =
     let image = c.complete_into.new.image in
     let complete : Whatever old.exchange (λ n hs. Some h ≡ completed_by c.args.packet.now hs) = λ n hs known. sym c.in-Some.is ∙ c.hear-heard.ensures.complete n hs known in
     on_ok_weaker c.install.result
-    (λ installs. does-image c.args.at old c.install.new.self c.install.new.effect c.args.packet.now c.args.version h image heard c.requires.fragment c.requires.packet complete c.hear-heard.ensures.learned (λ n hs known. ap (λ (b : Bool). if b then Some image else None) (sym c.if-complete_into.true) ∙ c.complete_into.ensures n hs known) installs) c.install.ensures
+    (λ installs. does-image c.args.at old c.install.new.self c.install.new.effect c.args.packet.now c.args.version h image heard c.requires.fragment c.requires.packet complete c.hear-heard.ensures.learned (λ n hs known. ap (λ (b : Bool). if b then Some image else None) (sym c.if-complete_into.true) ∙ c.complete_into.ensures.image n hs known) installs) c.install.ensures
 
 pub returns-clause-does : goal.returns-clause-does
 returns-clause-does c =
@@ -50,4 +50,4 @@ returns-clause-does c =
     let by_h : completed_by c.args.packet.now before.happened ≡ Some c.in-Some.handler = sym (c.hear-heard.ensures.complete before.handlers before.happened before.known) ∙ c.in-Some.is in
     let learned = c.hear-heard.ensures.learned before.handlers before.happened before.known in
     absurd (completed-none c.args.packet.now before.happened c.in-Some.handler by_h
-    (sym (ap (λ (b : Bool). if b then Some c.complete_into.new.image else None) (sym c.if-complete_into.false) ∙ c.complete_into.ensures before.handlers (Hears c.args.packet.now ∷ before.happened) learned)))
+    (sym (ap (λ (b : Bool). if b then Some c.complete_into.new.image else None) (sym c.if-complete_into.false) ∙ c.complete_into.ensures.image before.handlers (Hears c.args.packet.now ∷ before.happened) learned)))

@@ -5,8 +5,8 @@ use Rattle.capsule_exchange.specs.Sound.{AreSound}
 use Rattle.capsule_exchange.proofs.AnswerLemmas.{collected_is}
 use Rattle.capsule_exchange.proofs.exchange.Exchange.complete_into.Goals as goal
 
-pub returns : goal.returns
-returns c =
+pub returns-clause-image : goal.returns-clause-image
+returns-clause-image c =
     let h = c.args.handler.0 in
     let state = c.index.result.now in
     let sound = subst (λ (k : Knowledge). AreSound k.handlers) c.self.view_is c.self.invariant.sound in
@@ -14,4 +14,4 @@ returns c =
     c.index.ensures
     ∙ ap (λ (k : ℕ). get_or c.self.inside.handlers.items k state) c.from.ensures
     ∙ ap (λ (k : Knowledge). get_or k.handlers h state) c.self.view_is in
-    collected_is c.args.self.now h state (if c.collect_into.result then Some c.collect_into.new.image else None) sound c.requires read c.collect_into.ensures
+    collected_is c.args.self.now h state (if c.collect_into.result then Some c.collect_into.new.image else None) sound c.requires read c.collect_into.ensures.held

@@ -1,4 +1,4 @@
-use Rattle.std.proofs.Common.{◌/◌, ◌%◌, refl, rules, arith}
+use Rattle.std.proofs.Common.{◌/◌, ◌%◌, refl, rules}
 use Rattle.capsule_exchange.specs.Steps.{after_sending}
 use Rattle.capsule_exchange.proofs.SoundLemmas.{changed_one, sends_sound}
 use Rattle.capsule_exchange.proofs.SummaryLemmas.{kept_owing}
