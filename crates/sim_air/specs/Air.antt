@@ -1,5 +1,5 @@
 -- What a radio holds for the rules of a world: causes as the radio's events, and packets that a node sends.
-use Rattle.std.specs.Prelude.{◌≡◌, ℕ, suc, ◌+◌, ◌*◌, ◌≤◌, ◌==◌, List, [], ◌∷◌, ◌++◌, length, map, count_by}
+use Rattle.std.specs.Prelude.{◌≡◌, ℕ, suc, ◌+◌, ◌*◌, ◌≤◌, ◌==◌, List, [], ◌++◌, length, map, count_by}
 use Rattle.std.specs.List.{flat_map}
 use Rattle.mate_num.specs.Lists.{Each}
 use Rattle.mate_num.specs.declared.call.Stamp.{Stamp}

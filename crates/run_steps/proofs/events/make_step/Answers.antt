@@ -1,18 +1,16 @@
-use Rattle.std.proofs.Common.{ℤ, length, sym, subst, arith}
-use Rattle.arrayvec.specs.ArrayVec.{ArrayVec}
+use Rattle.std.proofs.Common.{length, sym, subst, arith}
 use Rattle.mate_num.specs.declared.bounds.TheConstants.{CODE_MAX}
 use Rattle.std.specs.Prelude.{◌+◌, ◌*◌}
 use Rattle.script_reader.specs.declared.steps.Step.{Step}
-use Rattle.mate_journal.specs.NodeScript.{Post, Run, Show, ResetNode, ShowsOnce, Resets}
+use Rattle.mate_journal.specs.NodeScript.{Run, Show, ResetNode, ShowsOnce, Resets}
 use Rattle.node_invariant.specs.Meaning.{machine_in}
 use Rattle.node_calls.specs.Pacing.{SettlesWithin}
-use Rattle.node_calls.specs.Posting.{PostGives}
 use Rattle.open_node.specs.View.{heard_of, Tells}
 use Rattle.open_node.specs.Calls.{Pacing}
 use Rattle.script_reader.specs.Steps.{IsRightStep}
 use Rattle.node_programs.specs.ScriptSteps.{step_of}
 use Rattle.run_steps.specs.Running.{MakesOn}
-use Rattle.open_node.proofs.CallLemmas.{Tells-by, Occasion-given}
+use Rattle.open_node.proofs.CallLemmas.{Tells-by}
 use Rattle.run_steps.proofs.events.make_step.Goals as goal
 
 pub install_file-requires-clause-below : goal.install_file-requires-clause-below

@@ -1,4 +1,4 @@
-use Rattle.std.proofs.Common.{sym, ◌∙◌, ap, subst}
+use Rattle.std.proofs.Common.{◌∙◌, ap}
 use Rattle.event_queue.specs.View.{agenda_of}
 use Rattle.event_queue.proofs.QueueLemmas.{cancels}
 use Rattle.event_queue.proofs.queue.Queue.cancel.Goals as goal

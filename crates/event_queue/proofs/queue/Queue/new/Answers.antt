@@ -1,4 +1,4 @@
-use Rattle.std.proofs.Common.{sym, ◌∙◌, ap}
+use Rattle.std.proofs.Common.{◌∙◌, ap}
 use Rattle.event_queue.specs.View.{agenda_of}
 use Rattle.event_queue.proofs.QueueLemmas.{made}
 use Rattle.event_queue.proofs.queue.Queue.new.Goals as goal

@@ -1,6 +1,6 @@
 use Rattle.std.proofs.Common.{sym, ◌∙◌, ap, subst}
 use Rattle.event_queue.specs.View.{agenda_of, IsRightQueue}
-use Rattle.event_queue.proofs.QueueLemmas.{comes, empty_agenda, idle_agenda, back_again, all_none, right_first, right_back}
+use Rattle.event_queue.proofs.QueueLemmas.{comes, empty_agenda, idle_agenda, back_again, all_none, right_back}
 use Rattle.event_queue.proofs.queue.Queue.next.Goals as goal
 
 pub returns-clause-first : goal.returns-clause-first
