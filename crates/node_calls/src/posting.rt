@@ -56,6 +56,17 @@ fn first_free(
     None
 }
 
+/// A copy of the payload. An empty one is made without a call that copies nothing.
+fn copied(payload: &Payload) -> Payload
+    ensures { result ≡ payload.now }
+{
+    if payload.is_empty() {
+        Payload::new()
+    } else {
+        copy_of(payload)
+    }
+}
+
 /// Puts a new invocation of the handler into the context, where it waits for these locks behind all that wait. Answers its
 /// number.
 fn queue(
@@ -78,13 +89,13 @@ fn queue(
     parts.posts += 1;
     let inv = parts.posts;
     let seat = Seat {
+        machine: Machine::new(description.turns, copied(payload)),
+        count: 0,
         inv,
         handler,
-        machine: Machine::new(description.turns, copy_of(payload)),
-        count: 0,
     };
     parts.contexts.post(ctx, seat, locks);
-    let payload = copy_of(payload);
+    let payload = copied(payload);
     tell(
         &mut parts.log,
         at,

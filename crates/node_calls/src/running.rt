@@ -47,14 +47,11 @@ fn turn(
     ensures { HasTurn (held_at handlers.now.programs) contexts.old heap.old ctx n result contexts.new heap.new }
 {
     let place = usize::from(ctx.0);
-    let Some(mut seat) = contexts.seats.take(place) else {
-        unreachable!()
-    };
+    let seat = contexts.seats.at_mut(place);
     let Some(held) = handlers.get(seat.handler) else {
         unreachable!()
     };
     let ran = run(&held.code, &mut seat.machine, heap, n);
     seat.count += u64::from(ran.instructions);
-    contexts.seats.put(place, seat);
     ran
 }

@@ -1,6 +1,6 @@
 -- What the calls on contexts leave there.
-use Rattle.std.proofs.lemmas.Bool.{cases_eq, cases_lt}
-use Rattle.std.specs.Prelude.{◌⊎◌, IfSome, slice_get, slice_index_or, Result, Ok, Err, MatchResult, OnOk, OnErr}
+use Rattle.std.proofs.lemmas.Bool.{cases_eq, cases_lt, eqb-true}
+use Rattle.std.specs.Prelude.{◌==◌, ◌⊎◌, IfSome, slice_get, slice_index_or, Result, Ok, Err, MatchResult, OnOk, OnErr}
 use Rattle.std.proofs.Common.{◌≡◌, ◌≢◌, ℕ, zero, suc, ◌+◌, ◌<◌, ◌≤◌, ℤ, Bool, true, false, inl, inr, List, [], ◌∷◌, ◌++◌, length, length-set, get_or, set, Option, Some, None, refl, sym, ◌∙◌, ap, subst, arith, get_or-set_same, get_or-set_other}
 use Rattle.std.proofs.lemmas.List.{set-get_or}
 use Rattle.std.specs.List.{Contains}
@@ -81,6 +81,19 @@ GivesWay-from old mid ring ctx out first last then is =
       ring = subst P out last;
     }
 
+-- of one ready context, the only one is the last
+only-last : (ring : List ContextId) (ctx : ContextId) → length ring ≤ 1 → holds ring ctx ≡ true → ring ≡ without ring ctx ++ ctx ∷ []
+only-last [] ctx few is = absurd (let f : false ≡ true = is in cc)
+only-last (x ∷ y ∷ rest) ctx few is = absurd (omega (arith, few))
+only-last (x ∷ []) ctx few is = by (ctx.0 == x.0) refl
+  where
+    by : (b : Bool) → (ctx.0 == x.0) ≡ b → x ∷ [] ≡ without (x ∷ []) ctx ++ ctx ∷ []
+    by true e = let same : x ≡ ctx = same_context x ctx (sym (eqb-true ctx.0 x.0 e)) in rw e (ap (λ (c : ContextId). c ∷ []) same)
+    by false e = absurd (let f : false ≡ true = rw e at is in cc)
+
+pub GivesWay-only : (old : Contexts) (ctx : ContextId) → length old.ring ≤ 1 → (at old ctx).ready ≡ true → GivesWay old old ctx
+GivesWay-only old ctx few is = record { each = λ k. refl; seats = refl; locks = refl; ring = only-last old.ring ctx few is }
+
 -- the same seat and call, with other locks
 pub same_at : (a : At) (w h : Option LockSet) (b : Bool) (w' h' : Option LockSet) (b' : Bool) → w ≡ w' → h ≡ h' → b ≡ b'
     → ◌≡◌ {A = At} (record a { waits = w; holds = h; ready = b }) (record a { waits = w'; holds = h'; ready = b' })
@@ -112,9 +125,6 @@ set-twice [] k a b = refl
 set-twice (x ∷ xs) zero a b = refl
 set-twice (x ∷ xs) (suc k) a b = ap (λ l. x ∷ l) (set-twice xs k a b)
 
-seats-twice : (old : Contexts) (ctx : ContextId) (place : ℕ) (mid o : Option Seat) → place ≡ ctx.0 → set (set old.seats place mid) place o ≡ set old.seats ctx.0 o
-seats-twice old ctx place mid o same = set-twice old.seats place mid o ∙ ap (λ (p : ℕ). set old.seats p o) same
-
 -- whoever has a place in the list stands within it
 pub some-within : {A : Type 0} (xs : List (Option A)) (k : ℕ) (x : A) → slice_index_or xs k None ≡ Some x → k < length xs
 some-within [] k x is = absurd (let f : None ≡ Some x = is in cc)
@@ -140,10 +150,10 @@ with_seat-same old c s is =
 pub with_seat-twice : (old : Contexts) (c : ContextId) (s now : Seat) → with_seat (with_seat old c s) c now ≡ with_seat old c now
 with_seat-twice old c s now = ap (λ (l : List (Option Seat)). record old { seats = l }) (set-twice old.seats c.0 (Some s) (Some now))
 
-pub HasTurn-from : (held : Programs) (old : Contexts) (before after : Store) (c : ContextId) (n : ℕ) (ran : Ran) (s now : Seat) (x : Held) (place : ℕ) (mid : Option Seat)
+pub HasTurn-from : (held : Programs) (old : Contexts) (before after : Store) (c : ContextId) (n : ℕ) (ran : Ran) (s now : Seat) (x : Held) (place : ℕ)
     → place ≡ c.0 → (at old c).seat ≡ Some s → held s.handler ≡ Some x → IsSameSeat s now → now.count ≡ s.count + ran.instructions → HasExecuted x.code s.machine before n ran now.machine after
-    → HasTurn held old before c n ran (record old { seats = set (set old.seats place mid) place (Some now) }) after
-HasTurn-from held old before after c n ran s now x place mid same_place is is_held same counted run =
+    → HasTurn held old before c n ran (record old { seats = set old.seats place (Some now) }) after
+HasTurn-from held old before after c n ran s now x place same_place is is_held same counted run =
     record {
       seat = s;
       is = is;
@@ -153,7 +163,7 @@ HasTurn-from held old before after c n ran s now x place mid same_place is is_he
       same = same;
       counted = counted;
       run = run;
-      sits = ap (λ (l : List (Option Seat)). record old { seats = l }) (seats-twice old c place mid (Some now) same_place);
+      sits = ap (λ (k : ℕ). record old { seats = set old.seats k (Some now) }) same_place;
     }
 
 -- after the answer no call is left in the context, and the others are as they were
@@ -163,15 +173,14 @@ taken-call old new c (Ok fun) was ok err = (ok.here, ok.others)
 taken-call old new c (Err e) was ok err = (ap (λ (l : List (Option Asked)). call_at l c) err ∙ was, λ k other. ap (λ (l : List (Option Asked)). call_at l k) err)
 
 -- the call is taken out, the value is pushed, and the context goes last into the ring
-pub IsAnswered-from : (old : Contexts) (pending : List (Option Asked)) (ring : List ContextId) (c : ContextId) (value : ℤ) (s now : Seat) (place : ℕ) (mid : Option Seat)
+pub IsAnswered-from : (old : Contexts) (pending : List (Option Asked)) (ring : List ContextId) (c : ContextId) (value : ℤ) (s now : Seat) (place : ℕ)
     → place ≡ c.0 → (at old c).seat ≡ Some s → IsSameSeat s now → now.count ≡ s.count → now.machine ≡ push value s.machine
     → call_at pending c ≡ None → ((k : ContextId) → k.0 ≢ c.0 → call_at pending k ≡ call_at old.pending k) → ring ≡ old.ring ++ c ∷ [] → Changes old.ring ring c true
-    → IsAnswered old (record old { seats = set (set old.seats place mid) place (Some now); pending = pending; ring = ring }) c value
-IsAnswered-from old pending ring c value s now place mid same_place is same counted pushed none others last changes =
+    → IsAnswered old (record old { seats = set old.seats place (Some now); pending = pending; ring = ring }) c value
+IsAnswered-from old pending ring c value s now place same_place is same counted pushed none others last changes =
     let b = with_seat-becomes old c s now is in
-    let seats : set (set old.seats place mid) place (Some now) ≡ set old.seats c.0 (Some now) = seats-twice old c place mid (Some now) same_place in
-    let P : List (Option Seat) → Type 0 = λ l. IsAnswered old (record old { seats = l; pending = pending; ring = ring }) c value in
-    subst P (sym seats) record {
+    let P : ℕ → Type 0 = λ k. IsAnswered old (record old { seats = set old.seats k (Some now); pending = pending; ring = ring }) c value in
+    subst P (sym same_place) record {
       seat = s;
       is = is;
       now = now;

@@ -1,5 +1,6 @@
 -- What is in the seats of all contexts, by the first ones.
-use Rattle.std.proofs.Common.{◌≡◌, ℕ, zero, suc, ◌+◌, ◌<◌, ◌≤◌, List, [], ◌∷◌, ◌++◌, length, get_or, set, Option, None, refl, ◌∙◌, ap, arith}
+use Rattle.std.specs.Prelude.{IsSome}
+use Rattle.std.proofs.Common.{◌≡◌, ℕ, zero, suc, false, true, ◌<◌, ◌≤◌, List, [], ◌∷◌, ◌++◌, length, get_or, set, Option, None, refl, sym, ◌∙◌, ap, arith}
 use Rattle.node_contexts.specs.declared.seat.Seat.{Seat}
 use Rattle.node_contexts.specs.Seats.{places_upto}
 
@@ -44,3 +45,21 @@ seats-longer (suc n) (x ∷ seats) = ap (λ (l : List (Option Seat)). x ∷ l) (
 
 pub seats-none : (n : ℕ) (seats : List (Option Seat)) → seats ≡ [] → (k : ℕ) → get_or (places_upto n seats) k None ≡ None
 seats-none n seats none k = ap (λ (l : List (Option Seat)). get_or (places_upto n l) k None) none ∙ seats-at n [] k (omega arith)
+
+-- whoever has a place is at one of the first ones
+pub is-some-within : (seats : List (Option Seat)) (k : ℕ) → IsSome (get_or seats k None) → k < length seats
+is-some-within [] k some = absurd (let f : false ≡ true = some in cc)
+is-some-within (x ∷ seats) zero some = omega arith
+is-some-within (x ∷ seats) (suc k) some = let h = is-some-within seats k some in omega arith
+
+-- whoever has one of all places is at one of the first ones
+pub record IsAmongFirst (seats all : List (Option Seat)) (k : ℕ) : Type 0 where
+  pub same : get_or all k None ≡ get_or seats k None
+  pub some : IsSome (get_or seats k None)
+  pub below : k < length seats
+
+pub among-first : (n : ℕ) (seats all : List (Option Seat)) (k : ℕ) → places_upto n seats ≡ all → length seats ≤ n → IsSome (get_or all k None) → IsAmongFirst seats all k
+among-first n seats all k are few is =
+    let same = sym (ap (λ (l : List (Option Seat)). get_or l k None) are) ∙ seats-at n seats k few in
+    let some : IsSome (get_or seats k None) = rw same at is in
+    record { same = same; some = some; below = is-some-within seats k some }

@@ -2,3 +2,4 @@ pub mod At
 pub mod Seats
 pub mod Programs
 pub mod Executing
+pub mod Lending

@@ -153,8 +153,11 @@ impl Contexts {
         requires ready { (at self.old last).ready ≡ true }
         ensures { GivesWay self.old self.new last }
     {
-        self.ring.remove(last);
-        self.ring.ready(last);
+        // (one that is ready alone is behind all others)
+        if self.ring.len() > 1 {
+            self.ring.remove(last);
+            self.ring.ready(last);
+        }
     }
 
     /// Makes all contexts idle.

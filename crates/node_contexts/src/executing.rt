@@ -29,14 +29,11 @@ pub fn answer(contexts: &mut Contexts, handlers: &Handlers, ctx: ContextId, valu
     ensures { IsAnswered contexts.old contexts.new ctx value }
 {
     let place = usize::from(ctx.0);
-    let Some(mut seat) = contexts.seats.take(place) else {
-        unreachable!()
-    };
+    let seat = contexts.seats.at_mut(place);
     let Some(held) = handlers.get(seat.handler) else {
         unreachable!()
     };
     resume(&held.code, &mut seat.machine, value);
-    contexts.seats.put(place, seat);
     let _ = contexts.pending.answer(ctx);
     contexts.ring.ready(ctx);
 }

@@ -3,12 +3,12 @@
 use exec_unit::Machine;
 use mate_num::HandlerId;
 
-/// A live invocation: its number, its handler, what it has of its own, and how many instructions it executed
-/// since its start.
+/// A live invocation: what it has of its own, how many instructions it executed since its start, its number, and its
+/// handler. (In this order there is no gap between the fields.)
 #[derive(Drop)]
 pub struct Seat {
-    pub inv: u32,
-    pub handler: HandlerId,
     pub machine: Machine,
     pub count: u64,
+    pub inv: u32,
+    pub handler: HandlerId,
 }

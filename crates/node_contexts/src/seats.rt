@@ -1,9 +1,11 @@
 //! The seats of a node's contexts.
 
-ghost use Rattle.std.specs.Prelude.{◌≡◌, ◌<◌, ◌≤◌, ℕ, None, Some, length, slice_index_or, slice_set, max, vec_capacity, IfOk};
+ghost use Rattle.std.specs.Prelude.{◌≡◌, ◌<◌, ◌≤◌, ℕ, None, Some, length, slice_index_or, slice_set, max, vec_capacity, IfOk, IsSome};
+ghost use Rattle.std.specs.Borrow.{sem};
 ghost use Rattle.std.specs.Option.{option_copied};
 ghost use Rattle.mate_num.specs.declared.bounds.TheConstants.{CONTEXTS_MAX};
 ghost use Rattle.node_contexts.specs.Seats.{HaveSameSeats};
+ghost use Rattle.node_contexts.specs.Lending.{lends_seat_in};
 
 use crate::seat::Seat;
 use mate_num::NoMemory;
@@ -32,6 +34,8 @@ impl Model for Seats {
 }
 
 impl Seats {
+    ghost use Rattle.node_contexts.specs.Lending.{lends_seat};
+
     /// So many seats, which are all free. No other call takes memory.
     pub fn new(alloc: Global, count: usize) -> Result<Seats, NoMemory>
         requires { count ≤ CONTEXTS_MAX }
@@ -74,6 +78,15 @@ impl Seats {
         take_at(&mut self.places, place)
     }
 
+    /// The invocation that is at the place, to be changed where it is.
+    pub fn at_mut(&mut self, place: usize) -> &mut Seat
+        requires { IsSome (slice_index_or self.old place None) }
+        ensures* writes_back { sem 𝓛 (lends_seat self.entry place result) }
+        ensures seat { slice_index_or self.old place None ≡ Some result.now }
+    {
+        seat_in(&mut self.places[place])
+    }
+
     /// Takes all invocations.
     pub fn clear(&mut self)
         ensures free { (k : ℕ) → slice_index_or self.new k None ≡ None }
@@ -103,6 +116,18 @@ fn seat_at(places: &Vec<Option<Seat>>, place: usize) -> Option<&Seat>
     match places.get(place) {
         Some(seat) => seat.as_ref(),
         None => None,
+    }
+}
+
+/// The invocation that is there.
+fn seat_in(place: &mut Option<Seat>) -> &mut Seat
+    requires { IsSome place.old }
+    ensures* writes_back { sem 𝓛 (lends_seat_in place.entry result) }
+    ensures seat { place.old ≡ Some result.now }
+{
+    match place {
+        Some(seat) => seat,
+        None => unreachable!(),
     }
 }
 

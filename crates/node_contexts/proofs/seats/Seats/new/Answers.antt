@@ -1,5 +1,5 @@
 -- Nobody is at any place.
-use Rattle.std.proofs.Common.{ℕ, List, Option, length, ap, ◌∙◌, arith}
+use Rattle.std.proofs.Common.{List, Option, length, ap, ◌∙◌, arith}
 use Rattle.std.specs.Prelude.{vec_capacity}
 use Rattle.node_contexts.specs.declared.seat.Seat.{Seat}
 use Rattle.node_contexts.proofs.SeatLemmas.{seats-count, seats-none}
