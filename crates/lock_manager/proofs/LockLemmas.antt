@@ -6,6 +6,7 @@ use Rattle.std.proofs.Math.Seq.{drop-cons}
 use Rattle.std.proofs.lemmas.List.{length-append, length-map, length-take, map-append, append_assoc, take-append-drop, get_or-take, take_at}
 use Rattle.std.proofs.lemmas.List.Sums.{fails_before_first}
 use Rattle.std.proofs.lemmas.List.Elements.{recursion_from_All, All-from_recursion}
+use Rattle.std.proofs.lemmas.List.{get_or_read}
 use Rattle.std.proofs.lemmas.List.Quantifiers.{position-Some}
 use Rattle.std.proofs.lemmas.Iterator.Adapters.{position_from-zero}
 use Rattle.std.proofs.lemmas.Bool.{cases_lt, lt-ltb, eq-eqb, eqb-true, cond-true, both_ways}
@@ -268,3 +269,14 @@ Releases-from ws vs ss ts front back ctx c at e f locks =
         others_hold = λ x ne. ap (λ (l : List Claim). set_of l x) e ∙ set_of-out front back c x ne ∙ ap (λ (l : List Claim). set_of l x) (sym at.whole);
       };
     }
+
+-- what fills a place that has no claim
+abbrev pub no_claim : Claim
+no_claim = record { ctx = record { 0 = 0 }; set = record { read = 0; written = 0 } }
+
+abbrev pub no_waiter : Waiter
+no_waiter = record { claim = no_claim; blocked = 0 }
+
+-- what is read at a place is what is taken out there
+pub read-taken : {X : Type 0} (p : X → Bool) (xs ys : List X) (k : ℕ) (x d : X) → ys ≡ xs → position p xs ≡ Some k → x ≡ get_or xs k x → get_or ys k d ≡ x
+read-taken {X} p xs ys k x d same at is = ap (λ (l : List X). get_or l k d) same ∙ sym (get_or_read xs k x (position-Some p xs k d at).0 is d)

@@ -85,9 +85,11 @@ impl Locks {
         ensures contexts { AreOnce (self.old.started ++ self.old.waiting) }
     {
         let place = first_free(self.waiting.as_slice())?;
-        let claim = self.waiting.remove(place).claim;
-        self.started.push(claim);
-        Some(claim.ctx)
+        // (the claim is read by its parts, before the waiter is moved out as a whole)
+        let Claim { ctx, set } = self.waiting.as_slice()[place].claim;
+        let _ = self.waiting.remove(place);
+        self.started.push(Claim { ctx, set });
+        Some(ctx)
     }
 
     /// `ctx` gives back all its locks, and is no longer started.
@@ -98,7 +100,8 @@ impl Locks {
         let Some(place) = place_of(self.started.as_slice(), ctx) else {
             unreachable!()
         };
-        let released = self.started.remove(place).set;
+        let released = self.started.as_slice()[place].set;
+        let _ = self.started.remove(place);
         lower(self.waiting.as_mut_slice(), &released);
     }
 

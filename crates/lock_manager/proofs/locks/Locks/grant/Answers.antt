@@ -5,7 +5,7 @@ use Rattle.std.specs.Option.{MatchOption}
 use Rattle.mate_num.specs.declared.id.ContextId.{ContextId}
 use Rattle.lock_manager.specs.declared.claim.Waiter.{Waiter}
 use Rattle.lock_manager.specs.Claims.{Claims, Grants, GrantsNone}
-use Rattle.lock_manager.proofs.LockLemmas.{seen, room_to_start, IsFirstFree-from_position, AreLocks-grant, Grants-from, GrantsNone-from}
+use Rattle.lock_manager.proofs.LockLemmas.{seen, read-taken, no_waiter, room_to_start, IsFirstFree-from_position, AreLocks-grant, Grants-from, GrantsNone-from}
 use Rattle.lock_manager.proofs.locks.Locks.grant.Goals as goal
 
 pub returns-in_err-place-clause-granted : goal.returns-in_err-place-clause-granted
@@ -29,8 +29,9 @@ invariant_of-self c =
     let w = c.remove.result in
     let found : position (λ (v : Waiter). eqb v.blocked 0) ws ≡ Some p =
     ap (position (λ (v : Waiter). eqb v.blocked 0)) (sym c.as_slice.ensures.value) ∙ sym c.first_free.ensures ∙ c.in_ok-place.was in
+    let pushed = rw (read-taken (λ (v : Waiter). eqb v.blocked 0) ws c.as_slice-2.result.now p w no_waiter c.as_slice-2.ensures.value found c.remove.ensures.value) at c.push.ensures.items in
     AreLocks-grant ws c.remove.new.self.items (take p ws) (drop (suc p) ws) w c.self.inside.started.items c.push.new.self.items
-    (IsFirstFree-from_position ws p w found c.remove.ensures.value) c.remove.ensures.items c.push.ensures.items c.self.invariant
+    (IsFirstFree-from_position ws p w found c.remove.ensures.value) c.remove.ensures.items pushed c.self.invariant
 
 pub returns-clause-granted : goal.returns-clause-granted
 returns-clause-granted c =
@@ -39,6 +40,8 @@ returns-clause-granted c =
     let w = c.remove.result in
     let found : position (λ (v : Waiter). eqb v.blocked 0) ws ≡ Some p =
     ap (position (λ (v : Waiter). eqb v.blocked 0)) (sym c.as_slice.ensures.value) ∙ sym c.first_free.ensures ∙ c.in_ok-place.was in
+    let read = read-taken (λ (v : Waiter). eqb v.blocked 0) ws c.as_slice-2.result.now p w no_waiter c.as_slice-2.ensures.value found c.remove.ensures.value in
+    let pushed = rw read at c.push.ensures.items in
     let P : Claims → Type 0 = λ old. Grants old (seen c.remove.new.self.items c.push.new.self.items) w.claim.ctx in
-    subst P c.self.view_is (Grants-from ws c.remove.new.self.items (take p ws) (drop (suc p) ws) w c.self.inside.started.items c.push.new.self.items
-    (IsFirstFree-from_position ws p w found c.remove.ensures.value) c.remove.ensures.items c.push.ensures.items c.self.invariant)
+    rw read (subst P c.self.view_is (Grants-from ws c.remove.new.self.items (take p ws) (drop (suc p) ws) w c.self.inside.started.items c.push.new.self.items
+    (IsFirstFree-from_position ws p w found c.remove.ensures.value) c.remove.ensures.items pushed c.self.invariant))

@@ -6,7 +6,7 @@ use Rattle.lock_manager.specs.declared.claim.Waiter.{Waiter}
 use Rattle.lock_manager.specs.Conflict.{conflict}
 use Rattle.lock_manager.specs.Claims.{Claims, is_of, set_of, Releases}
 use Rattle.lock_manager.specs.Counts.{lowered}
-use Rattle.lock_manager.proofs.LockLemmas.{seen, IsClaimAt, IsClaimAt-from_position, above-released, AreLocks-release, Releases-from, refill-map, found-started}
+use Rattle.lock_manager.proofs.LockLemmas.{seen, read-taken, no_claim, IsClaimAt, IsClaimAt-from_position, above-released, AreLocks-release, Releases-from, refill-map, found-started}
 use Rattle.lock_manager.proofs.locks.Locks.release.Goals as goal
 
 pub lower-requires : goal.lower-requires
@@ -14,10 +14,12 @@ lower-requires c =
     let ss = c.self.inside.started.items in
     let p = c.in-Some.place in
     let a = c.remove.result in
+    let found = ap (position (is_of c.args.ctx)) (sym c.as_slice.ensures.value) ∙ sym c.place_of.ensures ∙ c.in-Some.is in
+    let read = read-taken (is_of c.args.ctx) ss c.as_slice-2.result.now p a no_claim c.as_slice-2.ensures.value found c.remove.ensures.value in
     let at : IsClaimAt ss c.args.ctx (take p ss) a (drop (suc p) ss) =
-    IsClaimAt-from_position ss c.args.ctx p a (ap (position (is_of c.args.ctx)) (sym c.as_slice.ensures.value) ∙ sym c.place_of.ensures ∙ c.in-Some.is) c.remove.ensures.value in
+    IsClaimAt-from_position ss c.args.ctx p a found c.remove.ensures.value in
     let P : List Waiter → Type 0 = λ ws. All (λ w. IsTrue (conflict w.claim.set a.set) → 0 < w.blocked) ws in
-    subst P (sym c.as_mut_slice.ensures.value) (above-released c.self.inside.waiting.items ss (take p ss) (drop (suc p) ss) c.args.ctx a at c.self.invariant)
+    rw read (subst P (sym c.as_mut_slice.ensures.value) (above-released c.self.inside.waiting.items ss (take p ss) (drop (suc p) ss) c.args.ctx a at c.self.invariant))
 
 pub invariant_of-self : goal.invariant_of-self
 invariant_of-self c =
@@ -25,10 +27,13 @@ invariant_of-self c =
     let ss = c.self.inside.started.items in
     let p = c.in-Some.place in
     let a = c.remove.result in
+    let found = ap (position (is_of c.args.ctx)) (sym c.as_slice.ensures.value) ∙ sym c.place_of.ensures ∙ c.in-Some.is in
+    let read = read-taken (is_of c.args.ctx) ss c.as_slice-2.result.now p a no_claim c.as_slice-2.ensures.value found c.remove.ensures.value in
     let at : IsClaimAt ss c.args.ctx (take p ss) a (drop (suc p) ss) =
-    IsClaimAt-from_position ss c.args.ctx p a (ap (position (is_of c.args.ctx)) (sym c.as_slice.ensures.value) ∙ sym c.place_of.ensures ∙ c.in-Some.is) c.remove.ensures.value in
+    IsClaimAt-from_position ss c.args.ctx p a found c.remove.ensures.value in
     let f : Waiter → Waiter = lowered a.set in
-    let e : c.lower.new.waiters ≡ map f ws = c.lower.ensures ∙ ap (λ (l : List Waiter). map f l) c.as_mut_slice.ensures.value in
+    let lowers : c.lower.new.waiters ≡ map f c.as_mut_slice.result.now = rw read at c.lower.ensures in
+    let e : c.lower.new.waiters ≡ map f ws = lowers ∙ ap (λ (l : List Waiter). map f l) c.as_mut_slice.ensures.value in
     AreLocks-release ws (refill (length ws) ws c.lower.new.waiters) ss c.remove.new.self.items (take p ss) (drop (suc p) ss) c.args.ctx a at c.remove.ensures.items (refill-map f ws c.lower.new.waiters e) c.self.invariant
 
 pub returns : goal.returns
@@ -37,10 +42,13 @@ returns c =
     let ss = c.self.inside.started.items in
     let p = c.in-Some.place in
     let a = c.remove.result in
+    let found = ap (position (is_of c.args.ctx)) (sym c.as_slice.ensures.value) ∙ sym c.place_of.ensures ∙ c.in-Some.is in
+    let read = read-taken (is_of c.args.ctx) ss c.as_slice-2.result.now p a no_claim c.as_slice-2.ensures.value found c.remove.ensures.value in
     let at : IsClaimAt ss c.args.ctx (take p ss) a (drop (suc p) ss) =
-    IsClaimAt-from_position ss c.args.ctx p a (ap (position (is_of c.args.ctx)) (sym c.as_slice.ensures.value) ∙ sym c.place_of.ensures ∙ c.in-Some.is) c.remove.ensures.value in
+    IsClaimAt-from_position ss c.args.ctx p a found c.remove.ensures.value in
     let f : Waiter → Waiter = lowered a.set in
-    let e : c.lower.new.waiters ≡ map f ws = c.lower.ensures ∙ ap (λ (l : List Waiter). map f l) c.as_mut_slice.ensures.value in
+    let lowers : c.lower.new.waiters ≡ map f c.as_mut_slice.result.now = rw read at c.lower.ensures in
+    let e : c.lower.new.waiters ≡ map f ws = lowers ∙ ap (λ (l : List Waiter). map f l) c.as_mut_slice.ensures.value in
     let vs = refill (length ws) ws c.lower.new.waiters in
     let P : Claims → Type 0 = λ old. Releases old (seen vs c.remove.new.self.items) c.args.ctx in
     subst P c.self.view_is (Releases-from ws vs ss c.remove.new.self.items (take p ss) (drop (suc p) ss) c.args.ctx a at c.remove.ensures.items (refill-map f ws c.lower.new.waiters e) c.self.invariant)
