@@ -2,10 +2,8 @@
 use Rattle.std.specs.Prelude.{ℕ, Bool, true, false, length, Option, slice_get}
 use Rattle.std.specs.Option.{option_map_or, option_and_then}
 use Rattle.mate_num.specs.Store.{zero_store}
-use Rattle.mate_num.specs.declared.id.DeviceId.{DeviceId}
 use Rattle.vm_desc.specs.Contexts.{first_context}
 use Rattle.vm_desc.specs.declared.description.Description.{Description}
-use Rattle.vm_desc.specs.declared.function.Function.{Function}
 use Rattle.vm_desc.specs.declared.handler.Handler.{Handler}
 use Rattle.vm_desc.specs.declared.handler.HandlerKind.{HandlerKind}
 use Rattle.vm_desc.specs.declared.handler.HandlerKind.TheVariants as kind

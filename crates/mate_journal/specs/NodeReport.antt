@@ -4,7 +4,7 @@ use Rattle.vm_desc.specs.declared.description.Description.{Description}
 use Rattle.mate_journal.specs.Log.{Log}
 use Rattle.mate_journal.specs.Machine.{Meaning}
 use Rattle.mate_journal.specs.Described.{machine_of}
-use Rattle.mate_journal.specs.NodeScript.{Step, RunEnd, Whole, Full, Cut}
+use Rattle.mate_journal.specs.NodeScript.{Step, RunEnd, Whole}
 use Rattle.mate_journal.specs.NodeRun.{IsNodeRun}
 use Rattle.mate_journal.specs.Tidy.{IsTidyLog, HasFullImages}
 use Rattle.mate_journal.specs.declared.report.Report.{Report}

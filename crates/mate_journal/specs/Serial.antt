@@ -1,5 +1,5 @@
 -- Serial replay: the invocations, run whole and one at a time in the order of their ends, give what the journal records.
-use Rattle.std.specs.Prelude.{◌≡◌, ℕ, ℤ, List, IsTrue, IfSome}
+use Rattle.std.specs.Prelude.{◌≡◌, ℕ, ℤ, List, IsTrue}
 use Rattle.arrayvec.specs.ArrayVec.{ArrayVec}
 use Rattle.mate_num.specs.declared.call.End.TheVariants as end
 use Rattle.mate_num.specs.declared.id.FunId.{FunId}

@@ -1,5 +1,5 @@
 -- Stores seen: what a journal shows of the shared variables and buffers.
-use Rattle.std.specs.Prelude.{◌≡◌, ℕ, ℤ, Bool, true, false, IsTrue, List, [], ◌∷◌, ⊤, length, take, drop, IfSome, MatchBool, is_some}
+use Rattle.std.specs.Prelude.{◌≡◌, ℕ, ℤ, Bool, true, false, IsTrue, List, [], ⊤, length, take, drop, IfSome, MatchBool, is_some}
 use Rattle.mate_num.specs.Lists.{Along}
 use Rattle.mate_num.specs.Store.{buffer_at}
 use Rattle.mate_num.specs.declared.resource.Resource.{Resource}

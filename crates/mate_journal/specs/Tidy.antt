@@ -1,5 +1,5 @@
 -- Tidy logs: what a text takes for granted of a node's log.
-use Rattle.std.specs.Prelude.{◌≡◌, ◌≤◌, ◌<◌, ℕ, zero, suc, List, [], ◌∷◌, ◌++◌, length, All, Option, Some, None, flat_map, option_to_list, ⊤}
+use Rattle.std.specs.Prelude.{◌≡◌, ◌≤◌, ◌<◌, ℕ, zero, suc, List, [], ◌∷◌, ◌++◌, length, All, Option, Some, None, flat_map, option_to_list}
 use Rattle.arrayvec.specs.ArrayVec.{ArrayVec}
 use Rattle.mate_num.specs.Lists.{Along}
 use Rattle.mate_num.specs.declared.store.Store.{Store}

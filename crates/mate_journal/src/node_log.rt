@@ -16,6 +16,8 @@ pub struct NodeLog {
     entries: Vec<Stamped>,
     images: Images,
     stores: Stores,
+    /// For so many more images, and for as many more stores, there is room for sure.
+    ready: usize,
 }
 
 impl Drop for NodeLog {
@@ -24,13 +26,14 @@ impl Drop for NodeLog {
             entries: _entries,
             images: _images,
             stores: _stores,
+            ready: _ready,
         } = self;
     }
 }
 
 impl Model for NodeLog {
     ghost use Rattle.std.specs.Prelude.{◌-◌, min, vec_len, vec_capacity};
-    ghost use Rattle.mate_journal.specs.Log.{Log};
+    ghost use Rattle.mate_journal.specs.Log.{Log, HaveReady};
 
     ghost Value = { Log };
 
@@ -40,6 +43,8 @@ impl Model for NodeLog {
       stores = l.stores.items;
       spare = min (vec_capacity l.entries - vec_len l.entries) (min l.images.spare l.stores.spare);
     } };
+
+    ghost invariant = { λ l. HaveReady l.ready l.images.spare l.stores.spare };
 }
 
 impl NodeLog {
@@ -53,6 +58,7 @@ impl NodeLog {
             entries: Vec::new(alloc),
             images: Images::new(alloc),
             stores: Stores::new(alloc),
+            ready: 0,
         }
     }
 
@@ -92,8 +98,13 @@ impl NodeLog {
         ensures room { OnOk result (n ≤ self.new.spare) }
     {
         self.entries.reserve(n)?;
+        // (most events add neither an image nor a store)
+        if n <= self.ready {
+            return Ok(());
+        }
         self.images.reserve(n)?;
         self.stores.reserve(n)?;
+        self.ready = n;
         Ok(())
     }
 
@@ -119,6 +130,7 @@ impl NodeLog {
         ensures spare { self.old.spare ≤ self.new.spare + 1 }
     {
         let position = self.images.len() as u32;
+        self.ready = 0;
         self.images.push(image);
         position
     }
@@ -134,6 +146,7 @@ impl NodeLog {
         ensures spare { self.old.spare ≤ self.new.spare + 1 }
     {
         let position = self.stores.len() as u32;
+        self.ready = 0;
         self.stores.push(store);
         position
     }
@@ -148,6 +161,7 @@ impl NodeLog {
         ensures spare { self.old.spare ≤ self.new.spare + 1 }
     {
         let number = self.stores.len() as u32;
+        self.ready = 0;
         self.stores.push(store);
         self.entries.push_reserved(Stamped {
             stamp: at,
@@ -166,6 +180,7 @@ impl NodeLog {
         ensures spare { self.old.spare ≤ self.new.spare + 1 }
     {
         let number = self.images.len() as u32;
+        self.ready = 0;
         self.images.push(image);
         self.entries.push_reserved(Stamped {
             stamp: at,
@@ -186,6 +201,7 @@ impl NodeLog {
         mem::swap(&mut self.entries, &mut other.entries);
         mem::swap(&mut self.images, &mut other.images);
         mem::swap(&mut self.stores, &mut other.stores);
+        mem::swap(&mut self.ready, &mut other.ready);
     }
 
     /// Keeps that many of each list from the front, or all if there are fewer.

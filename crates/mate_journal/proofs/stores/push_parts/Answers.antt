@@ -1,4 +1,4 @@
-use Rattle.std.proofs.Common.{[], ◌≡◌, ◌<◌, ◌≤◌, get_or, length, subst, sym, ◌∙◌, ap, arith}
+use Rattle.std.proofs.Common.{[], ◌≡◌, ◌<◌, ◌≤◌, get_or, length, subst, arith}
 use Rattle.std.specs.Prelude.{ℤ, List}
 use Rattle.std.proofs.lemmas.List.{get_or_default}
 use Rattle.arrayvec.specs.ArrayVec.{ArrayVec}
