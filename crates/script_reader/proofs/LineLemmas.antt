@@ -1,5 +1,9 @@
 -- Where the reader of a script is among its lines.
-use Rattle.std.proofs.Common.{◌≡◌, ℕ, ◌+◌, ◌<◌, ◌≤◌, List, [], ◌∷◌, length, Result, Ok, Err, sym, ◌∙◌, ap, arith}
+use Rattle.std.proofs.Common.{◌≡◌, ℕ, ◌+◌, ◌<◌, ◌≤◌, not, ◌==◌, List, [], ◌∷◌, length, None, Some, Result, Ok, Err, sym, ◌∙◌, ap, arith}
+use Rattle.std.specs.List.{prefix_len}
+use Rattle.std.proofs.lemmas.Bool.{false_from_ne_true}
+use Rattle.std.proofs.lemmas.List.Sums.{prefix_len_is}
+use Rattle.memchr.specs.Find.{is_byte, IsFirstByte}
 use Rattle.script_reader.specs.declared.fault.Cause.{Cause}
 use Rattle.script_reader.specs.declared.fault.ScriptFault.{ScriptFault}
 use Rattle.script_reader.specs.declared.fault.ScriptFault.TheVariants.{BadLine, NoMemory}
@@ -31,3 +35,12 @@ is_refused after ends whole n p q line rest new NoMemory at next led = tt
 pub is_over : {P A : Type 0} (after : P → List (List ℕ) → Result P Cause) (ends : ℕ → P → Result A ScriptFault) (whole : Result A ScriptFault) (n : ℕ) (p : P) (rest : List ℕ)
     → IsAt after ends whole n p rest → lines rest ≡ [] → whole ≡ ends n p
 is_over after ends whole n p rest at none = sym at.whole_is ∙ ap (script_from after ends n p) none
+
+-- the first line feed, or the end if there is none
+pub found-end : (bs : List ℕ) (n : ℕ) → IsFirstByte (is_byte 10) bs (Some n) → n ≡ prefix_len (λ b. not (b == 10)) bs
+found-end bs n found =
+    let below : n < length bs = found.0.high in
+    sym (prefix_len_is (λ b. not (b == 10)) bs n 0 (omega (arith, below)) (λ k lt. ap not (false_from_ne_true _ (found.0.before k (omega arith) lt))) (λ _. ap not found.1))
+
+pub no-end : (bs : List ℕ) → IsFirstByte (is_byte 10) bs None → length bs ≡ prefix_len (λ b. not (b == 10)) bs
+no-end bs none = sym (prefix_len_is (λ b. not (b == 10)) bs (length bs) 0 (omega arith) (λ k lt. ap not (false_from_ne_true _ (none k (omega arith) lt))) (λ lt. absurd (omega (arith, lt))))

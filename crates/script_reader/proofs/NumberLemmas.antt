@@ -36,6 +36,13 @@ one_more_digit w place n m same within is =
 pub all_digits : (w : List ℕ) (place n : ℕ) → n ≡ digits_value 10 (take place w) → length w ≤ place → n ≡ digits_value 10 w
 all_digits w place n same end = same ∙ ap (digits_value 10) (take_all place w end)
 
+-- a word that isn't empty, and whose characters are all digits
+pub is_numeral-whole : (w : List ℕ) (place : ℕ) → list_all is_ascii_digit (take place w) ≡ true → length w ≤ place
+    → false ≡ (length w == 0) → is_numeral w ≡ true
+is_numeral-whole w place digits end some =
+    let all : list_all is_ascii_digit w ≡ true = rw (take_all place w end) at digits in
+    rw (← some) all
+
 ascii_at : (b : ℕ) → is_printable b ≡ true → b < 128
 ascii_at b h = grind (arith, nat_tests, and_parts)
 

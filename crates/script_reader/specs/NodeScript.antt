@@ -12,7 +12,7 @@ use Rattle.script_reader.specs.declared.steps.Step.{Step}
 use Rattle.script_reader.specs.declared.steps.Step.TheVariants as step
 use Rattle.script_reader.specs.Lines.{lines, is_skipped}
 use Rattle.script_reader.specs.Script.{script_from}
-use Rattle.script_reader.specs.Words.{TakenWords, WordReading, ◌>>=◌, give, found, a_word, nothing_more, a_number, a_value, a_payload, a_handler}
+use Rattle.script_reader.specs.Words.{WordReading, ◌>>=◌, give, found, a_word, nothing_more, a_number, a_value, a_payload, a_handler}
 use Rattle.script_reader.specs.Words.{a_version, a_context}
 use Rattle.script_reader.specs.Steps.{NodeScript}
 

@@ -1,5 +1,5 @@
 -- How the words of a line are read, from left to right, each with the first cause for which it is refused.
-use Rattle.std.specs.Prelude.{◌≡◌, ℕ, ◌+◌, ◌-◌, nat_lt, nat_le, ◌==◌, ℤ, pos, neg_ℤ, Bool, ◌&&◌, not, if◌then◌else◌, List, [], ◌∷◌, ◌++◌}
+use Rattle.std.specs.Prelude.{◌≡◌, ℕ, ◌+◌, ◌-◌, ◌^◌, ◌≤◌, true, Option, None, Some, nat_lt, nat_le, ◌==◌, ℤ, pos, neg_ℤ, Bool, ◌&&◌, not, if◌then◌else◌, List, [], ◌∷◌, ◌++◌}
 use Rattle.mate_num.specs.Results.{result_map}
 use Rattle.std.specs.Prelude.{length, take, drop, Result, Ok, Err}
 use Rattle.std.specs.List.{list_all}
@@ -73,6 +73,11 @@ is_numeral w = not (length w == 0) && list_all is_ascii_digit w
 -- the number that the digits spell; leading zeros are taken
 abbrev pub number_read : List ℕ → Result ℕ Cause
 number_read w = if is_numeral w then Ok (digits_value 10 w) else Err Number
+
+-- the word is a numeral, and this is its number, or it has more than 64 bits
+abbrev pub SpellsNumber : List ℕ → Option ℕ → Type 0
+SpellsNumber w None = (is_numeral w ≡ true) × (2 ^ 64 ≤ digits_value 10 w)
+SpellsNumber w (Some n) = (is_numeral w ≡ true) × (n ≡ digits_value 10 w)
 
 -- a number from low to high
 abbrev pub within : ℕ → ℕ → Cause → Result ℕ Cause → Result ℕ Cause

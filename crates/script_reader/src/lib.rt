@@ -15,4 +15,4 @@ pub use message::Message;
 pub use newest::{newest_of, note_newest};
 pub use node::node_script;
 pub use steps::{Step, Steps};
-pub use words::Words;
+pub use words::{Words, spells};

@@ -4,6 +4,7 @@ ghost use Rattle.std.specs.Prelude.{◌≡◌, ◌<◌, ◌≤◌, ◌∷◌, []
 ghost use Rattle.std.specs.List.{prefix_len};
 ghost use Rattle.std.specs.Str.Lines.{lines, strip_carriage_return};
 
+use memchr::memchr;
 use std::marker::Model;
 
 /// The lines of a text that are still to be read. Contracts see the bytes that are left.
@@ -52,7 +53,10 @@ fn line_len(text: &[u8]) -> usize
     ensures value { result ≡ prefix_len (λ b. not (b == 10)) text.now }
     ensures fits { result ≤ length text.now }
 {
-    text.iter().take_while(|byte| **byte != b'\n').count()
+    match memchr(b'\n', text) {
+        Some(len) => len,
+        None => text.len(),
+    }
 }
 
 // The line without the one carriage return at its end, if it has one.

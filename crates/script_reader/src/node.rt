@@ -74,13 +74,10 @@ impl Reader {
         if words.is_skipped() {
             return Ok(());
         }
-        match line_in(
-            desc,
-            &self.newest,
-            self.steps.files().len() as u32,
-            &mut words,
-        ) {
-            Ok(said) => self.add(said),
+        let files = self.steps.files().len() as u32;
+        let mut said = alone(Step::Run);
+        match line_in(desc, &self.newest, files, &mut words, &mut said) {
+            Ok(()) => self.add(said),
             Err(cause) => Err(ScriptFault::BadLine {
                 line: number,
                 cause,
@@ -123,16 +120,17 @@ fn line_in<'a>(
     newest: &[u32; HANDLERS_MAX],
     files: u32,
     words: &mut Words<'a>,
-) -> Result<Said<'a>, Cause>
-    ensures value { ReadsWords said_of (a_line desc.now newest.now files) (split_words words.old) result (split_words words.new) }
-    ensures right { IfOk result (λ said. IsRightSaid desc.now newest.now files (said_of said)) }
+    said: &mut Said<'a>,
+) -> Result<(), Cause>
+    ensures value { ReadsWords (λ _. said_of said.new) (a_line desc.now newest.now files) (split_words words.old) result (split_words words.new) }
+    ensures right { IfOk result (λ _. IsRightSaid desc.now newest.now files (said_of said.new)) }
 {
-    let verb = words.plain()?;
-    match behind(desc, newest, files, verb, words) {
-        Ok(said) => match words.finish() {
-            Ok(()) => Ok(said),
-            Err(cause) => Err(cause),
-        },
+    // (a verb that isn't printable is none of those that begin a line)
+    let Some(verb) = words.next() else {
+        return Err(Cause::Word);
+    };
+    match behind(desc, newest, files, verb, words, said) {
+        Ok(()) => words.finish(),
         Err(cause) => Err(cause),
     }
 }
@@ -145,20 +143,21 @@ fn behind<'a>(
     files: u32,
     verb: &[u8],
     words: &mut Words<'a>,
-) -> Result<Said<'a>, Cause>
-    ensures value { ReadsWords said_of (behind desc.now newest.now files verb.now) (split_words words.old) result (split_words words.new) }
-    ensures right { IfOk result (λ said. IsRightSaid desc.now newest.now files (said_of said)) }
+    said: &mut Said<'a>,
+) -> Result<(), Cause>
+    ensures value { ReadsWords (λ _. said_of said.new) (behind desc.now newest.now files verb.now) (split_words words.old) result (split_words words.new) }
+    ensures right { IfOk result (λ _. IsRightSaid desc.now newest.now files (said_of said.new)) }
 {
     if spells(verb, "install") {
-        install_in(desc, newest, files, words)
+        install_in(desc, newest, files, words, said)
     } else if spells(verb, "load") {
-        load_in(files, words)
+        load_in(files, words, said)
     } else if spells(verb, "post") {
-        post_in(desc, words)
+        post_in(desc, words, said)
     } else if spells(verb, "step") {
-        step_in(desc, words)
+        step_in(desc, words, said)
     } else {
-        behind_others(desc, verb, words)
+        behind_others(desc, verb, words, said)
     }
 }
 
@@ -168,18 +167,22 @@ fn behind_others<'a>(
     desc: &Description,
     verb: &[u8],
     words: &mut Words<'a>,
-) -> Result<Said<'a>, Cause>
-    ensures value { ReadsWords said_of (behind_others desc.now verb.now) (split_words words.old) result (split_words words.new) }
-    ensures right { IfOk result (λ said. (newest : List ℕ) (files : ℕ) → IsRightSaid desc.now newest files (said_of said)) }
+    said: &mut Said<'a>,
+) -> Result<(), Cause>
+    ensures value { ReadsWords (λ _. said_of said.new) (behind_others desc.now verb.now) (split_words words.old) result (split_words words.new) }
+    ensures right { IfOk result (λ _. (newest : List ℕ) (files : ℕ) → IsRightSaid desc.now newest files (said_of said.new)) }
 {
     if spells(verb, "run") {
-        Ok(alone(Step::Run))
+        *said = alone(Step::Run);
+        Ok(())
     } else if spells(verb, "answer") {
-        answer_in(desc, words)
+        answer_in(desc, words, said)
     } else if spells(verb, "show") {
-        Ok(alone(Step::Show))
+        *said = alone(Step::Show);
+        Ok(())
     } else if spells(verb, "reset") {
-        Ok(alone(Step::Reset))
+        *said = alone(Step::Reset);
+        Ok(())
     } else {
         Err(Cause::Word)
     }
@@ -198,71 +201,81 @@ fn install_in<'a>(
     newest: &[u32; HANDLERS_MAX],
     files: u32,
     words: &mut Words<'a>,
-) -> Result<Said<'a>, Cause>
-    ensures value { ReadsWords said_of (an_install desc.now newest.now files) (split_words words.old) result (split_words words.new) }
-    ensures right { IfOk result (λ said. IsRightSaid desc.now newest.now files (said_of said)) }
+    said: &mut Said<'a>,
+) -> Result<(), Cause>
+    ensures value { ReadsWords (λ _. said_of said.new) (an_install desc.now newest.now files) (split_words words.old) result (split_words words.new) }
+    ensures right { IfOk result (λ _. IsRightSaid desc.now newest.now files (said_of said.new)) }
 {
     let handler = words.handler(desc)?;
     let version = words.version(newest_of(newest, handler))?;
     let file = words.word()?;
-    Ok(Said {
+    *said = Said {
         step: Step::Install {
             handler,
             version,
             program: files,
         },
         file: Some(file),
-    })
+    };
+    Ok(())
 }
 
 #[tactic(auto, unfolding(crate::specs::NodeScript::a_load))]
-fn load_in<'a>(files: u32, words: &mut Words<'a>) -> Result<Said<'a>, Cause>
-    ensures value { ReadsWords said_of (a_load files) (split_words words.old) result (split_words words.new) }
-    ensures right { IfOk result (λ said. (d : Description) (newest : List ℕ) → IsRightSaid d newest files (said_of said)) }
+fn load_in<'a>(files: u32, words: &mut Words<'a>, said: &mut Said<'a>) -> Result<(), Cause>
+    ensures value { ReadsWords (λ _. said_of said.new) (a_load files) (split_words words.old) result (split_words words.new) }
+    ensures right { IfOk result (λ _. (d : Description) (newest : List ℕ) → IsRightSaid d newest files (said_of said.new)) }
 {
     let file = words.word()?;
-    Ok(Said {
+    *said = Said {
         step: Step::Load { program: files },
         file: Some(file),
-    })
+    };
+    Ok(())
 }
 
 #[tactic(auto, unfolding(crate::specs::NodeScript::a_post))]
-fn post_in<'a>(desc: &Description, words: &mut Words<'a>) -> Result<Said<'a>, Cause>
-    ensures value { ReadsWords said_of (a_post desc.now) (split_words words.old) result (split_words words.new) }
-    ensures right { IfOk result (λ said. (newest : List ℕ) (files : ℕ) → IsRightSaid desc.now newest files (said_of said)) }
+fn post_in<'a>(desc: &Description, words: &mut Words<'a>, said: &mut Said<'a>) -> Result<(), Cause>
+    ensures value { ReadsWords (λ _. said_of said.new) (a_post desc.now) (split_words words.old) result (split_words words.new) }
+    ensures right { IfOk result (λ _. (newest : List ℕ) (files : ℕ) → IsRightSaid desc.now newest files (said_of said.new)) }
 {
     let handler = words.handler(desc)?;
     let payload = words.payload()?;
     let payload = Message::of(&payload);
-    Ok(Said {
+    *said = Said {
         step: Step::Post { handler, payload },
         file: None,
-    })
+    };
+    Ok(())
 }
 
 #[tactic(auto, unfolding(crate::specs::NodeScript::a_step))]
-fn step_in<'a>(desc: &Description, words: &mut Words<'a>) -> Result<Said<'a>, Cause>
-    ensures value { ReadsWords said_of (a_step desc.now) (split_words words.old) result (split_words words.new) }
-    ensures right { IfOk result (λ said. (newest : List ℕ) (files : ℕ) → IsRightSaid desc.now newest files (said_of said)) }
+fn step_in<'a>(desc: &Description, words: &mut Words<'a>, said: &mut Said<'a>) -> Result<(), Cause>
+    ensures value { ReadsWords (λ _. said_of said.new) (a_step desc.now) (split_words words.old) result (split_words words.new) }
+    ensures right { IfOk result (λ _. (newest : List ℕ) (files : ℕ) → IsRightSaid desc.now newest files (said_of said.new)) }
 {
     let ctx = words.context(desc)?;
     let n = words.number(1, 1_000_000, Cause::Range)?;
-    Ok(Said {
+    *said = Said {
         step: Step::Step { ctx, n: n as u32 },
         file: None,
-    })
+    };
+    Ok(())
 }
 
 #[tactic(auto, unfolding(crate::specs::NodeScript::an_answer))]
-fn answer_in<'a>(desc: &Description, words: &mut Words<'a>) -> Result<Said<'a>, Cause>
-    ensures value { ReadsWords said_of (an_answer desc.now) (split_words words.old) result (split_words words.new) }
-    ensures right { IfOk result (λ said. (newest : List ℕ) (files : ℕ) → IsRightSaid desc.now newest files (said_of said)) }
+fn answer_in<'a>(
+    desc: &Description,
+    words: &mut Words<'a>,
+    said: &mut Said<'a>,
+) -> Result<(), Cause>
+    ensures value { ReadsWords (λ _. said_of said.new) (an_answer desc.now) (split_words words.old) result (split_words words.new) }
+    ensures right { IfOk result (λ _. (newest : List ℕ) (files : ℕ) → IsRightSaid desc.now newest files (said_of said.new)) }
 {
     let ctx = words.context(desc)?;
     let value = words.value()?;
-    Ok(Said {
+    *said = Said {
         step: Step::Answer { ctx, value },
         file: None,
-    })
+    };
+    Ok(())
 }

@@ -10,7 +10,7 @@ ghost use Rattle.std.specs.Str.Parse.{digits_value};
 ghost use Rattle.mate_num.specs.declared.bounds.TheConstants.{PAYLOAD_MAX};
 ghost use Rattle.vm_desc.specs.Whole.{context_count};
 ghost use Rattle.script_reader.specs.Lines.{is_blank, split_words, is_skipped};
-ghost use Rattle.script_reader.specs.Words.{ReadsWords, is_printable, printed, a_word, nothing_more, is_numeral, number_read, within, a_number};
+ghost use Rattle.script_reader.specs.Words.{ReadsWords, is_printable, printed, a_word, nothing_more, SpellsNumber, number_read, within, a_number};
 ghost use Rattle.script_reader.specs.Words.{value_read, a_value, a_payload, handler_of, a_handler, newer, a_version, a_context};
 
 use crate::fault::Cause;
@@ -41,7 +41,7 @@ impl<'a> Words<'a> {
     }
 
     /// The next word, whatever its bytes are.
-    fn next(&mut self) -> Option<&'a [u8]>
+    pub(crate) fn next(&mut self) -> Option<&'a [u8]>
         ensures { MatchOption result ((split_words self.old ≡ []) × (split_words self.new ≡ [])) (λ w. split_words self.old ≡ w.now
             ∷ split_words self.new) }
     {
@@ -69,7 +69,7 @@ impl<'a> Words<'a> {
     }
 
     /// The bytes of the next word, of printable characters.
-    pub(crate) fn plain(&mut self) -> Result<&'a [u8], Cause>
+    pub fn plain(&mut self) -> Result<&'a [u8], Cause>
         ensures { ReadsWords (λ w. w.now) a_word (split_words self.old) result (split_words self.new) }
     {
         match self.next() {
@@ -171,7 +171,7 @@ impl<'a> Words<'a> {
 }
 
 /// Whether the bytes are those of the text, which is short: they are compared one by one.
-pub(crate) fn spells(bytes: &[u8], text: &str) -> bool
+pub fn spells(bytes: &[u8], text: &str) -> bool
     ensures { result ≡ bytes_eq bytes.now text.now }
 {
     bytes.len() == text.len() && are_same(bytes, text.as_bytes())
@@ -241,29 +241,46 @@ fn printed(word: &[u8]) -> Result<&str, Cause>
     Ok(text)
 }
 
-// Whether the word has at least one digit, and nothing else.
-fn is_numeral(word: &[u8]) -> bool
-    ensures { result ≡ is_numeral word.now }
-{
-    !word.is_empty() && are_digits(word)
-}
-
 fn are_digits(word: &[u8]) -> bool
     ensures { result ≡ list_all is_ascii_digit word.now }
 {
     word.iter().all(|byte| byte.is_ascii_digit())
 }
 
-// The number that the digits spell; None if it has more than 64 bits.
-fn numeral(word: &[u8]) -> Option<u64>
-    requires { is_numeral word.now ≡ true }
-    ensures { MatchOption result (2 ^ 64 ≤ digits_value 10 word.now) (λ n. n ≡ digits_value 10 word.now) }
+// The number that the word spells, None if it has more than 64 bits. A word that isn't one digit or more, and nothing else, is
+// refused with `Number`.
+fn numeral(word: &[u8]) -> Result<Option<u64>, Cause>
+    ensures { MatchResult result (SpellsNumber word.now) (λ cause. number_read word.now ≡ Err cause) }
 {
+    if word.is_empty() {
+        return Err(Cause::Number);
+    }
     let mut number = 0;
     for place in 0..word.len() {
-        number = with_digit(number, word[place])?;
+        let digit = word[place];
+        if !digit.is_ascii_digit() {
+            return Err(Cause::Number);
+        }
+        let Some(longer) = with_digit(number, digit) else {
+            return beyond(word);
+        };
+        number = longer;
     }
-    Some(number)
+    Ok(Some(number))
+}
+
+// The same for a word whose first digits are too much.
+#[cold]
+fn beyond(word: &[u8]) -> Result<Option<u64>, Cause>
+    requires some { 0 < length word.now }
+    requires large { 2 ^ 64 ≤ digits_value 10 word.now }
+    ensures { MatchResult result (SpellsNumber word.now) (λ cause. number_read word.now ≡ Err cause) }
+{
+    if are_digits(word) {
+        Ok(None)
+    } else {
+        Err(Cause::Number)
+    }
 }
 
 // The number with one more digit after it; None if it has more than 64 bits.
@@ -291,10 +308,7 @@ fn number_in(word: &[u8], low: u64, high: u64, outside: Cause) -> Result<u64, Ca
     ensures low { IfOk result (λ n. low ≤ n) }
     ensures high { IfOk result (λ n. n ≤ high) }
 {
-    if !is_numeral(word) {
-        return Err(Cause::Number);
-    }
-    let Some(number) = numeral(word) else {
+    let Some(number) = numeral(word)? else {
         return Err(outside);
     };
     if low <= number && number <= high {

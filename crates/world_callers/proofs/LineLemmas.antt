@@ -7,25 +7,24 @@ use Rattle.script_reader.specs.Words.{WordReading, TakenWords, a_number}
 use Rattle.script_reader.specs.declared.fault.Cause.{Cause}
 use Rattle.script_reader.specs.declared.fault.Cause.TheVariants.{Node, Range}
 use Rattle.world_script.specs.declared.world.What.TheVariants.{Show}
-use Rattle.world_reader.specs.declared.command.Command.{Command}
 use Rattle.world_reader.specs.declared.refusal.Refusal.{Refusal}
 use Rattle.world_reader.specs.declared.refusal.Refusal.TheVariants as refusal
-use Rattle.world_reader.specs.Draft.{ReadsWithMemory, world_said_of}
+use Rattle.world_reader.specs.Draft.{ReadsWithMemory}
 use Rattle.world_reader.specs.WorldLines.{WorldSaid, SaysPlanned, a_link, a_far_end, a_setting, an_event, behind_time, at_node, a_world_line}
 use Rattle.world_reader.specs.WorldWords.{a_node, a_time}
 use Rattle.world_callers.specs.Lines.{linked_world, RefusesLine}
 
-pub refused_line : (cause : Cause) (reading : WordReading WorldSaid) (before after : List (List ℕ)) (r : Result Command Refusal) → reading before ≡ Err cause
-    → ReadsWithMemory world_said_of reading before r after → RefusesLine cause r
-refused_line cause reading before after (Ok c) refused reads = cc
-refused_line cause reading before after (Err (refusal.Bad why)) refused reads = inl cc
-refused_line cause reading before after (Err refusal.NoMemory) refused reads = inr refl
+pub refused_line : (cause : Cause) (reading : WordReading WorldSaid) (before after : List (List ℕ)) (said : WorldSaid) (r : Result (Unit {0}) Refusal) → reading before ≡ Err cause
+    → ReadsWithMemory (λ _. said) reading before r after → RefusesLine cause r
+refused_line cause reading before after said (Ok c) refused reads = cc
+refused_line cause reading before after said (Err (refusal.Bad why)) refused reads = inl cc
+refused_line cause reading before after said (Err refusal.NoMemory) refused reads = inr refl
 
-pub taken_line : (taken : TakenWords WorldSaid) (reading : WordReading WorldSaid) (before after : List (List ℕ)) (r : Result Command Refusal) → reading before ≡ Ok taken
-    → ReadsWithMemory world_said_of reading before r after → IfErr r (λ why. why ≡ refusal.NoMemory)
-taken_line taken reading before after (Ok c) is reads = tt
-taken_line taken reading before after (Err (refusal.Bad why)) is reads = cc
-taken_line taken reading before after (Err refusal.NoMemory) is reads = refl
+pub taken_line : (taken : TakenWords WorldSaid) (reading : WordReading WorldSaid) (before after : List (List ℕ)) (said : WorldSaid) (r : Result (Unit {0}) Refusal) → reading before ≡ Ok taken
+    → ReadsWithMemory (λ _. said) reading before r after → IfErr r (λ why. why ≡ refusal.NoMemory)
+taken_line taken reading before after said (Ok c) is reads = tt
+taken_line taken reading before after said (Err (refusal.Bad why)) is reads = cc
+taken_line taken reading before after said (Err refusal.NoMemory) is reads = refl
 
 pub linked_already : (d : Description) → a_world_line d linked_world (split_words (codes "link 0 1 5")) ≡ Err Range
 unfolding a_world_line a_setting a_link a_far_end a_node a_number

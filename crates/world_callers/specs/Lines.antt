@@ -4,7 +4,6 @@ use Rattle.script_reader.specs.declared.fault.Cause.{Cause}
 use Rattle.script_reader.specs.declared.fault.ScriptFault.{ScriptFault}
 use Rattle.script_reader.specs.declared.fault.ScriptFault.TheVariants as fault
 use Rattle.world_script.specs.declared.world.World.{World}
-use Rattle.world_reader.specs.declared.command.Command.{Command}
 use Rattle.world_reader.specs.declared.refusal.Refusal.{Refusal}
 use Rattle.world_reader.specs.declared.refusal.Refusal.TheVariants as refusal
 use Rattle.world_reader.specs.declared.stage.Stage.TheVariants.{Settings}
@@ -30,8 +29,8 @@ linked_world = record {
 }
 
 -- the line is refused for this cause, unless memory runs out
-abbrev pub RefusesLine : Cause → Result Command Refusal → Type 0
-RefusesLine cause (Ok c) = ⊥
+abbrev pub RefusesLine : Cause → Result (Unit {0}) Refusal → Type 0
+RefusesLine cause (Ok said) = ⊥
 RefusesLine cause (Err r) = (r ≡ refusal.Bad cause) ⊎ (r ≡ refusal.NoMemory)
 
 -- the script is refused at this line for this cause, unless memory runs out

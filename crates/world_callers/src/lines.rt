@@ -11,37 +11,43 @@ use vm_desc::Description;
 use world_reader::{Command, Draft, Refusal};
 
 /// A link from 0 to 1 stands already.
-pub fn a_link_stands_once(draft: &Draft, desc: &Description) -> Result<Command<'static>, Refusal>
+pub fn a_link_stands_once(draft: &Draft, desc: &Description) -> Result<(), Refusal>
     requires keeps { KeepsWorld desc.now (world_progress_of draft.now) }
     requires tables { AreTables draft.now.linked draft.now.places draft.now.world }
     requires progress { world_progress_of draft.now ≡ linked_world }
     ensures { RefusesLine Range result }
 {
-    draft.command(desc, &mut Words::of(b"link 0 1 5"))
+    draft.command(
+        desc,
+        &mut Words::of(b"link 0 1 5"),
+        &mut Command::Suppress(true),
+    )
 }
 
 /// There are 3 nodes.
-pub fn a_node_that_is_not_there_is_told_so(
-    draft: &Draft,
-    desc: &Description,
-) -> Result<Command<'static>, Refusal>
+pub fn a_node_that_is_not_there_is_told_so(draft: &Draft, desc: &Description) -> Result<(), Refusal>
     requires keeps { KeepsWorld desc.now (world_progress_of draft.now) }
     requires tables { AreTables draft.now.linked draft.now.places draft.now.world }
     requires progress { world_progress_of draft.now ≡ linked_world }
     ensures { RefusesLine Node result }
 {
-    draft.command(desc, &mut Words::of(b"link 1 3 5"))
+    draft.command(
+        desc,
+        &mut Words::of(b"link 1 3 5"),
+        &mut Command::Suppress(true),
+    )
 }
 
 /// The time of the line before is 5.
-pub fn the_same_time_may_come_again(
-    draft: &Draft,
-    desc: &Description,
-) -> Result<Command<'static>, Refusal>
+pub fn the_same_time_may_come_again(draft: &Draft, desc: &Description) -> Result<(), Refusal>
     requires keeps { KeepsWorld desc.now (world_progress_of draft.now) }
     requires tables { AreTables draft.now.linked draft.now.places draft.now.world }
     requires progress { world_progress_of draft.now ≡ linked_world }
     ensures { IfErr result (λ refusal. refusal ≡ NoMemory) }
 {
-    draft.command(desc, &mut Words::of(b"at 5 show 0"))
+    draft.command(
+        desc,
+        &mut Words::of(b"at 5 show 0"),
+        &mut Command::Suppress(true),
+    )
 }

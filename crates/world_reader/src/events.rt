@@ -10,7 +10,7 @@ ghost use Rattle.world_reader.specs.Draft.{world_progress_of, world_said_of, IsR
 use crate::command::Command;
 use crate::draft::Draft;
 use crate::world_words::{node_in, noise_in, time_in};
-use script_reader::{Cause, Words, newest_of};
+use script_reader::{Cause, Words, newest_of, spells};
 use vm_desc::Description;
 use world_script::{Planned, What};
 
@@ -19,33 +19,39 @@ impl Draft {
     pub(crate) fn event<'a>(
         &self,
         desc: &Description,
-        verb: &str,
+        verb: &[u8],
         words: &mut Words<'a>,
-    ) -> Result<Command<'a>, Cause>
+        said: &mut Command<'a>,
+    ) -> Result<(), Cause>
         requires keeps { KeepsWorld desc.now (world_progress_of self.now) }
         requires files { length self.now.world.files < 2 ^ 32 }
-        ensures value { ReadsWords world_said_of (by_its_verb verb.now (codes "at") (an_event desc.now (world_progress_of self.now)))
+        ensures value { ReadsWords (λ _. world_said_of said.new) (by_its_verb verb.now (codes "at") (an_event desc.now (world_progress_of self.now)))
             (split_words words.old) result (split_words words.new) }
-        ensures right { IfOk result (λ c. IsRightWorldSaid desc.now (world_progress_of self.now) (world_said_of c)) }
+        ensures right { IfOk result (λ _. IsRightWorldSaid desc.now (world_progress_of self.now) (world_said_of said.new)) }
     {
-        if verb == "at" {
-            self.timed(desc, words)
+        if spells(verb, "at") {
+            self.timed(desc, words, said)
         } else {
             Err(Cause::Word)
         }
     }
 
     #[tactic(auto, unfolding(crate::specs::WorldLines::an_event))]
-    fn timed<'a>(&self, desc: &Description, words: &mut Words<'a>) -> Result<Command<'a>, Cause>
+    fn timed<'a>(
+        &self,
+        desc: &Description,
+        words: &mut Words<'a>,
+        said: &mut Command<'a>,
+    ) -> Result<(), Cause>
         requires keeps { KeepsWorld desc.now (world_progress_of self.now) }
         requires files { length self.now.world.files < 2 ^ 32 }
-        ensures value { ReadsWords world_said_of (an_event desc.now (world_progress_of self.now)) (split_words words.old) result
+        ensures value { ReadsWords (λ _. world_said_of said.new) (an_event desc.now (world_progress_of self.now)) (split_words words.old) result
             (split_words words.new) }
-        ensures right { IfOk result (λ c. IsRightWorldSaid desc.now (world_progress_of self.now) (world_said_of c)) }
+        ensures right { IfOk result (λ _. IsRightWorldSaid desc.now (world_progress_of self.now) (world_said_of said.new)) }
     {
         let time = time_in(self.world.until, self.time, words)?;
-        let verb = words.word()?;
-        self.behind_time(desc, time, verb, words)
+        let verb = words.plain()?;
+        self.behind_time(desc, time, verb, words, said)
     }
 
     // What the words behind an event's time and verb say.
@@ -54,27 +60,28 @@ impl Draft {
         &self,
         desc: &Description,
         time: u32,
-        verb: &str,
+        verb: &[u8],
         words: &mut Words<'a>,
-    ) -> Result<Command<'a>, Cause>
+        said: &mut Command<'a>,
+    ) -> Result<(), Cause>
         requires keeps { KeepsWorld desc.now (world_progress_of self.now) }
         requires files { length self.now.world.files < 2 ^ 32 }
         requires low { self.now.time ≤ time }
         requires high { time ≤ self.now.world.until }
-        ensures value { ReadsWords world_said_of (behind_time desc.now (world_progress_of self.now) time verb.now)
+        ensures value { ReadsWords (λ _. world_said_of said.new) (behind_time desc.now (world_progress_of self.now) time verb.now)
             (split_words words.old) result (split_words words.new) }
-        ensures right { IfOk result (λ c. IsRightWorldSaid desc.now (world_progress_of self.now) (world_said_of c)) }
+        ensures right { IfOk result (λ _. IsRightWorldSaid desc.now (world_progress_of self.now) (world_said_of said.new)) }
     {
-        if verb == "inject" {
-            self.injection(desc, time, words)
-        } else if verb == "post" {
-            self.posting(desc, time, words)
-        } else if verb == "show" {
-            self.at_node(desc, time, What::Show, words)
-        } else if verb == "reset" {
-            self.at_node(desc, time, What::Reset, words)
-        } else if verb == "noise" {
-            self.noise(desc, time, words)
+        if spells(verb, "inject") {
+            self.injection(desc, time, words, said)
+        } else if spells(verb, "post") {
+            self.posting(desc, time, words, said)
+        } else if spells(verb, "show") {
+            self.at_node(desc, time, What::Show, words, said)
+        } else if spells(verb, "reset") {
+            self.at_node(desc, time, What::Reset, words, said)
+        } else if spells(verb, "noise") {
+            self.noise(desc, time, words, said)
         } else {
             Err(Cause::Word)
         }
@@ -86,14 +93,15 @@ impl Draft {
         desc: &Description,
         time: u32,
         words: &mut Words<'a>,
-    ) -> Result<Command<'a>, Cause>
+        said: &mut Command<'a>,
+    ) -> Result<(), Cause>
         requires keeps { KeepsWorld desc.now (world_progress_of self.now) }
         requires files { length self.now.world.files < 2 ^ 32 }
         requires low { self.now.time ≤ time }
         requires high { time ≤ self.now.world.until }
-        ensures value { ReadsWords world_said_of (an_injection desc.now (world_progress_of self.now) time) (split_words words.old) result
+        ensures value { ReadsWords (λ _. world_said_of said.new) (an_injection desc.now (world_progress_of self.now) time) (split_words words.old) result
             (split_words words.new) }
-        ensures right { IfOk result (λ c. IsRightWorldSaid desc.now (world_progress_of self.now) (world_said_of c)) }
+        ensures right { IfOk result (λ _. IsRightWorldSaid desc.now (world_progress_of self.now) (world_said_of said.new)) }
     {
         let node = node_in(self.world.nodes, words)?;
         let handler = words.handler(desc)?;
@@ -104,10 +112,11 @@ impl Draft {
             handler,
             version,
         };
-        Ok(Command::Plan {
+        *said = Command::Plan {
             planned: Planned { time, node, what },
             file: Some(file),
-        })
+        };
+        Ok(())
     }
 
     #[tactic(auto, unfolding(crate::specs::WorldLines::a_posting))]
@@ -116,18 +125,20 @@ impl Draft {
         desc: &Description,
         time: u32,
         words: &mut Words<'a>,
-    ) -> Result<Command<'a>, Cause>
+        said: &mut Command<'a>,
+    ) -> Result<(), Cause>
         requires keeps { KeepsWorld desc.now (world_progress_of self.now) }
         requires low { self.now.time ≤ time }
         requires high { time ≤ self.now.world.until }
-        ensures value { ReadsWords world_said_of (a_posting desc.now self.now.world time)
+        ensures value { ReadsWords (λ _. world_said_of said.new) (a_posting desc.now self.now.world time)
             (split_words words.old) result (split_words words.new) }
-        ensures right { IfOk result (λ c. IsRightWorldSaid desc.now (world_progress_of self.now) (world_said_of c)) }
+        ensures right { IfOk result (λ _. IsRightWorldSaid desc.now (world_progress_of self.now) (world_said_of said.new)) }
     {
         let node = node_in(self.world.nodes, words)?;
         let handler = words.handler(desc)?;
         let payload = words.payload()?;
-        Ok(planned(time, node, What::Post { handler, payload }))
+        *said = planned(time, node, What::Post { handler, payload });
+        Ok(())
     }
 
     #[tactic(auto, unfolding(crate::specs::WorldLines::a_noise))]
@@ -136,17 +147,19 @@ impl Draft {
         desc: &Description,
         time: u32,
         words: &mut Words<'a>,
-    ) -> Result<Command<'a>, Cause>
+        said: &mut Command<'a>,
+    ) -> Result<(), Cause>
         requires keeps { KeepsWorld desc.now (world_progress_of self.now) }
         requires low { self.now.time ≤ time }
         requires high { time ≤ self.now.world.until }
-        ensures value { ReadsWords world_said_of (a_noise desc.now self.now.world time)
+        ensures value { ReadsWords (λ _. world_said_of said.new) (a_noise desc.now self.now.world time)
             (split_words words.old) result (split_words words.new) }
-        ensures right { IfOk result (λ c. IsRightWorldSaid desc.now (world_progress_of self.now) (world_said_of c)) }
+        ensures right { IfOk result (λ _. IsRightWorldSaid desc.now (world_progress_of self.now) (world_said_of said.new)) }
     {
         let node = node_in(self.world.nodes, words)?;
         let bytes = noise_in(desc, words)?;
-        Ok(planned(time, node, What::Noise { bytes }))
+        *said = planned(time, node, What::Noise { bytes });
+        Ok(())
     }
 
     // What a node is to do that needs no further word.
@@ -157,17 +170,19 @@ impl Draft {
         time: u32,
         what: What,
         words: &mut Words<'a>,
-    ) -> Result<Command<'a>, Cause>
+        said: &mut Command<'a>,
+    ) -> Result<(), Cause>
         requires keeps { KeepsWorld desc.now (world_progress_of self.now) }
         requires low { self.now.time ≤ time }
         requires high { time ≤ self.now.world.until }
         requires right { IsRightWhat desc.now (length self.now.world.files) what }
         requires newer { IfInjects what (λ handler version. slice_index (world_progress_of self.now).newest handler.0 < version) }
-        ensures value { ReadsWords world_said_of (at_node self.now.world time what) (split_words words.old) result (split_words words.new) }
-        ensures right { IfOk result (λ c. IsRightWorldSaid desc.now (world_progress_of self.now) (world_said_of c)) }
+        ensures value { ReadsWords (λ _. world_said_of said.new) (at_node self.now.world time what) (split_words words.old) result (split_words words.new) }
+        ensures right { IfOk result (λ _. IsRightWorldSaid desc.now (world_progress_of self.now) (world_said_of said.new)) }
     {
         let node = node_in(self.world.nodes, words)?;
-        Ok(planned(time, node, what))
+        *said = planned(time, node, what);
+        Ok(())
     }
 }
 

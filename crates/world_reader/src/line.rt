@@ -12,7 +12,7 @@ use crate::draft::Draft;
 use crate::refusal::Refusal;
 use crate::stage::Stage;
 use mate_num::{HOUR, NODES_MAX};
-use script_reader::{Cause, Words};
+use script_reader::{Cause, Words, spells};
 use vm_desc::Description;
 
 impl Draft {
@@ -23,51 +23,54 @@ impl Draft {
         &self,
         desc: &Description,
         words: &mut Words<'a>,
-    ) -> Result<Command<'a>, Refusal>
+        said: &mut Command<'a>,
+    ) -> Result<(), Refusal>
         requires keeps { KeepsWorld desc.now (world_progress_of self.now) }
         requires tables { AreTables self.now.linked self.now.places self.now.world }
         requires files { length self.now.world.files < 2 ^ 32 }
-        ensures value { ReadsWithMemory world_said_of (a_world_line desc.now (world_progress_of self.now)) (split_words words.old) result
+        ensures value { ReadsWithMemory (λ _. world_said_of said.new) (a_world_line desc.now (world_progress_of self.now)) (split_words words.old) result
             (split_words words.new) }
-        ensures right { IfOk result (λ c. IsRightWorldSaid desc.now (world_progress_of self.now) (world_said_of c)) }
+        ensures right { IfOk result (λ _. IsRightWorldSaid desc.now (world_progress_of self.now) (world_said_of said.new)) }
     {
-        let verb = words.word()?;
-        let command = self.behind_verb(desc, verb, words)?;
+        let verb = words.plain()?;
+        self.behind_verb(desc, verb, words, said)?;
         words.finish()?;
-        Ok(command)
+        Ok(())
     }
 
     // What the words behind a line's first word say.
     fn behind_verb<'a>(
         &self,
         desc: &Description,
-        verb: &str,
+        verb: &[u8],
         words: &mut Words<'a>,
-    ) -> Result<Command<'a>, Refusal>
+        said: &mut Command<'a>,
+    ) -> Result<(), Refusal>
         requires keeps { KeepsWorld desc.now (world_progress_of self.now) }
         requires tables { AreTables self.now.linked self.now.places self.now.world }
         requires files { length self.now.world.files < 2 ^ 32 }
-        ensures value { ReadsWithMemory world_said_of (behind_verb desc.now (world_progress_of self.now) self.now.stage verb.now)
+        ensures value { ReadsWithMemory (λ _. world_said_of said.new) (behind_verb desc.now (world_progress_of self.now) self.now.stage verb.now)
             (split_words words.old) result (split_words words.new) }
-        ensures right { IfOk result (λ c. IsRightWorldSaid desc.now (world_progress_of self.now) (world_said_of c)) }
+        ensures right { IfOk result (λ _. IsRightWorldSaid desc.now (world_progress_of self.now) (world_said_of said.new)) }
     {
         match self.stage {
-            Stage::Nodes => Ok(Command::Nodes(nodes_in(verb, words)?)),
-            Stage::Random => Ok(Command::Random(random_in(verb, words)?)),
-            Stage::Until => Ok(Command::Until(until_in(verb, words)?)),
-            Stage::Settings => self.setting(desc, verb, words),
-            Stage::Events => Ok(self.event(desc, verb, words)?),
+            Stage::Nodes => *said = Command::Nodes(nodes_in(verb, words)?),
+            Stage::Random => *said = Command::Random(random_in(verb, words)?),
+            Stage::Until => *said = Command::Until(until_in(verb, words)?),
+            Stage::Settings => self.setting(desc, verb, words, said)?,
+            Stage::Events => self.event(desc, verb, words, said)?,
         }
+        Ok(())
     }
 }
 
 #[tactic(auto, unfolding(crate::specs::WorldLines::some_nodes))]
-fn nodes_in(verb: &str, words: &mut Words<'_>) -> Result<u8, Cause>
+fn nodes_in(verb: &[u8], words: &mut Words<'_>) -> Result<u8, Cause>
     ensures value { ReadsWords (λ n. n) (some_nodes verb.now) (split_words words.old) result (split_words words.new) }
     ensures low { IfOk result (λ n. 1 ≤ n) }
     ensures high { IfOk result (λ n. n ≤ NODES_MAX) }
 {
-    if verb == "nodes" {
+    if spells(verb, "nodes") {
         let nodes = words.number(1, NODES_MAX as u64, Cause::Range)?;
         Ok(nodes as u8)
     } else {
@@ -76,10 +79,10 @@ fn nodes_in(verb: &str, words: &mut Words<'_>) -> Result<u8, Cause>
 }
 
 #[tactic(auto, unfolding(crate::specs::WorldLines::a_random))]
-fn random_in(verb: &str, words: &mut Words<'_>) -> Result<u64, Cause>
+fn random_in(verb: &[u8], words: &mut Words<'_>) -> Result<u64, Cause>
     ensures { ReadsWords (λ n. n) (a_random verb.now) (split_words words.old) result (split_words words.new) }
 {
-    if verb == "random" {
+    if spells(verb, "random") {
         let random = words.number(0, u64::MAX, Cause::Range)?;
         Ok(random)
     } else {
@@ -88,12 +91,12 @@ fn random_in(verb: &str, words: &mut Words<'_>) -> Result<u64, Cause>
 }
 
 #[tactic(auto, unfolding(crate::specs::WorldLines::an_until))]
-fn until_in(verb: &str, words: &mut Words<'_>) -> Result<u32, Cause>
+fn until_in(verb: &[u8], words: &mut Words<'_>) -> Result<u32, Cause>
     ensures value { ReadsWords (λ n. n) (an_until verb.now) (split_words words.old) result (split_words words.new) }
     ensures low { IfOk result (λ n. 1 ≤ n) }
     ensures high { IfOk result (λ n. n ≤ HOUR) }
 {
-    if verb == "until" {
+    if spells(verb, "until") {
         let until = words.number(1, u64::from(HOUR), Cause::Range)?;
         Ok(until as u32)
     } else {

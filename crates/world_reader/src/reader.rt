@@ -11,7 +11,7 @@ ghost use Rattle.world_reader.specs.WorldScript.{after_world_line, world_script_
 
 use crate::adding::take;
 use crate::draft::{PAIRS, PLACES};
-use crate::{Draft, Refusal, Stage};
+use crate::{Command, Draft, Refusal, Stage};
 use mate_num::{HANDLERS_MAX, Items};
 use script_reader::{Cause, Lines, ScriptFault, Words};
 use std::alloc::Global;
@@ -88,8 +88,9 @@ fn read_line(
     if words.is_skipped() {
         return Ok(());
     }
-    match draft.command(desc, &mut words) {
-        Ok(command) => take(draft, command),
+    let mut said = Command::Suppress(true);
+    match draft.command(desc, &mut words, &mut said) {
+        Ok(()) => take(draft, said),
         Err(Refusal::Bad(cause)) => Err(ScriptFault::BadLine {
             line: number,
             cause,

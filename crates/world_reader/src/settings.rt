@@ -13,7 +13,7 @@ use crate::draft::Draft;
 use crate::refusal::Refusal;
 use crate::world_words::{node_in, sensor_in, values_in};
 use mate_num::NODES_MAX;
-use script_reader::{Cause, Words};
+use script_reader::{Cause, Words, spells};
 use vm_desc::Description;
 use world_script::{Link, Series};
 
@@ -23,28 +23,30 @@ impl Draft {
     pub(crate) fn setting<'a>(
         &self,
         desc: &Description,
-        verb: &str,
+        verb: &[u8],
         words: &mut Words<'a>,
-    ) -> Result<Command<'a>, Refusal>
+        said: &mut Command<'a>,
+    ) -> Result<(), Refusal>
         requires keeps { KeepsWorld desc.now (world_progress_of self.now) }
         requires tables { AreTables self.now.linked self.now.places self.now.world }
         requires files { length self.now.world.files < 2 ^ 32 }
         requires stage { self.now.stage ≡ stages.Settings }
-        ensures value { ReadsWithMemory world_said_of (a_setting desc.now (world_progress_of self.now) verb.now) (split_words words.old)
+        ensures value { ReadsWithMemory (λ _. world_said_of said.new) (a_setting desc.now (world_progress_of self.now) verb.now) (split_words words.old)
             result (split_words words.new) }
-        ensures right { IfOk result (λ c. IsRightWorldSaid desc.now (world_progress_of self.now) (world_said_of c)) }
+        ensures right { IfOk result (λ _. IsRightWorldSaid desc.now (world_progress_of self.now) (world_said_of said.new)) }
     {
-        if verb == "suppress" {
-            Ok(Command::Suppress(switch_in(words)?))
-        } else if verb == "link" {
-            Ok(self.link(desc, false, words)?)
-        } else if verb == "both" {
-            Ok(self.link(desc, true, words)?)
-        } else if verb == "series" {
-            self.series(desc, words)
+        if spells(verb, "suppress") {
+            *said = Command::Suppress(switch_in(words)?);
+        } else if spells(verb, "link") {
+            self.link(desc, false, words, said)?;
+        } else if spells(verb, "both") {
+            self.link(desc, true, words, said)?;
+        } else if spells(verb, "series") {
+            self.series(desc, words, said)?;
         } else {
-            Ok(self.event(desc, verb, words)?)
+            self.event(desc, verb, words, said)?;
         }
+        Ok(())
     }
 
     #[tactic(auto, unfolding(crate::specs::WorldLines::a_link))]
@@ -53,12 +55,13 @@ impl Draft {
         desc: &Description,
         both: bool,
         words: &mut Words<'a>,
-    ) -> Result<Command<'a>, Cause>
+        said: &mut Command<'a>,
+    ) -> Result<(), Cause>
         requires keeps { KeepsWorld desc.now (world_progress_of self.now) }
         requires tables { AreTables self.now.linked self.now.places self.now.world }
         requires stage { self.now.stage ≡ stages.Settings }
-        ensures value { ReadsWords world_said_of (a_link self.now.world both) (split_words words.old) result (split_words words.new) }
-        ensures right { IfOk result (λ c. IsRightWorldSaid desc.now (world_progress_of self.now) (world_said_of c)) }
+        ensures value { ReadsWords (λ _. world_said_of said.new) (a_link self.now.world both) (split_words words.old) result (split_words words.new) }
+        ensures right { IfOk result (λ _. IsRightWorldSaid desc.now (world_progress_of self.now) (world_said_of said.new)) }
     {
         let from = node_in(self.world.nodes, words)?;
         let to = self.far_end(both, from, words)?;
@@ -68,7 +71,8 @@ impl Draft {
             to,
             loss: loss as u16,
         };
-        Ok(Command::Link { link, both })
+        *said = Command::Link { link, both };
+        Ok(())
     }
 
     // The node at a link's other end.
@@ -110,17 +114,23 @@ impl Draft {
     }
 
     #[tactic(auto, unfolding(crate::specs::WorldLines::a_series))]
-    fn series<'a>(&self, desc: &Description, words: &mut Words<'a>) -> Result<Command<'a>, Refusal>
+    fn series<'a>(
+        &self,
+        desc: &Description,
+        words: &mut Words<'a>,
+        said: &mut Command<'a>,
+    ) -> Result<(), Refusal>
         requires keeps { KeepsWorld desc.now (world_progress_of self.now) }
         requires stage { self.now.stage ≡ stages.Settings }
-        ensures value { ReadsWithMemory world_said_of (a_series desc.now self.now.world)
+        ensures value { ReadsWithMemory (λ _. world_said_of said.new) (a_series desc.now self.now.world)
             (split_words words.old) result (split_words words.new) }
-        ensures right { IfOk result (λ c. IsRightWorldSaid desc.now (world_progress_of self.now) (world_said_of c)) }
+        ensures right { IfOk result (λ _. IsRightWorldSaid desc.now (world_progress_of self.now) (world_said_of said.new)) }
     {
         let node = node_in(self.world.nodes, words)?;
         let fun = sensor_in(desc, words)?;
         let values = values_in(self.alloc, words)?;
-        Ok(Command::Series(Series { node, fun, values }))
+        *said = Command::Series(Series { node, fun, values });
+        Ok(())
     }
 }
 
@@ -128,10 +138,10 @@ impl Draft {
 fn switch_in(words: &mut Words<'_>) -> Result<bool, Cause>
     ensures { ReadsWords (λ on. on) a_switch (split_words words.old) result (split_words words.new) }
 {
-    let word = words.word()?;
-    if word == "on" {
+    let word = words.plain()?;
+    if spells(word, "on") {
         Ok(true)
-    } else if word == "off" {
+    } else if spells(word, "off") {
         Ok(false)
     } else {
         Err(Cause::Word)

@@ -57,16 +57,16 @@ pub fn sensor_in(desc: &Description, words: &mut Words<'_>) -> Result<FunId, Cau
     ensures value { ReadsWords (λ f. f) (a_sensor desc.now) (split_words words.old) result (split_words words.new) }
     ensures senses { IfOk result (λ fun. IsSomeAnd (slice_get desc.now.functions.items fun.0) (λ f. f.kind ≡ kinds.Sense)) }
 {
-    let word = words.word()?;
+    let word = words.plain()?;
     sensor_of(desc, word)
 }
 
-fn sensor_of(desc: &Description, word: &str) -> Result<FunId, Cause>
+fn sensor_of(desc: &Description, word: &[u8]) -> Result<FunId, Cause>
     ensures value { result ≡ sensor_of desc.now word.now }
     ensures senses { IfOk result (λ fun. IsSomeAnd (slice_get desc.now.functions.items fun.0) (λ f. f.kind ≡ kinds.Sense)) }
 {
     for (index, function) in desc.functions.as_slice().iter().enumerate() {
-        if function.name.as_str() == word {
+        if function.name.as_bytes() == word {
             return if_senses(index as u8, function.kind);
         }
     }
@@ -109,8 +109,8 @@ pub fn noise_in(desc: &Description, words: &mut Words<'_>) -> Result<PacketBytes
     ensures value { ReadsWords (λ b. b) (some_noise desc.now) (split_words words.old) result (split_words words.new) }
     ensures right { IfOk result (λ b. IsRightNoise desc.now b.items) }
 {
-    let word = words.word()?;
-    match from_hex(word.as_bytes()) {
+    let word = words.plain()?;
+    match from_hex(word) {
         Ok(bytes) => if_noise(desc, bytes.as_slice()),
         Err(HexFault::BadHex) => Err(Cause::Number),
         Err(HexFault::TooLong) => Err(Cause::Range),

@@ -1,19 +1,20 @@
 use Rattle.std.proofs.Common.{sym, ◌∙◌}
 use Rattle.script_reader.specs.NodeScript.{behind}
+use Rattle.script_reader.specs.NodeReader.{said_of}
 use Rattle.script_reader.proofs.NodeLemmas.{right_with, right_load}
 use Rattle.script_reader.proofs.node.behind.Goals as goal
 
 pub returns-then-spells-2-clause-right : goal.returns-then-spells-2-clause-right
-returns-then-spells-2-clause-right c = right_load c.args.desc.now c.load_in.result c.args.newest.now c.args.files c.load_in.ensures.right
+returns-then-spells-2-clause-right c = right_load c.args.desc.now (said_of c.load_in.new.said) c.load_in.result c.args.newest.now c.args.files c.load_in.ensures.right
 
 pub returns-then-spells-3-clause-right : goal.returns-then-spells-3-clause-right
-returns-then-spells-3-clause-right c = right_with c.args.desc.now c.post_in.result c.args.newest.now c.args.files c.post_in.ensures.right
+returns-then-spells-3-clause-right c = right_with c.args.desc.now (said_of c.post_in.new.said) c.post_in.result c.args.newest.now c.args.files c.post_in.ensures.right
 
 pub returns-then-spells-4-clause-right : goal.returns-then-spells-4-clause-right
-returns-then-spells-4-clause-right c = right_with c.args.desc.now c.step_in.result c.args.newest.now c.args.files c.step_in.ensures.right
+returns-then-spells-4-clause-right c = right_with c.args.desc.now (said_of c.step_in.new.said) c.step_in.result c.args.newest.now c.args.files c.step_in.ensures.right
 
 pub returns-else-spells-4-clause-right : goal.returns-else-spells-4-clause-right
-returns-else-spells-4-clause-right c = right_with c.args.desc.now c.behind_others.result c.args.newest.now c.args.files c.behind_others.ensures.right
+returns-else-spells-4-clause-right c = right_with c.args.desc.now (said_of c.behind_others.new.said) c.behind_others.result c.args.newest.now c.args.files c.behind_others.ensures.right
 
 pub returns-then-spells-clause-value : goal.returns-then-spells-clause-value
 unfolding behind

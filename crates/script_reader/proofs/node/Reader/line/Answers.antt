@@ -9,5 +9,5 @@ returns-in-Ok c =
     let skip : is_skipped (split_words c.args.line.now) ≡ false = ap (λ bytes. is_skipped (split_words bytes)) (sym c.of-words.ensures) ∙ sym c.is_skipped.ensures ∙ c.if-is_skipped.false in
     let read = rw (c.of-words.ensures, c.files.ensures) at c.in-Ok.ensures.value in
     let right = rw c.files.ensures at c.in-Ok.ensures.right in
-    let ends = line_added c.args.desc.now c.args.number (progress_of c.args.self.now) (progress_of c.add.new.self) (split_words c.args.line.now) _ (said_of c.in-Ok.said) c.add.result c.requires.count c.requires.keeps skip read right c.add.ensures.value c.add.ensures.refused in
+    let ends = line_added c.args.desc.now c.args.number (progress_of c.args.self.now) (progress_of c.add.new.self) (split_words c.args.line.now) _ (said_of c.line_in.new.said) c.add.result c.requires.count c.requires.keeps skip read right c.add.ensures.value c.add.ensures.refused in
     record { value = ends.value; files = ends.files; keeps = ends.keeps }
