@@ -46,11 +46,14 @@ impl EntryCounts {
         ensures faults { self.new.faults ≡ self.old.faults + one_if (is_entry kinds.Fault entry.now) }
         ensures installs { self.new.installs ≡ self.old.installs + one_if (is_entry kinds.Install entry.now) }
     {
-        self.posts += one_if(is_entry(entry, EntryKind::Post));
-        self.drops += one_if(is_entry(entry, EntryKind::Drop));
-        self.halts += one_if(is_entry(entry, EntryKind::Halt));
-        self.faults += one_if(is_entry(entry, EntryKind::Fault));
-        self.installs += one_if(is_entry(entry, EntryKind::Install));
+        match entry {
+            Entry::Post { .. } => self.posts += 1,
+            Entry::Dropped { .. } => self.drops += 1,
+            Entry::Halt { .. } => self.halts += 1,
+            Entry::Fault { .. } => self.faults += 1,
+            Entry::Install { .. } => self.installs += 1,
+            _ => {}
+        }
     }
 }
 
@@ -232,16 +235,4 @@ pub(crate) fn one_if(is: bool) -> u64
     ensures most { result ≤ 1 }
 {
     if is { 1 } else { 0 }
-}
-
-fn is_entry(entry: &Entry, kind: EntryKind) -> bool
-    ensures { result ≡ is_entry kind entry.now }
-{
-    match kind {
-        EntryKind::Post => matches!(entry, Entry::Post { .. }),
-        EntryKind::Drop => matches!(entry, Entry::Dropped { .. }),
-        EntryKind::Halt => matches!(entry, Entry::Halt { .. }),
-        EntryKind::Fault => matches!(entry, Entry::Fault { .. }),
-        EntryKind::Install => matches!(entry, Entry::Install { .. }),
-    }
 }

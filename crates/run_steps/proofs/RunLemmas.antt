@@ -10,7 +10,7 @@ use Rattle.script_reader.specs.declared.steps.Step.{Step}
 use Rattle.script_reader.specs.Steps.{NodeScript, IsRightStep}
 use Rattle.mate_journal.specs.Log.{Log, IsEmpty, IsSameLog}
 use Rattle.mate_journal.specs.Machine.{Machine, Meaning}
-use Rattle.mate_journal.specs.Journal.{JournalEntry, TimedEntry, NodeState, journal_of, first_state, state_after_all, journal_entry}
+use Rattle.mate_journal.specs.Journal.{TimedEntry, NodeState, journal_of, first_state, state_after_all, journal_entry}
 use Rattle.mate_journal.specs.Pace.{Pace, no_pace}
 use Rattle.mate_journal.specs.WellFormed.{NotBefore}
 use Rattle.mate_journal.specs.NodeScript as node

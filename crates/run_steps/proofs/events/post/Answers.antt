@@ -1,5 +1,4 @@
 use Rattle.std.proofs.Common.{ℤ, subst, arith}
-use Rattle.std.specs.Prelude.{◌+◌}
 use Rattle.arrayvec.specs.ArrayVec.{ArrayVec}
 use Rattle.mate_journal.specs.NodeScript.{Post}
 use Rattle.node_invariant.specs.Meaning.{machine_in}

@@ -3,16 +3,16 @@ use Rattle.report_text.specs.declared.kinds.EntryKind.TheVariants as kinds
 use Rattle.report_summary.proofs.tally.EntryCounts.add.Goals as goal
 
 pub overflow_add-self : goal.overflow_add-self
-overflow_add-self c = omega (arith, c.requires kinds.Post, c.one_if.ensures.most)
+overflow_add-self c = omega (arith, c.requires kinds.Post)
 
-pub overflow_add-self-2 : goal.overflow_add-self-2
-overflow_add-self-2 c = omega (arith, c.requires kinds.Drop, c.one_if-2.ensures.most)
+pub overflow_add-self-in-Dropped : goal.overflow_add-self-in-Dropped
+overflow_add-self-in-Dropped c = omega (arith, c.requires kinds.Drop)
 
-pub overflow_add-self-3 : goal.overflow_add-self-3
-overflow_add-self-3 c = omega (arith, c.requires kinds.Halt, c.one_if-3.ensures.most)
+pub overflow_add-self-in-Halt : goal.overflow_add-self-in-Halt
+overflow_add-self-in-Halt c = omega (arith, c.requires kinds.Halt)
 
-pub overflow_add-self-4 : goal.overflow_add-self-4
-overflow_add-self-4 c = omega (arith, c.requires kinds.Fault, c.one_if-4.ensures.most)
+pub overflow_add-self-in-Fault : goal.overflow_add-self-in-Fault
+overflow_add-self-in-Fault c = omega (arith, c.requires kinds.Fault)
 
-pub overflow_add-self-5 : goal.overflow_add-self-5
-overflow_add-self-5 c = omega (arith, c.requires kinds.Install, c.one_if-5.ensures.most)
+pub overflow_add-self-in-Install : goal.overflow_add-self-in-Install
+overflow_add-self-in-Install c = omega (arith, c.requires kinds.Install)
