@@ -6,3 +6,4 @@ pub mod StepLemmas
 pub mod LineLemmas
 pub mod NodeLemmas
 mod ReadingLemmas
+pub mod LeadingLemmas

@@ -1,5 +1,5 @@
 -- How the words of a line are read, from left to right, each with the first cause for which it is refused.
-use Rattle.std.specs.Prelude.{◌≡◌, ℕ, ◌+◌, ◌-◌, ◌^◌, ◌≤◌, true, Option, None, Some, nat_lt, nat_le, ◌==◌, ℤ, pos, neg_ℤ, Bool, ◌&&◌, not, if◌then◌else◌, List, [], ◌∷◌, ◌++◌}
+use Rattle.std.specs.Prelude.{◌≡◌, ℕ, ◌+◌, ◌-◌, ◌^◌, ◌<◌, ◌≤◌, true, false, Option, None, Some, nat_lt, nat_le, ◌==◌, ℤ, pos, neg_ℤ, Bool, ◌&&◌, not, if◌then◌else◌, List, [], ◌∷◌, ◌++◌}
 use Rattle.mate_num.specs.Results.{result_map}
 use Rattle.std.specs.Prelude.{length, take, drop, Result, Ok, Err}
 use Rattle.std.specs.List.{list_all}
@@ -14,6 +14,8 @@ use Rattle.mate_num.specs.declared.id.ContextId.{ContextId}
 use Rattle.vm_desc.specs.declared.description.Description.{Description}
 use Rattle.vm_desc.specs.declared.handler.Handler.{Handler}
 use Rattle.vm_desc.specs.Whole.{context_count}
+use Rattle.script_reader.specs.declared.words.Leading.{Leading}
+use Rattle.script_reader.specs.Lines.{is_blank}
 use Rattle.script_reader.specs.declared.fault.Cause.{Cause}
 use Rattle.script_reader.specs.declared.fault.Cause.TheVariants.{Word, Number, Range, OldVersion, Name}
 
@@ -78,6 +80,24 @@ number_read w = if is_numeral w then Ok (digits_value 10 w) else Err Number
 abbrev pub SpellsNumber : List ℕ → Option ℕ → Type 0
 SpellsNumber w None = (is_numeral w ≡ true) × (2 ^ 64 ≤ digits_value 10 w)
 SpellsNumber w (Some n) = (is_numeral w ≡ true) × (n ≡ digits_value 10 w)
+
+-- the next word is a numeral, and this is its number
+pub record TakesNumeral (old new : List (List ℕ)) (n : ℕ) : Type 0 where
+  pub word : List ℕ
+  pub cut : old ≡ word ∷ new
+  pub spells : SpellsNumber word (Some n)
+
+-- a word begins at the first byte
+abbrev pub begins_with_word : List ℕ → Bool
+begins_with_word [] = false
+begins_with_word (byte ∷ bytes) = not (is_blank byte)
+
+-- the first bytes are these digits, one at least, and spell this number
+pub record AreLeadingDigits (bytes : List ℕ) (l : Leading) : Type 0 where
+  pub some : 0 < l.digits
+  pub within : l.digits ≤ length bytes
+  pub all_digits : list_all is_ascii_digit (take l.digits bytes) ≡ true
+  pub spelled : l.number ≡ digits_value 10 (take l.digits bytes)
 
 -- a number from low to high
 abbrev pub within : ℕ → ℕ → Cause → Result ℕ Cause → Result ℕ Cause

@@ -1,6 +1,6 @@
 //! The words of a line, read from left to right.
 
-ghost use Rattle.std.specs.Prelude.{◌≡◌, ◌<◌, ◌≤◌, ◌+◌, ◌*◌, ◌^◌, ◌∷◌, [], length, true, not, ◌==◌, IfOk, MatchOption, MatchResult, pos};
+ghost use Rattle.std.specs.Prelude.{◌≡◌, ◌<◌, ◌≤◌, ◌+◌, ◌*◌, ◌^◌, ◌∷◌, [], length, true, not, ◌==◌, IfOk, IfSome, MatchOption, MatchResult, pos};
 ghost use Rattle.mate_num.specs.Results.{result_map};
 ghost use Rattle.std.specs.Prelude.{neg_ℤ, Ok, Err};
 ghost use Rattle.std.specs.List.{prefix_len, list_all, zip};
@@ -10,7 +10,7 @@ ghost use Rattle.std.specs.Str.Parse.{digits_value};
 ghost use Rattle.mate_num.specs.declared.bounds.TheConstants.{PAYLOAD_MAX};
 ghost use Rattle.vm_desc.specs.Whole.{context_count};
 ghost use Rattle.script_reader.specs.Lines.{is_blank, split_words, is_skipped};
-ghost use Rattle.script_reader.specs.Words.{ReadsWords, is_printable, printed, a_word, nothing_more, SpellsNumber, number_read, within, a_number};
+ghost use Rattle.script_reader.specs.Words.{ReadsWords, is_printable, printed, a_word, nothing_more, SpellsNumber, TakesNumeral, AreLeadingDigits, begins_with_word, number_read, within, a_number};
 ghost use Rattle.script_reader.specs.Words.{value_read, a_value, a_payload, handler_of, a_handler, newer, a_version, a_context};
 
 use crate::fault::Cause;
@@ -105,6 +105,36 @@ impl<'a> Words<'a> {
         ensures low { IfOk result (λ n. low ≤ n) }
         ensures high { IfOk result (λ n. n ≤ high) }
     {
+        match self.short_number() {
+            Some(number) => in_range(number, low, high, outside),
+            None => self.any_number(low, high, outside),
+        }
+    }
+
+    /// Takes the next word if it is a numeral, and gives its number. None leaves the words as they were; it comes also for a long
+    /// numeral.
+    fn short_number(&mut self) -> Option<u64>
+        ensures { MatchOption result (self.new ≡ self.old) (TakesNumeral (split_words self.old) (split_words self.new)) }
+    {
+        let rest = self.rest.split_at(blanks_len(self.rest)).1;
+        let Leading { number, digits } = leading_number(rest)?;
+        let (_, behind) = rest.split_at(digits);
+        if begins_with_word(behind) {
+            return None;
+        }
+        self.rest = behind;
+        Some(number)
+    }
+
+    /// The same as `number`, for a word of any kind.
+    #[cold]
+    #[inline(never)]
+    #[tactic(auto, unfolding(crate::specs::Words::a_number))]
+    fn any_number(&mut self, low: u64, high: u64, outside: Cause) -> Result<u64, Cause>
+        ensures value { ReadsWords (λ n. n) (a_number low high outside) (split_words self.old) result (split_words self.new) }
+        ensures low { IfOk result (λ n. low ≤ n) }
+        ensures high { IfOk result (λ n. n ≤ high) }
+    {
         let Some(word) = self.next() else {
             return Err(Cause::Word);
         };
@@ -119,8 +149,13 @@ impl<'a> Words<'a> {
     pub fn value(&mut self) -> Result<i16, Cause>
         ensures { ReadsWords (λ v. v) a_value (split_words self.old) result (split_words self.new) }
     {
-        let word = self.plain()?;
-        value_in(word)
+        match self.short_number() {
+            Some(number) => small_value(number),
+            None => {
+                let word = self.plain()?;
+                value_in(word)
+            }
+        }
     }
 
     /// The values of the next words: of all that are left, but of ten at most.
@@ -247,6 +282,65 @@ fn are_digits(word: &[u8]) -> bool
     word.iter().all(|byte| byte.is_ascii_digit())
 }
 
+// Whether a word begins at the first byte.
+fn begins_with_word(bytes: &[u8]) -> bool
+    ensures { result ≡ begins_with_word bytes.now }
+{
+    match bytes {
+        [first, ..] => !is_blank(*first),
+        [] => false,
+    }
+}
+
+// The number that the first digits of some bytes spell, and how many digits there are.
+#[derive(Clone, Copy)]
+struct Leading {
+    number: u64,
+    digits: usize,
+}
+
+// The number that the first digits spell; None if there is no digit, or if there are some 19 or more.
+fn leading_number(bytes: &[u8]) -> Option<Leading>
+    ensures { IfSome result (AreLeadingDigits bytes.now) }
+{
+    let mut number = 0;
+    for place in 0..bytes.len() {
+        let digit = bytes[place];
+        if !digit.is_ascii_digit() {
+            return leading_of(number, place);
+        }
+        // (then it takes one more digit)
+        if number >= 1_000_000_000_000_000_000 {
+            return None;
+        }
+        number = number * 10 + value_of(digit);
+    }
+    leading_of(number, bytes.len())
+}
+
+fn leading_of(number: u64, digits: usize) -> Option<Leading>
+    ensures { IfSome result (λ l. (0 < digits) × (l ≡ record { number = number; digits = digits })) }
+{
+    if digits == 0 {
+        None
+    } else {
+        Some(Leading { number, digits })
+    }
+}
+
+// The number, if it is from `low` to `high`.
+fn in_range(number: u64, low: u64, high: u64, outside: Cause) -> Result<u64, Cause>
+    ensures value { result ≡ within low high outside (Ok number) }
+    ensures low { IfOk result (λ n. low ≤ n) }
+    ensures high { IfOk result (λ n. n ≤ high) }
+{
+    if low <= number && number <= high {
+        Ok(number)
+    } else {
+        Err(outside)
+    }
+}
+
 // The number that the word spells, None if it has more than 64 bits. A word that isn't one digit or more, and nothing else, is
 // refused with `Number`.
 fn numeral(word: &[u8]) -> Result<Option<u64>, Cause>
@@ -283,12 +377,20 @@ fn beyond(word: &[u8]) -> Result<Option<u64>, Cause>
     }
 }
 
+fn value_of(digit: u8) -> u64
+    requires { is_ascii_digit digit ≡ true }
+    ensures value { result ≡ digit_value digit }
+    ensures small { result ≤ 9 }
+{
+    (digit - b'0') as u64
+}
+
 // The number with one more digit after it; None if it has more than 64 bits.
 fn with_digit(number: u64, digit: u8) -> Option<u64>
     requires { is_ascii_digit digit ≡ true }
     ensures { MatchOption result (2 ^ 64 ≤ number * 10 + digit_value digit) (λ n. n ≡ number * 10 + digit_value digit) }
 {
-    number.checked_mul(10)?.checked_add((digit - b'0') as u64)
+    number.checked_mul(10)?.checked_add(value_of(digit))
 }
 
 // The first cause for which a word is refused that would be refused with `cause` if its characters were printable.
@@ -308,13 +410,9 @@ fn number_in(word: &[u8], low: u64, high: u64, outside: Cause) -> Result<u64, Ca
     ensures low { IfOk result (λ n. low ≤ n) }
     ensures high { IfOk result (λ n. n ≤ high) }
 {
-    let Some(number) = numeral(word)? else {
-        return Err(outside);
-    };
-    if low <= number && number <= high {
-        Ok(number)
-    } else {
-        Err(outside)
+    match numeral(word)? {
+        Some(number) => in_range(number, low, high, outside),
+        None => Err(outside),
     }
 }
 
@@ -329,6 +427,14 @@ fn value_in(word: &[u8]) -> Result<i16, Cause>
             Ok(size as i16)
         }
     }
+}
+
+// The number as a value.
+fn small_value(number: u64) -> Result<i16, Cause>
+    ensures { result ≡ result_map pos (within 0 32767 Cause.Range (Ok number)) }
+{
+    let size = in_range(number, 0, 32_767, Cause::Range)?;
+    Ok(size as i16)
 }
 
 // What the word spells after a minus.
