@@ -231,3 +231,11 @@ comment_cut i (x ∷ xs) rest b p s =
 
 pub blank_cut : (i b : ℕ) (rest : List ℕ) → is_blank b ≡ true → cut_from i between (b ∷ rest) ≡ cut_from (i + 1) between rest
 blank_cut i b rest h = cut_from-go i between between b rest (fresh-blank i b h)
+
+-- a run of blanks, each of which is skipped by itself, and what follows it
+pub blank_run : (i : ℕ) (xs rest : List ℕ) → Passes is_blank xs → cut_from i between (xs ++ rest) ≡ cut_from (i + length xs) between rest
+blank_run i [] rest p = sym (ap (λ j. cut_from j between rest) (add-zero i))
+blank_run i (x ∷ xs) rest p =
+    blank_cut i x (xs ++ rest) p.0
+    ∙ blank_run (i + 1) xs rest p.1
+    ∙ ap (λ j. cut_from j between rest) (let e : i + 1 + length xs ≡ i + length (x ∷ xs) = omega arith in e)

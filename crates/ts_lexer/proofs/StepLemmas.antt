@@ -17,7 +17,7 @@ use Rattle.ts_lexer.specs.declared.scanner.Scanner.{Scanner}
 use Rattle.ts_lexer.specs.Spans.{begins, BeginsWith, Passes, digits_value}
 use Rattle.ts_lexer.specs.Answers.{HasFault, CutsIn}
 use Rattle.ts_lexer.specs.Scanner.{due, TakesBytes, Appends, Moves, Steps, EndsScan, LeadsOn}
-use Rattle.ts_lexer.proofs.CutLemmas.{Stops, in_line, cut_from-nil, with_front-nil, with_front-append, word_cut, long_word, literal_cut, big_literal_cut, literal_letter_cut, comment_cut, blank_cut}
+use Rattle.ts_lexer.proofs.CutLemmas.{Stops, in_line, cut_from-nil, with_front-nil, with_front-append, word_cut, long_word, literal_cut, big_literal_cut, literal_letter_cut, comment_cut, blank_cut, blank_run}
 
 -- the longest front that passes a test
 
@@ -108,6 +108,13 @@ blank_front : (i : ℕ) (bs : List ℕ) → BeginsWith is_blank bs → cut_from 
 blank_front i [] h = absurd (false≢true h)
 blank_front i (b ∷ bs) h = blank_cut i b bs h
 
+blanks_front : (i : ℕ) (bs : List ℕ) → cut_from i between bs ≡ cut_from (i + prefix_len is_blank bs) between (drop (prefix_len is_blank bs) bs)
+blanks_front i bs =
+    let n = prefix_len is_blank bs in
+    cut_split i n bs
+    ∙ blank_run i (take n bs) (drop n bs) (prefix_passes is_blank bs)
+    ∙ ap (λ m. cut_from (i + m) between (drop n bs)) (length-prefix_len is_blank bs)
+
 -- steps of a scanner
 
 -- the first byte passes a test
@@ -131,16 +138,19 @@ front_in : (d : Dialect) (t : Token) (r : Result (List Token) CutFault) → all_
 front_in d t (Ok us) = refl
 front_in d t (Err f) = refl
 
+-- bytes were taken that leave nothing behind
+passed_due : (old new : Scanner) (len : ℕ) → TakesBytes old new len
+    → cut_from old.place between old.rest.now ≡ cut_from (old.place + len) between (drop len old.rest.now) → due new ≡ due old
+passed_due old new len t e =
+    ap (λ ts. with_front ts (all_in new.dialect (cut_from new.place between new.rest.now))) t.tokens
+    ∙ ap (λ d. with_front old.tokens (all_in d (cut_from new.place between new.rest.now))) t.dialect
+    ∙ ap (λ j. with_front old.tokens (all_in old.dialect (cut_from j between new.rest.now))) t.place
+    ∙ ap (λ bs. with_front old.tokens (all_in old.dialect (cut_from (old.place + len) between bs))) t.rest
+    ∙ ap (λ r. with_front old.tokens (all_in old.dialect r)) (sym e)
+
 passes_over : (old new : Scanner) (len : ℕ) → TakesBytes old new len → 0 < len → len ≤ length old.rest.now
     → cut_from old.place between old.rest.now ≡ cut_from (old.place + len) between (drop len old.rest.now) → Moves old new
-passes_over old new len t some fits e = record {
-  same = ap (λ ts. with_front ts (all_in new.dialect (cut_from new.place between new.rest.now))) t.tokens
-      ∙ ap (λ d. with_front old.tokens (all_in d (cut_from new.place between new.rest.now))) t.dialect
-      ∙ ap (λ j. with_front old.tokens (all_in old.dialect (cut_from j between new.rest.now))) t.place
-      ∙ ap (λ bs. with_front old.tokens (all_in old.dialect (cut_from (old.place + len) between bs))) t.rest
-      ∙ ap (λ r. with_front old.tokens (all_in old.dialect r)) (sym e);
-  shorter = shorter_by old new len t some fits;
-}
+passes_over old new len t some fits e = record { same = passed_due old new len t e; shorter = shorter_by old new len t some fits }
 
 token_moves : (old mid new : Scanner) (len : ℕ) (k : TokenKind) → TakesBytes old mid len → 0 < len → len ≤ length old.rest.now
     → cut_from old.place between old.rest.now ≡ with_front (token k old.place (old.place + len) ∷ []) (cut_from (old.place + len) between (drop len old.rest.now))
@@ -179,6 +189,19 @@ token_steps old mid new len k t some fits e (Err f) a = by f a
 
 pub blank_steps : (old new : Scanner) → BeginsWith is_blank old.rest.now → TakesBytes old new 1 → Moves old new
 blank_steps old new b t = passes_over old new 1 t (omega arith) (some_left is_blank old.rest.now b) (blank_front old.place old.rest.now b)
+
+-- blanks that are skipped at once, as many as there are
+pub blanks_due : (old new : Scanner) (len : ℕ) → len ≡ prefix_len is_blank old.rest.now → TakesBytes old new len → due new ≡ due old
+blanks_due old new len e t =
+    let t' = subst (TakesBytes old new) e t in
+    passed_due old new (prefix_len is_blank old.rest.now) t' (blanks_front old.place old.rest.now)
+
+pub no_longer : (old new : Scanner) (len : ℕ) → TakesBytes old new len → length new.rest.now ≤ length old.rest.now
+no_longer old new len t = omega (arith, ap length t.rest, length-drop len old.rest.now)
+
+-- a step, and what changes nothing
+pub moves_on : (a b c : Scanner) → Moves a b → due c ≡ due b → length c.rest.now ≤ length b.rest.now → Moves a c
+moves_on a b c p same rest = record { same = same ∙ p.same; shorter = omega (arith, p.shorter, rest) }
 
 pub comment_steps : (old new : Scanner) (len : ℕ) → BeginsWith (λ b. b == 33) old.rest.now → len ≡ prefix_len in_line old.rest.now → TakesBytes old new len → Moves old new
 comment_steps old new len b e t =

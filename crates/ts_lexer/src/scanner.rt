@@ -5,8 +5,8 @@ ghost use Rattle.mate_files.specs.declared.files.TheConstants.{FILE_MAX};
 
 use crate::fault::TokenFault;
 use crate::spans::{
-    begins_with_letter, digits_len, is_blank, is_digit, is_letter, line_len, literal_value,
-    name_len, name_text, sign, word,
+    begins_with_letter, blank_len, digits_len, is_blank, is_digit, is_letter, line_len,
+    literal_value, name_len, name_text, sign, word,
 };
 use mate_num::{Items, NAME_MAX};
 use std::alloc::Global;
@@ -93,7 +93,7 @@ impl<'a> Scanner<'a> {
         self.tokens.truncate(0);
     }
 
-    /// Reads a blank, a comment or a token; `first` is its first byte. It is inlined into the loops that call it: a source has many
+    /// Reads blanks, a comment or a token; `first` is its first byte. It is inlined into the loops that call it: a source has many
     /// blanks, and a call costs more than to skip one.
     #[inline(always)]
     pub(crate) fn step(&mut self, first: u8) -> Result<(), TokenFault>
@@ -117,12 +117,25 @@ impl<'a> Scanner<'a> {
         self.sign()
     }
 
-    /// Skips a blank.
+    /// Skips a run of blanks. Most runs are of one byte, so more of it is looked for only if what follows is no sign, letter or digit.
     fn blank(&mut self)
         requires { BeginsWith is_blank self.old.rest.now }
         ensures { Moves self.old self.new }
     {
         self.take(1);
+        if let [b'\0'..=b' ', ..] = self.rest {
+            self.more_blanks();
+        }
+    }
+
+    /// Skips the rest of a run of blanks, if there is more of it. It is called, and not inlined, since few blanks come here.
+    #[inline(never)]
+    fn more_blanks(&mut self)
+        ensures same { due self.new ≡ due self.old }
+        ensures rest { length self.new.rest.now ≤ length self.old.rest.now }
+    {
+        let len = blank_len(self.rest);
+        self.take(len);
     }
 
     /// Skips a comment. The LF after it stays, as a blank.

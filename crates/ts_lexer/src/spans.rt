@@ -39,6 +39,13 @@ pub fn begins_with_letter(bytes: &[u8]) -> bool
     }
 }
 
+/// How many of the first bytes are blanks.
+pub fn blank_len(bytes: &[u8]) -> usize
+    ensures { result ≡ prefix_len is_blank bytes.now }
+{
+    bytes.iter().take_while(|byte| is_blank(**byte)).count()
+}
+
 /// How many of the first bytes can be in a name.
 pub fn name_len(bytes: &[u8]) -> usize
     ensures { result ≡ prefix_len in_name bytes.now }
