@@ -1,6 +1,6 @@
 //! Events for a handler: each becomes an invocation, or is dropped.
 
-ghost use Rattle.std.specs.Prelude.{◌≡◌, ◌+◌, ◌<◌, ◌≤◌, length, MatchOption};
+ghost use Rattle.std.specs.Prelude.{◌≡◌, ◌+◌, ◌<◌, ◌≤◌, [], length, MatchOption};
 ghost use Rattle.mate_num.specs.declared.bounds.TheConstants.{CONTEXTS_MAX};
 ghost use Rattle.node_contexts.specs.At.{at as at_context};
 ghost use Rattle.node_invariant.specs.Keeps.{reading, IsTimely};
@@ -11,7 +11,7 @@ ghost use Rattle.node_calls.specs.Posting.{PostGives, IsFirstFree, HasNoneFree, 
 
 use exec_unit::Machine;
 use mate_journal::{DropCause, Entry};
-use mate_num::{ContextId, HandlerId, LockSet, Payload, Stamp, copy_of};
+use mate_num::{ContextId, HandlerId, LockSet, Payload, Stamp};
 use node_contexts::{Contexts, Seat};
 use node_invariant::{Parts, start_all, tell};
 use vm_desc::Description;
@@ -56,14 +56,16 @@ fn first_free(
     None
 }
 
-/// A copy of the payload. An empty one is made without a call that copies nothing.
-fn copied(payload: &Payload) -> Payload
-    ensures { result ≡ payload.now }
+/// Fills a payload that is empty with what the other holds. It is filled in its place, since a processor waits where what was
+/// just moved in parts is read as a whole; and nothing is called to copy nothing.
+fn fill(copy: &mut Payload, payload: &Payload)
+    requires { copy.old.items ≡ [] }
+    ensures { copy.new ≡ payload.now }
 {
-    if payload.is_empty() {
-        Payload::new()
-    } else {
-        copy_of(payload)
+    if !payload.is_empty() {
+        let Ok(()) = copy.try_extend_from_slice(payload.as_slice()) else {
+            unreachable!()
+        };
     }
 }
 
@@ -88,14 +90,17 @@ fn queue(
 {
     parts.posts += 1;
     let inv = parts.posts;
+    let mut seated = Payload::new();
+    fill(&mut seated, payload);
     let seat = Seat {
-        machine: Machine::new(description.turns, copied(payload)),
+        machine: Machine::new(description.turns, seated),
         count: 0,
         inv,
         handler,
     };
     parts.contexts.post(ctx, seat, locks);
-    let payload = copied(payload);
+    let mut told = Payload::new();
+    fill(&mut told, payload);
     tell(
         &mut parts.log,
         at,
@@ -103,7 +108,7 @@ fn queue(
             inv,
             handler,
             ctx,
-            payload,
+            payload: told,
         },
     );
     inv

@@ -15,9 +15,7 @@ use Rattle.std.specs.Int.{w16}
 use mir.Val.{SFits}
 use Rattle.script_reader.specs.declared.fault.Cause.{Cause}
 use Rattle.script_reader.specs.declared.fault.Cause.TheVariants.{Number, Range}
-use Rattle.script_reader.specs.declared.words.Leading.{Leading}
-use Rattle.std.specs.Prelude.{Option, None, Some, IfSome}
-use Rattle.script_reader.specs.Words.{AreLeadingDigits, TakenWords, and_then, found, printed, within, is_numeral, number_read, a_number, value_read, a_value, is_printable}
+use Rattle.script_reader.specs.Words.{TakenWords, and_then, found, printed, within, is_numeral, number_read, a_number, value_read, a_value, is_printable}
 
 -- where a digit more is too much, so are all
 pub overflows : (w : List ℕ) (place n : ℕ) → n ≡ digits_value 10 (take place w) → place < length w
@@ -37,14 +35,6 @@ one_more_digit w place n m same within is =
 -- all digits
 pub all_digits : (w : List ℕ) (place n : ℕ) → n ≡ digits_value 10 (take place w) → length w ≤ place → n ≡ digits_value 10 w
 all_digits w place n same end = same ∙ ap (digits_value 10) (take_all place w end)
-
--- the first digits, if there are any
-pub AreLeadingDigits-from : (bytes : List ℕ) (number digits : ℕ) (r : Option Leading) → digits ≤ length bytes → list_all is_ascii_digit (take digits bytes) ≡ true
-    → number ≡ digits_value 10 (take digits bytes) → IfSome r (λ l. (0 < digits) × (l ≡ record { number = number; digits = digits })) → IfSome r (AreLeadingDigits bytes)
-AreLeadingDigits-from bytes number digits None short all same is = tt
-AreLeadingDigits-from bytes number digits (Some l) short all same is =
-    let P : Leading → Type 0 = λ l. AreLeadingDigits bytes l in
-    subst P (sym is.1) record { some = is.0; within = short; all_digits = all; spelled = same }
 
 -- a word that isn't empty, and whose characters are all digits
 pub is_numeral-whole : (w : List ℕ) (place : ℕ) → list_all is_ascii_digit (take place w) ≡ true → length w ≤ place

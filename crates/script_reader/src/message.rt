@@ -1,6 +1,7 @@
 //! The values of a post, as a script keeps them.
 
-ghost use Rattle.std.specs.Prelude.{◌≡◌};
+ghost use Rattle.std.specs.Prelude.{◌≡◌, []};
+ghost use Rattle.mate_num.specs.Store.{payload};
 
 use mate_num::{PAYLOAD_MAX, Payload};
 use std::marker::Model;
@@ -23,6 +24,16 @@ impl Model for Message {
 }
 
 impl Message {
+    /// No values.
+    pub(crate) fn none() -> Message
+        ensures { result ≡ payload [] }
+    {
+        Message {
+            count: 0,
+            values: [0; PAYLOAD_MAX],
+        }
+    }
+
     /// The values of `payload`.
     pub fn of(payload: &Payload) -> Message
         ensures { result ≡ payload.now }

@@ -3,7 +3,8 @@
 ghost use Rattle.std.specs.Prelude.{◌≡◌, ◌<◌, ◌≤◌, ◌^◌, ℕ, List, length, IfOk, IfErr, OnOk};
 ghost use Rattle.mate_files.specs.declared.files.TheConstants.{FILE_MAX};
 ghost use Rattle.script_reader.specs.Lines.{split_words};
-ghost use Rattle.script_reader.specs.Words.{ReadsWords};
+ghost use Rattle.mate_num.specs.declared.bounds.TheConstants.{PAYLOAD_MAX};
+ghost use Rattle.script_reader.specs.Words.{ReadsWords, a_payload};
 ghost use Rattle.script_reader.specs.Steps.{IsRightSteps};
 ghost use Rattle.script_reader.specs.NodeScript.{an_install, a_load, a_post, a_step, an_answer, behind, behind_others, a_line, with_said};
 ghost use Rattle.script_reader.specs.NodeScript.{newest_after, after_line, node_script_in};
@@ -239,13 +240,24 @@ fn post_in<'a>(desc: &Description, words: &mut Words<'a>, said: &mut Said<'a>) -
     ensures right { IfOk result (λ _. (newest : List ℕ) (files : ℕ) → IsRightSaid desc.now newest files (said_of said.new)) }
 {
     let handler = words.handler(desc)?;
-    let payload = words.payload()?;
-    let payload = Message::of(&payload);
+    let payload = values_in(words)?;
     *said = Said {
         step: Step::Post { handler, payload },
         file: None,
     };
     Ok(())
+}
+
+// The values of a post. Most have none: then no payload is made to be copied.
+fn values_in(words: &mut Words<'_>) -> Result<Message, Cause>
+    ensures value { ReadsWords (λ m. m) a_payload (split_words words.old) result (split_words words.new) }
+    ensures few { IfOk result (λ m. length m.items ≤ PAYLOAD_MAX) }
+{
+    if words.is_done() {
+        return Ok(Message::none());
+    }
+    let payload = words.payload()?;
+    Ok(Message::of(&payload))
 }
 
 #[tactic(auto, unfolding(crate::specs::NodeScript::a_step))]

@@ -2,7 +2,7 @@
 
 ghost use Rattle.std.specs.Prelude.{◌≡◌, ◌<◌, ◌≤◌, ◌+◌, ◌*◌, ◌^◌, ◌∷◌, [], length, true, not, ◌==◌, IfOk, IfSome, MatchOption, MatchResult, pos};
 ghost use Rattle.mate_num.specs.Results.{result_map};
-ghost use Rattle.std.specs.Prelude.{neg_ℤ, Ok, Err};
+ghost use Rattle.std.specs.Prelude.{neg_ℤ, Ok, Err, drop};
 ghost use Rattle.std.specs.List.{prefix_len, list_all, zip};
 ghost use Rattle.std.specs.Char.{is_ascii_digit, digit_value};
 ghost use Rattle.std.specs.Str.{bytes_eq};
@@ -45,8 +45,20 @@ impl<'a> Words<'a> {
         ensures { MatchOption result ((split_words self.old ≡ []) × (split_words self.new ≡ [])) (λ w. split_words self.old ≡ w.now
             ∷ split_words self.new) }
     {
-        let (_, rest) = self.rest.split_at(blanks_len(self.rest));
-        let (word, rest) = rest.split_at(word_len(rest));
+        let rest = behind_blanks(self.rest);
+        self.cut(rest, word_len(rest))
+    }
+
+    // The first word of what is behind the blanks, which has this length.
+    #[inline(always)]
+    fn cut(&mut self, rest: &'a [u8], len: usize) -> Option<&'a [u8]>
+        requires behind { rest.now ≡ drop (prefix_len is_blank self.old) self.old }
+        requires word { len ≡ prefix_len (λ b. not (is_blank b)) rest.now }
+        requires fits { len ≤ length rest.now }
+        ensures { MatchOption result ((split_words self.old ≡ []) × (split_words self.new ≡ [])) (λ w. split_words self.old ≡ w.now
+            ∷ split_words self.new) }
+    {
+        let (word, rest) = rest.split_at(len);
         self.rest = rest;
         if word.is_empty() { None } else { Some(word) }
     }
@@ -55,14 +67,14 @@ impl<'a> Words<'a> {
     pub fn is_done(&self) -> bool
         ensures { result ≡ (length (split_words self.now) == 0) }
     {
-        self.rest.split_at(blanks_len(self.rest)).1.is_empty()
+        behind_blanks(self.rest).is_empty()
     }
 
     /// Whether the line says nothing: it has no word, or its first word begins with `#`.
     pub fn is_skipped(&self) -> bool
         ensures { result ≡ is_skipped (split_words self.now) }
     {
-        match self.rest.split_at(blanks_len(self.rest)).1 {
+        match behind_blanks(self.rest) {
             [first, ..] => *first == b'#',
             [] => true,
         }
@@ -92,13 +104,15 @@ impl<'a> Words<'a> {
     pub fn finish(&mut self) -> Result<(), Cause>
         ensures { ReadsWords (λ u. u) nothing_more (split_words self.old) result (split_words self.new) }
     {
-        match self.next() {
-            Some(_) => Err(Cause::Word),
-            None => Ok(()),
+        if self.is_done() {
+            Ok(())
+        } else {
+            Err(Cause::Word)
         }
     }
 
     /// A number from `low` to `high`; one that is outside is refused with `outside`, and a word that is none with `Number`.
+    #[inline(always)]
     #[tactic(auto, unfolding(crate::specs::Words::a_number))]
     pub fn number(&mut self, low: u64, high: u64, outside: Cause) -> Result<u64, Cause>
         ensures value { ReadsWords (λ n. n) (a_number low high outside) (split_words self.old) result (split_words self.new) }
@@ -112,11 +126,12 @@ impl<'a> Words<'a> {
     }
 
     /// Takes the next word if it is a numeral, and gives its number. None leaves the words as they were; it comes also for a long
-    /// numeral.
+    /// numeral. It isn't inlined, so that each caller of `number` tests its own bounds and holds no loop.
+    #[inline(never)]
     fn short_number(&mut self) -> Option<u64>
         ensures { MatchOption result (self.new ≡ self.old) (TakesNumeral (split_words self.old) (split_words self.new)) }
     {
-        let rest = self.rest.split_at(blanks_len(self.rest)).1;
+        let rest = behind_blanks(self.rest);
         let Leading { number, digits } = leading_number(rest)?;
         let (_, behind) = rest.split_at(digits);
         if begins_with_word(behind) {
@@ -209,7 +224,14 @@ impl<'a> Words<'a> {
 pub fn spells(bytes: &[u8], text: &str) -> bool
     ensures { result ≡ bytes_eq bytes.now text.now }
 {
-    bytes.len() == text.len() && are_same(bytes, text.as_bytes())
+    is_same(bytes, text.as_bytes())
+}
+
+// Whether the bytes are the same. Those of a name or a verb are few: they are compared one by one.
+fn is_same(bytes: &[u8], others: &[u8]) -> bool
+    ensures { result ≡ bytes_eq bytes.now others.now }
+{
+    bytes.len() == others.len() && are_same(bytes, others)
 }
 
 // Whether the bytes are the same, up to the end of the shorter.
@@ -224,6 +246,21 @@ fn is_blank(byte: u8) -> bool
     ensures { result ≡ is_blank byte }
 {
     byte == b' ' || byte == b'\t'
+}
+
+// What is behind the blanks at the front. Most often there is none, or one space.
+fn behind_blanks(bytes: &[u8]) -> &[u8]
+    ensures { result.now ≡ drop (prefix_len is_blank bytes.now) bytes.now }
+{
+    if begins_with_word(bytes) {
+        return bytes;
+    }
+    if let [b' ', rest @ ..] = bytes
+        && begins_with_word(rest)
+    {
+        return rest;
+    }
+    bytes.split_at(blanks_len(bytes)).1
 }
 
 fn blanks_len(bytes: &[u8]) -> usize
@@ -303,11 +340,14 @@ struct Leading {
 fn leading_number(bytes: &[u8]) -> Option<Leading>
     ensures { IfSome result (AreLeadingDigits bytes.now) }
 {
-    let mut number = 0;
-    for place in 0..bytes.len() {
+    let mut number = first_digit(bytes)?;
+    for place in 1..bytes.len() {
         let digit = bytes[place];
         if !digit.is_ascii_digit() {
-            return leading_of(number, place);
+            return Some(Leading {
+                number,
+                digits: place,
+            });
         }
         // (then it takes one more digit)
         if number >= 1_000_000_000_000_000_000 {
@@ -315,16 +355,19 @@ fn leading_number(bytes: &[u8]) -> Option<Leading>
         }
         number = number * 10 + value_of(digit);
     }
-    leading_of(number, bytes.len())
+    Some(Leading {
+        number,
+        digits: bytes.len(),
+    })
 }
 
-fn leading_of(number: u64, digits: usize) -> Option<Leading>
-    ensures { IfSome result (λ l. (0 < digits) × (l ≡ record { number = number; digits = digits })) }
+// The value of the first byte, if it is a digit.
+fn first_digit(bytes: &[u8]) -> Option<u64>
+    ensures { IfSome result (λ n. AreLeadingDigits bytes.now (record { number = n; digits = 1 })) }
 {
-    if digits == 0 {
-        None
-    } else {
-        Some(Leading { number, digits })
+    match bytes {
+        [first, ..] if first.is_ascii_digit() => Some(value_of(*first)),
+        _ => None,
     }
 }
 
@@ -450,7 +493,7 @@ fn handler_of(desc: &Description, word: &[u8]) -> Result<HandlerId, Cause>
     ensures below { IfOk result (λ h. h.0 < length desc.now.handlers.items) }
 {
     for (index, handler) in desc.handlers.as_slice().iter().enumerate() {
-        if handler.name.as_bytes() == word {
+        if is_same(handler.name.as_bytes(), word) {
             return Ok(HandlerId(index as u8));
         }
     }

@@ -18,8 +18,8 @@ tell-requires-clause-room c = c.requires.room
 
 pub returns-clause-queued : goal.returns-clause-queued
 returns-clause-queued c =
-    IsQueued-made c.args.description.now c.args.parts.now c.post.new.self c.tell.new.log c.args.at c.args.handler c.args.ctx c.args.payload.now c.copied.result c.copied-payload.result c.args.locks c.new.result c.requires.can c.requires.timely
-    c.copied.ensures c.copied-payload.ensures c.new.ensures.value c.new.ensures.fits c.post.ensures.becomes c.post.ensures.locks c.post.ensures.ring c.tell.ensures.pushed c.tell.ensures.spare
+    IsQueued-made c.args.description.now c.args.parts.now c.post.new.self c.tell.new.log c.args.at c.args.handler c.args.ctx c.args.payload.now c.fill.new.copy c.fill-2.new.copy c.args.locks c.new.result c.requires.can c.requires.timely
+    c.fill.ensures c.fill-2.ensures c.new.ensures.value c.new.ensures.fits c.post.ensures.becomes c.post.ensures.locks c.post.ensures.ring c.tell.ensures.pushed c.tell.ensures.spare
 
 pub returns-clause-gone : goal.returns-clause-gone
 returns-clause-gone c = c.tell.ensures.gone

@@ -3,6 +3,4 @@ use Rattle.script_reader.proofs.SplitLemmas.{blanks_decide}
 use Rattle.script_reader.proofs.words.Words.is_done.Goals as goal
 
 pub returns : goal.returns
-returns c =
-    rw (sym c.self.view_is)
-    (c.is_empty.ensures ∙ blanks_decide c.self.inside.rest.now c.split_at.result.1.now (rw c.blanks_len.ensures.value at c.split_at.ensures.back))
+returns c = rw (sym c.self.view_is) (c.is_empty.ensures ∙ blanks_decide c.self.inside.rest.now c.behind_blanks.result.now c.behind_blanks.ensures)
