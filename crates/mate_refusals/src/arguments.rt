@@ -4,12 +4,8 @@ ghost use Rattle.std.specs.Prelude.{◌≡◌, ◌⊎◌, IfErr};
 
 use crate::refusal::Refusal;
 use std::env;
-use std::env::FillError;
 use std::io::ErrorKind;
 use std::rt::Env;
-
-/// How many bytes of the first word are looked at before the stack is taken.
-const NAME: usize = 8;
 
 /// The words of the command line, without the program's own name. Words that aren't UTF-8 are refused as `Usage`. It
 /// isn't inlined, so that the stack that it takes is given back before the command runs.
@@ -27,15 +23,4 @@ pub fn words(rt: &(impl Env + AllocGlobal)) -> Result<Vec<String>, Refusal>
         words.push(word).map_err(|_| Refusal::NoMemory)?;
     }
     Ok(words)
-}
-
-/// Whether the words may be those of a command that reads sources: those of all others begin with `table`, `check`,
-/// `feed` or `gen`, or there are none. The first word is copied to the stack, so that no heap is taken before the stack is.
-pub fn may_read_sources(rt: &impl Env) -> bool {
-    let mut name = [0; NAME];
-    match rt.arg(1, &mut name) {
-        Ok(length) => !matches!(&name[..length], b"table" | b"check" | b"feed" | b"gen"),
-        Err(FillError::TooLong) => true,
-        Err(FillError::NotPresent) => false,
-    }
 }

@@ -16,7 +16,7 @@ pub mod spelling_cause;
 pub mod status;
 pub mod streams;
 
-pub use arguments::{may_read_sources, words};
+pub use arguments::words;
 pub use capsule_cause::CapsuleCause;
 pub use cause::{Cause, Unread};
 pub use description_cause::DescriptionCause;

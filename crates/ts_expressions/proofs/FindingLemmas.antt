@@ -1,14 +1,13 @@
 -- What is found of what was found before is read as that was, and leaves no more.
-use Rattle.std.proofs.Common.{◌≡◌, ◌<◌, length, List, Result, Ok, Err, Bor, IfOk, refl, sym, ◌∙◌, ap, subst, lt_trans, Option, arith}
-use Rattle.std.specs.Result.{IsErrAnd}
+use Rattle.std.proofs.Common.{◌≡◌, ◌<◌, length, List, Result, Ok, Err, Bor, IfOk, refl, sym, ◌∙◌, ap, subst, lt_trans, le_of_lt, ◌≤◌, Option, arith}
 use Rattle.std.specs.declared.alloc.Global.{Global}
 use Rattle.std.specs.declared.boxed.Box.{Box}
 use Rattle.ts_expressions.specs.Boxed.{boxed_tree}
-use Rattle.ts_expressions.specs.Finding.{Found, Made, Joined}
-use Rattle.ts_syntax.specs.Parsing.{Ended, reads, noted_then, Reads, Starts, Lacks, LacksOperator, Takes, StartsOperator}
+use Rattle.ts_expressions.specs.Finding.{Found, Made, Joined, Called}
+use Rattle.ts_syntax.specs.Parsing.{Ended, reads, noted_then, Reads, Starts, Lacks, LacksOperator, StartsOperator, Caller, called_open, called_with, called, of_operand}
 use Rattle.ts_syntax.specs.declared.halt.Halt.{Halt}
 use Rattle.ts_syntax.specs.declared.halt.Halt.TheVariants as halt
-use Rattle.ts_syntax.specs.Machine.{Operand, in_product, Product, first_product, in_sum, Sum, sum_due, Inverse, inverse_due, in_compare, in_and, Conjunction, first_and, in_or, in_paren, in_item, in_message, Whole, State, sized, size_opened, size_named, want, want_inverse, expr_due, give, have_product, have_sum, have_inverse, have_and, have, product_sign, sum_sign}
+use Rattle.ts_syntax.specs.Machine.{Operand, in_product, Product, first_product, in_sum, Sum, sum_due, Inverse, inverse_due, in_compare, in_and, Conjunction, first_and, in_or, in_paren, in_item, in_message, Whole, State, sized, size_opened, size_named, want, want_inverse, named, expr_due, give, have_product, have_sum, have_inverse, have_and, have, with_tree, product_sign, sum_sign}
 use Rattle.ts_syntax.proofs.Parts.{starts_shorter}
 use Rattle.ts_syntax.proofs.Turns.{inverse_is_next}
 use Rattle.ts_checked.specs.declared.bin_op.BinOp.{BinOp}
@@ -18,11 +17,12 @@ use Rattle.ts_syntax.specs.declared.token.Token.{Token}
 use Rattle.ts_syntax.specs.declared.token.TokenKind.{TokenKind}
 use Rattle.ts_syntax.specs.declared.token.TokenKind.TheVariants as kind
 use Rattle.ts_syntax.specs.declared.word.Word.{Word}
+use Rattle.ts_syntax.specs.Seen.{trees_of}
 use Rattle.ts_syntax.specs.Spelling.{kinds}
-use Rattle.ts_syntax.specs.Tree.{Tree, two, paren, item, message_item}
-use Rattle.ts_expressions.proofs.ExprLemmas.{part_halts, paren_closed, item_closed, message_closed, size_begins, size_closed}
+use Rattle.ts_syntax.specs.Tree.{Tree, two, call, paren, item, message_item}
+use Rattle.ts_expressions.proofs.ExprLemmas.{part_halts, paren_closed, item_closed, message_closed, arguments_closed, call_read, call_halts, size_begins, size_closed}
 use Rattle.ts_expressions.proofs.OperatorLemmas.{product_over, and_over, sum_over}
-use Rattle.ts_expressions.proofs.StoppingLemmas.{paren_open, item_open, message_open, size_open}
+use Rattle.ts_expressions.proofs.StoppingLemmas.{paren_open, item_open, message_open, arguments_open, size_open}
 
 -- ---- a sign behind what was found
 
@@ -138,3 +138,40 @@ pub comparison_joined : (o : BinOp) (l : Tree) (ts rest : List Token) → ((k : 
     → (s : Found) → Joined o l r s → Reads {X = Box Expr Global} {K = Inverse} ts (λ k. want (inverse_due k)) (λ e k. have_inverse (boxed_tree e) k) s
 comparison_joined o l ts rest begins =
     joined_reads o l ts rest (λ k. want (sum_due k)) have_sum (λ k. want (inverse_due k)) have_inverse (in_compare o l) begins (λ us. LacksOperator sum_sign us) (λ e k us p. sum_over o l e k us p)
+
+-- the arguments of a call, behind the last one
+pub call_ended : (ts : List Token) (es : List Expr) (b : Box Expr Global) (x : List Expr × Bor (List Token)) → trees_of x.0 ≡ with_tree (trees_of es) (boxed_tree b)
+    → ((k : Caller) → reads ts (called_open k) ≡ reads x.1.now (have (boxed_tree b) (called_with k (trees_of es)))) → Lacks kind.Or x.1.now → Lacks kind.Comma x.1.now
+    → (s : Result (List Expr × Bor (List Token)) Halt) → Ended {X = List Expr} kind.Close (Ok x) s → Reads {X = List Expr} {K = Caller} ts (λ k. called_open k) (λ fs k. called k (trees_of fs)) s
+call_ended ts es b x is begins over alone (Ok y) e =
+    λ k. begins k ∙ arguments_closed k (trees_of es) (boxed_tree b) e.1 ∙ ap (λ z. reads y.1.now (called k z)) (sym is ∙ ap trees_of (sym e.0))
+call_ended ts es b x is begins over alone (Err halt.Memory) e = tt
+call_ended ts es b x is begins over alone (Err (halt.At rest)) e =
+    λ k. begins k ∙ arguments_open x.1.now k (trees_of es) (boxed_tree b) over alone e.1 ∙ ap (λ z. Err (kinds z)) (sym e.0)
+
+pub call_shorter : (ts : List Token) (x : List Expr × Bor (List Token)) → length x.1.now < length ts
+    → (s : Result (List Expr × Bor (List Token)) Halt) → Ended {X = List Expr} kind.Close (Ok x) s → IfOk s (λ y. length y.1.now < length ts)
+call_shorter ts x less (Ok y) e = lt_trans (starts_shorter kind.Close e.1) less
+call_shorter ts x less (Err f) e = tt
+
+-- a call of a function
+pub called_made : {E : Type 0} (w : Word) (x : List Expr × Bor (List Token)) (n : Result (Box Expr Global) E) → IfOk n (λ e. boxed_tree e ≡ call w (trees_of x.0)) → (r : Found) → Made n x.1.now r → Called w (Ok x) r
+called_made w x (Ok e) is (Ok y) m = (ap (λ (z : Box Expr Global). boxed_tree z) m.0 ∙ is, m.1)
+called_made w x (Ok e) is (Err f) m = absurd m
+called_made w x (Err e) is (Ok y) m = absurd m
+called_made w x (Err e) is (Err f) m = m
+
+pub called_reads : (w : Word) {ts us : List Token} → Starts kind.Open ts us → (r : Result (List Expr × Bor (List Token)) Halt)
+    → Reads {X = List Expr} {K = Caller} us (λ k. called_open k) (λ es k. called k (trees_of es)) r
+    → (s : Found) → Called w r s → Reads {X = Box Expr Global} {K = Operand} ts (λ k. named w k) (λ d k. give k (boxed_tree d)) s
+called_reads w o (Ok x) h (Ok y) e =
+    λ k. call_read w k o ∙ h (of_operand w k) ∙ ap (λ z. reads z (give k (call w (trees_of x.0)))) (sym e.1) ∙ ap (λ z. reads y.1.now (give k z)) (sym e.0)
+called_reads w {ts} o (Ok x) h (Err f) e =
+    let R : Halt → Type 0 = λ z. Reads {X = Box Expr Global} {K = Operand} ts (λ k. named w k) (λ d k. give k (boxed_tree d)) (Err z) in subst R (sym e) tt
+called_reads w o (Err f) h s e = call_halts w o s f e h
+
+pub called_shorter : (w : Word) {ts us : List Token} → Starts kind.Open ts us → (r : Result (List Expr × Bor (List Token)) Halt) → IfOk r (λ x. length x.1.now < length us)
+    → (s : Found) → Called w r s → IfOk s (λ x. length x.1.now ≤ length ts)
+called_shorter w {ts} o (Ok x) h (Ok y) e = subst (λ z. length z ≤ length ts) (sym e.1) (le_of_lt (lt_trans h (starts_shorter kind.Open o)))
+called_shorter w o (Err f) h (Ok y) e = absurd e
+called_shorter w o r h (Err f) e = tt

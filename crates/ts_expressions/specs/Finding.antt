@@ -7,12 +7,12 @@ use Rattle.std.specs.declared.boxed.Box.{Box}
 use Rattle.ts_expressions.specs.Boxed.{boxed_tree}
 use Rattle.ts_syntax.specs.declared.halt.Halt.{Halt}
 use Rattle.ts_syntax.specs.declared.halt.Halt.TheVariants as halt
-use Rattle.ts_syntax.specs.Parsing.{Starts, Lacks}
 use Rattle.ts_checked.specs.declared.bin_op.BinOp.{BinOp}
 use Rattle.ts_syntax.specs.declared.expr.Expr.{Expr}
 use Rattle.ts_syntax.specs.declared.token.Token.{Token}
-use Rattle.ts_syntax.specs.declared.token.TokenKind.{TokenKind}
-use Rattle.ts_syntax.specs.Tree.{Tree, two}
+use Rattle.ts_syntax.specs.declared.word.Word.{Word}
+use Rattle.ts_syntax.specs.Seen.{trees_of}
+use Rattle.ts_syntax.specs.Tree.{Tree, two, call}
 
 abbrev pub Found : Type 0
 Found = Result (Box Expr Global × Bor (List Token)) Halt
@@ -28,3 +28,9 @@ abbrev pub Joined : BinOp → Tree → Found → Found → Type 0
 Joined o l (Ok x) (Ok y) = (boxed_tree y.0 ≡ two o l (boxed_tree x.0)) × (y.1.now ≡ x.1.now)
 Joined o l (Ok x) (Err f) = f ≡ halt.Memory
 Joined o l (Err e) r = IsErrAnd r (λ f. f ≡ e)
+
+-- a call of this function
+abbrev pub Called : Word → Result (List Expr × Bor (List Token)) Halt → Found → Type 0
+Called w (Ok x) (Ok y) = (boxed_tree y.0 ≡ call w (trees_of x.0)) × (y.1.now ≡ x.1.now)
+Called w (Ok x) (Err f) = f ≡ halt.Memory
+Called w (Err e) r = IsErrAnd r (λ f. f ≡ e)

@@ -7,9 +7,9 @@ ghost use Rattle.ts_expressions.specs.Boxed.{boxed_tree};
 ghost use Rattle.ts_syntax.specs.Seen.{tree_of, trees_of};
 ghost use Rattle.ts_syntax.specs.declared.token.TokenKind.TheVariants as kind;
 
-use crate::found::{Found, joined, made};
+use crate::found::{Found, append, called, closed, closed_call, discard_all, joined, made};
 use crate::node::{
-    buffer_size, call, inverse, item, message_item, message_size, negative, number, paren, variable,
+    buffer_size, inverse, item, message_item, message_size, negative, number, paren, variable,
 };
 use std::alloc::Global;
 use ts_checked::BinOp;
@@ -30,9 +30,9 @@ pub fn expr<'a>(alloc: Global, tokens: &'a [Token]) -> Result<(Expr, &'a [Token]
     Ok((Box::into_inner(found), rest))
 }
 
-/// Reads a chain of `or`.
+/// Reads a chain of `or`, which any expression is: the same, left in its box.
 #[cycle(expr)]
-fn disjunction<'a>(alloc: Global, tokens: &'a [Token]) -> Found<'a>
+pub fn disjunction<'a>(alloc: Global, tokens: &'a [Token]) -> Found<'a>
     ensures reads { Reads {K = Whole} tokens.now (λ k. expr_due k) (λ e k. have (boxed_tree e) k) result }
     ensures over { IfOk result (λ x. Lacks kind.Or x.1.now) }
     ensures shorter { IfOk result (λ x. length x.1.now < length tokens.now) }
@@ -59,13 +59,22 @@ pub fn arguments<'a>(alloc: Global, tokens: &'a [Token]) -> Result<(Args, &'a [T
     }
     let mut rest = tokens;
     loop {
-        let (arg, behind) = disjunction(alloc, rest)?;
-        args.push(Box::into_inner(arg))?;
-        let Some(next) = after(behind, &TokenKind::Comma) else {
-            let behind = expect(behind, &TokenKind::Close)?;
-            return Ok((args, behind));
-        };
-        rest = next;
+        match disjunction(alloc, rest) {
+            Ok((arg, behind)) => {
+                if let Err(halt) = append(&mut args, arg) {
+                    discard_all(args);
+                    return Err(halt);
+                }
+                let Some(next) = after(behind, &TokenKind::Comma) else {
+                    return closed_call(args, behind);
+                };
+                rest = next;
+            }
+            Err(halt) => {
+                discard_all(args);
+                return Err(halt);
+            }
+        }
     }
 }
 
@@ -179,8 +188,7 @@ fn behind_name<'a>(alloc: Global, word: Word, tokens: &'a [Token]) -> Found<'a>
     ensures shorter { IfOk result (λ x. length x.1.now ≤ length tokens.now) }
 {
     if let Some(rest) = after(tokens, &TokenKind::Open) {
-        let (args, rest) = arguments(alloc, rest)?;
-        return made(call(alloc, word, args), rest);
+        return called(alloc, word, arguments(alloc, rest));
     }
     if let Some(rest) = after(tokens, &TokenKind::OpenBox) {
         return behind_open_box(alloc, word, rest);
@@ -188,13 +196,14 @@ fn behind_name<'a>(alloc: Global, word: Word, tokens: &'a [Token]) -> Found<'a>
     made(variable(alloc, word), tokens)
 }
 
-/// Reads on after a buffer's name and `[`: the item's index, and `]`.
+/// Reads on after a buffer's name and `[`: the item's index, and `]`. It isn't inlined: calls nest deeper without its places.
 #[cycle(expr)]
+#[inline(never)]
 fn behind_open_box<'a>(alloc: Global, buffer: Word, tokens: &'a [Token]) -> Found<'a>
     ensures reads { Reads {K = Operand} tokens.now (λ k. expr_due (in_item buffer k)) (λ e k. give k (boxed_tree e)) result }
     ensures shorter { IfOk result (λ x. length x.1.now < length tokens.now) }
 {
-    let (index, rest) = ended(disjunction(alloc, tokens), &TokenKind::CloseBox)?;
+    let (index, rest) = closed(disjunction(alloc, tokens), &TokenKind::CloseBox)?;
     made(item(alloc, buffer, index), rest)
 }
 
@@ -205,7 +214,7 @@ fn behind_message<'a>(alloc: Global, tokens: &'a [Token]) -> Found<'a>
     ensures shorter { IfOk result (λ x. length x.1.now < length tokens.now) }
 {
     let rest = expect(tokens, &TokenKind::OpenBox)?;
-    let (index, rest) = ended(disjunction(alloc, rest), &TokenKind::CloseBox)?;
+    let (index, rest) = closed(disjunction(alloc, rest), &TokenKind::CloseBox)?;
     made(message_item(alloc, index), rest)
 }
 
@@ -215,7 +224,7 @@ fn behind_open<'a>(alloc: Global, tokens: &'a [Token]) -> Found<'a>
     ensures reads { Reads {K = Operand} tokens.now (λ k. expr_due (in_paren k)) (λ e k. give k (boxed_tree e)) result }
     ensures shorter { IfOk result (λ x. length x.1.now < length tokens.now) }
 {
-    let (of, rest) = ended(disjunction(alloc, tokens), &TokenKind::Close)?;
+    let (of, rest) = closed(disjunction(alloc, tokens), &TokenKind::Close)?;
     made(paren(alloc, of), rest)
 }
 

@@ -5,4 +5,4 @@ pub mod expression;
 pub mod found;
 pub mod node;
 
-pub use expression::{arguments, expr};
+pub use expression::{arguments, disjunction, expr};

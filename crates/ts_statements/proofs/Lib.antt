@@ -6,3 +6,4 @@ pub mod BlockLemmas
 pub mod DialectLemmas
 pub mod EndingLemmas
 pub mod OpeningLemmas
+pub mod TakenLemmas

@@ -9,13 +9,13 @@ use Rattle.ts_syntax.specs.declared.dialect.Dialect.TheVariants as dialect
 use Rattle.ts_syntax.specs.declared.token.Token.{Token}
 use Rattle.ts_syntax.specs.declared.token.TokenKind.{TokenKind}
 use Rattle.ts_syntax.specs.declared.token.TokenKind.TheVariants as kind
-use Rattle.ts_syntax.specs.Seen.{act_of, acts_of}
+use Rattle.ts_syntax.specs.Seen.{acts_of}
 use Rattle.ts_syntax.specs.Tree.{Tree, Act, if_then, if_else, for_next, while_do, Acts, no_acts}
 use Rattle.ts_syntax.specs.declared.halt.Halt.{Halt}
 use Rattle.ts_statements.specs.declared.opening.Opening.{Opening}
 use Rattle.ts_statements.specs.declared.opening.Opening.TheVariants as opening
 use Rattle.ts_syntax.specs.Machine.{Frame, dialect_of, then_part, for_part, while_part, in_if, in_while, State, block, stmt_named, cleared, for_word, do_word, word, expr_due, with_act}
-use Rattle.ts_syntax.specs.Parsing.{Reads}
+use Rattle.ts_statements.specs.Taking.{ReadsOnto}
 
 -- the opening by `do`, if a dialect has one
 abbrev pub do_opening : Dialect → Option Opening
@@ -61,10 +61,9 @@ pub record FrameIn (d : Dialect) : Type 0 where
   pub frame : Frame
   pub speaks : dialect_of frame ≡ d
 
--- a statement is read from where it is due, after others of an open block of a script of the dialect
-abbrev pub ReadsStmtIn : Dialect → List Token → (Acts → Frame → State) → Result (Stmt × Bor (List Token)) Halt → Type 0
-ReadsStmtIn d tokens due result = Reads {K = Acts × FrameIn d} tokens (λ k. due k.0 k.1.frame)
-    (λ s k. block (with_act k.0 (act_of s)) k.1.frame) result
+-- a statement is read from where it is due, after those of an open block of a script of the dialect, to which it is appended
+abbrev pub ReadsStmtIn : Dialect → List Token → (Acts → Frame → State) → List Stmt → List Stmt → Result (Bor (List Token)) Halt → Type 0
+ReadsStmtIn d tokens due old new result = ReadsOnto {K = FrameIn d} (λ f. f.frame) tokens due old new result
 
 -- the branches of an `if` after `then`
 pub record Choice (d : Dialect) : Type 0 where
@@ -76,9 +75,6 @@ pub record Choice (d : Dialect) : Type 0 where
 abbrev pub if_made : Tree → Acts → Option (List Stmt) → Act
 if_made e a None = if_then e a
 if_made e a (Some b) = if_else e a (acts_of b)
-
-abbrev pub then_block : {d : Dialect} → Choice d → State
-then_block k = block no_acts (then_part k.test k.before k.frame.frame)
 
 abbrev pub choice_made : {d : Dialect} → Choice d → Acts → Option (List Stmt) → State
 choice_made k a b = block (with_act k.before (if_made k.test a b)) k.frame.frame

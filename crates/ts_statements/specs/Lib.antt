@@ -1,3 +1,4 @@
 pub mod Simple
 pub mod Ending
+pub mod Taking
 pub mod Blocks

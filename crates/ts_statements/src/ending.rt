@@ -16,7 +16,9 @@ pub fn end_of<'a>(tokens: &'a [Token], kind: &TokenKind) -> Result<&'a [Token], 
     expect(rest, kind)
 }
 
-/// The block, if `end` and this keyword come after it, and the tokens after them.
+/// The block, if `end` and this keyword come after it, and the tokens after them. It isn't inlined: the block is dropped if not,
+/// which takes more stack than what calls it.
+#[inline(never)]
 pub fn closed_block<'a>(read: ReadBlock<'a>, kind: &TokenKind) -> ReadBlock<'a>
     ensures { ClosedBlock kind.now read.entry result }
 {
@@ -25,7 +27,8 @@ pub fn closed_block<'a>(read: ReadBlock<'a>, kind: &TokenKind) -> ReadBlock<'a>
     Ok((block, rest))
 }
 
-/// The block, if `next` and a name come after it, with that name, and the tokens after it.
+/// The block, if `next` and a name come after it, with that name, and the tokens after it. It isn't inlined, for the same reason.
+#[inline(never)]
 pub fn counted<'a>(read: ReadBlock<'a>) -> Result<((Block, Word), &'a [Token]), Halt<'a>>
     ensures { Counted read.entry result }
 {

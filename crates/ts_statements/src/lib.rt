@@ -6,6 +6,7 @@ pub mod head;
 pub mod opening;
 pub mod simple;
 pub mod stmt;
+pub mod taken;
 
 pub use head::for_head;
 pub use simple::{behind_name, clearing, running};

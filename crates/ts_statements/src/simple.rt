@@ -1,4 +1,4 @@
-//! Statements that hold no block. They aren't inlined: what calls them is recursive, and they need more stack than it.
+//! Statements that hold no block.
 
 ghost use Rattle.std.specs.Prelude.{◌<◌, length, IfOk, IfSome};
 ghost use Rattle.ts_syntax.specs.Machine.{stmt_named, set_to, boxed, cleared, do_word};
@@ -12,7 +12,6 @@ use ts_syntax::expect::{after, ended, expect, name};
 use ts_syntax::{Expr, Halt, Stmt, Token, TokenKind, Word};
 
 /// Reads on after the first name of a statement.
-#[inline(never)]
 pub fn behind_name<'a>(
     alloc: Global,
     word: Word,
@@ -86,7 +85,6 @@ fn value<'a>(alloc: Global, tokens: &'a [Token]) -> Result<(Expr, &'a [Token]), 
 }
 
 /// Reads on after `clear`.
-#[inline(never)]
 pub fn clearing<'a>(tokens: &'a [Token]) -> Result<(Stmt, &'a [Token]), Halt<'a>>
     ensures reads { ReadsStmt tokens.now cleared result }
     ensures shorter { IfOk result (λ x. length x.1.now < length tokens.now) }
@@ -98,7 +96,6 @@ pub fn clearing<'a>(tokens: &'a [Token]) -> Result<(Stmt, &'a [Token]), Halt<'a>
 }
 
 /// Reads on after `do`.
-#[inline(never)]
 pub fn running<'a>(alloc: Global, tokens: &'a [Token]) -> Result<(Stmt, &'a [Token]), Halt<'a>>
     ensures reads { ReadsStmt tokens.now do_word result }
     ensures shorter { IfOk result (λ x. length x.1.now < length tokens.now) }

@@ -3,17 +3,22 @@
 ghost use Rattle.std.specs.Prelude.{◌≤◌, ◌<◌, length, IfOk};
 ghost use Rattle.ts_syntax.specs.Machine.{block, for_word, expr_due, in_if, in_while};
 ghost use Rattle.ts_syntax.specs.Parsing.{Reads};
-ghost use Rattle.ts_statements.specs.Blocks.{ReadsStmtIn, FrameIn, LacksStmt, opened_by, Choice, then_block, choice_made, Branch, branch_due};
+ghost use Rattle.ts_statements.specs.Blocks.{ReadsStmtIn, FrameIn, LacksStmt, opened_by, choice_made, Branch, branch_due};
 ghost use Rattle.ts_syntax.specs.Seen.{acts_of};
 ghost use Rattle.ts_syntax.specs.Tree.{no_acts};
 
 use crate::ending::{closed_block, counted, end_of};
+use crate::for_head;
 use crate::opening::{Opening, after_opening};
-use crate::{behind_name, clearing, for_head, running};
+use crate::taken::{
+    Left, append_choice, append_clearing, append_count, append_named, append_repetition,
+    append_running, discard,
+};
 use std::alloc::Global;
-use ts_expressions::expr;
+use ts_expressions::disjunction;
+use ts_expressions::found::discard as discard_test;
 use ts_syntax::expect::{after, expect};
-use ts_syntax::{Block, Dialect, Halt, Stmt, Token, TokenKind, Word};
+use ts_syntax::{Block, Dialect, Halt, Token, TokenKind};
 
 /// Reads statements up to the first token that begins none: the statements, and the tokens from that one on.
 #[cycle(stmt)]
@@ -29,63 +34,63 @@ pub fn block<'a>(
     let mut stmts = Block::new(alloc);
     let mut rest = tokens;
     while let Some((opening, behind)) = after_opening(dialect, rest) {
-        let (stmt, then) = statement(alloc, dialect, opening, behind)?;
-        stmts.push(stmt)?;
-        rest = then;
+        match statement(alloc, dialect, &mut stmts, opening, behind) {
+            Ok(then) => rest = then,
+            Err(halt) => {
+                discard(stmts);
+                return Err(halt);
+            }
+        }
     }
     Ok((stmts, rest))
 }
 
-/// Reads on after the opening of a statement.
+/// Reads on after the opening of a statement, and appends it.
 #[cycle(stmt)]
 fn statement<'a>(
     alloc: Global,
     dialect: Dialect,
+    stmts: &mut Block,
     opening: Opening,
     tokens: &'a [Token],
-) -> Result<(Stmt, &'a [Token]), Halt<'a>>
-    ensures reads { ReadsStmtIn dialect tokens.now (opened_by opening) result }
-    ensures shorter { IfOk result (λ x. length x.1.now ≤ length tokens.now) }
+) -> Left<'a>
+    ensures reads { ReadsStmtIn dialect tokens.now (opened_by opening) stmts.old stmts.new result }
+    ensures shorter { IfOk result (λ x. length x.now ≤ length tokens.now) }
 {
     match opening {
-        Opening::Named(word) => behind_name(alloc, word, tokens),
-        Opening::Clear => clearing(tokens),
-        Opening::If => choice(alloc, dialect, tokens),
-        Opening::For => counting(alloc, dialect, tokens),
-        Opening::While => repetition(alloc, dialect, tokens),
-        Opening::Do => running(alloc, tokens),
+        Opening::Named(word) => append_named(alloc, stmts, word, tokens),
+        Opening::Clear => append_clearing(stmts, tokens),
+        Opening::If => choice(alloc, dialect, stmts, tokens),
+        Opening::For => counting(alloc, dialect, stmts, tokens),
+        Opening::While => repetition(alloc, dialect, stmts, tokens),
+        Opening::Do => append_running(alloc, stmts, tokens),
     }
 }
 
-/// Reads on after `if`.
+/// Reads on after `if`, and appends that.
 #[cycle(stmt)]
-fn choice<'a>(
-    alloc: Global,
-    dialect: Dialect,
-    tokens: &'a [Token],
-) -> Result<(Stmt, &'a [Token]), Halt<'a>>
-    ensures reads { ReadsStmtIn dialect tokens.now (λ a f. expr_due (in_if a f)) result }
-    ensures shorter { IfOk result (λ x. length x.1.now ≤ length tokens.now) }
+#[inline(never)]
+fn choice<'a>(alloc: Global, dialect: Dialect, stmts: &mut Block, tokens: &'a [Token]) -> Left<'a>
+    ensures reads { ReadsStmtIn dialect tokens.now (λ a f. expr_due (in_if a f)) stmts.old stmts.new result }
+    ensures shorter { IfOk result (λ x. length x.now ≤ length tokens.now) }
 {
-    let (test, rest) = expr(alloc, tokens)?;
-    let rest = expect(rest, &TokenKind::Then)?;
-    let ((body, other), rest) = branches(alloc, dialect, rest)?;
-    Ok((Stmt::If(test, body, other), rest))
-}
-
-/// Reads on after `then`: the statements to run if the test holds, and those to run if it doesn't, if there is an `else`.
-#[cycle(stmt)]
-fn branches<'a>(
-    alloc: Global,
-    dialect: Dialect,
-    tokens: &'a [Token],
-) -> Result<((Block, Option<Block>), &'a [Token]), Halt<'a>>
-    ensures reads { Reads {K = Choice dialect} tokens.now (λ k. then_block k) (λ x k. choice_made k (acts_of x.0) x.1) result }
-    ensures shorter { IfOk result (λ x. length x.1.now ≤ length tokens.now) }
-{
-    let (body, rest) = block(alloc, dialect, tokens)?;
-    let (other, rest) = other_branch(alloc, dialect, rest)?;
-    Ok(((body, other), rest))
+    let (test, rest) = disjunction(alloc, tokens)?;
+    match expect(rest, &TokenKind::Then) {
+        Ok(rest) => match block(alloc, dialect, rest) {
+            Ok((body, rest)) => {
+                let other = other_branch(alloc, dialect, rest);
+                append_choice(stmts, test, body, other)
+            }
+            Err(halt) => {
+                discard_test(test);
+                Err(halt)
+            }
+        },
+        Err(halt) => {
+            discard_test(test);
+            Err(halt)
+        }
+    }
 }
 
 /// Reads the end of an `if`, with or without an `else` before it.
@@ -107,32 +112,30 @@ fn other_branch<'a>(
     Ok((None, rest))
 }
 
-/// Reads on after `while`: the test, the statements, and `end while`.
+/// Reads on after `while`: the test, the statements, and `end while`; and appends that.
 #[cycle(stmt)]
+#[inline(never)]
 fn repetition<'a>(
     alloc: Global,
     dialect: Dialect,
+    stmts: &mut Block,
     tokens: &'a [Token],
-) -> Result<(Stmt, &'a [Token]), Halt<'a>>
-    ensures reads { ReadsStmtIn dialect tokens.now (λ a f. expr_due (in_while a f)) result }
-    ensures shorter { IfOk result (λ x. length x.1.now ≤ length tokens.now) }
+) -> Left<'a>
+    ensures reads { ReadsStmtIn dialect tokens.now (λ a f. expr_due (in_while a f)) stmts.old stmts.new result }
+    ensures shorter { IfOk result (λ x. length x.now ≤ length tokens.now) }
 {
-    let (test, rest) = expr(alloc, tokens)?;
-    let (body, rest) = closed_block(block(alloc, dialect, rest), &TokenKind::While)?;
-    Ok((Stmt::While(test, body), rest))
+    let (test, rest) = disjunction(alloc, tokens)?;
+    let read = closed_block(block(alloc, dialect, rest), &TokenKind::While);
+    append_repetition(stmts, test, read)
 }
 
-/// Reads on after `for`: the head, the statements, and `next` with its name.
+/// Reads on after `for`: the head, the statements, and `next` with its name; and appends that.
 #[cycle(stmt)]
-fn counting<'a>(
-    alloc: Global,
-    dialect: Dialect,
-    tokens: &'a [Token],
-) -> Result<(Stmt, &'a [Token]), Halt<'a>>
-    ensures reads { ReadsStmtIn dialect tokens.now for_word result }
-    ensures shorter { IfOk result (λ x. length x.1.now ≤ length tokens.now) }
+#[inline(never)]
+fn counting<'a>(alloc: Global, dialect: Dialect, stmts: &mut Block, tokens: &'a [Token]) -> Left<'a>
+    ensures reads { ReadsStmtIn dialect tokens.now for_word stmts.old stmts.new result }
+    ensures shorter { IfOk result (λ x. length x.now ≤ length tokens.now) }
 {
     let (head, rest) = for_head(alloc, tokens)?;
-    let ((body, last), rest) = counted(block(alloc, dialect, rest))?;
-    Ok((Stmt::For(head, body, last), rest))
+    append_count(stmts, head, counted(block(alloc, dialect, rest)))
 }

@@ -7,49 +7,43 @@ use Rattle.ts_syntax.specs.Seen.{trees_of}
 use Rattle.ts_syntax.specs.declared.token.Token.{Token}
 use Rattle.ts_syntax.specs.Spelling.{kinds}
 use Rattle.ts_syntax.specs.declared.token.TokenKind.TheVariants as kind
-use Rattle.ts_syntax.specs.Tree.{negative, variable, call, inverse, paren, item, message_item}
+use Rattle.ts_syntax.specs.Tree.{negative, variable, inverse, paren, item, message_item}
 use Rattle.ts_checked.specs.declared.bin_op.BinOp.TheVariants as op
 use Rattle.ts_syntax.specs.Machine.{Operand, in_negative, named, sized, Whole, first_product, first_sum, first_compare, first_and, in_inverse, first_or, in_paren, in_item, in_message, want, want_inverse, message, sum_due, inverse_due, expr_due, give, have_product, have_sum, have_inverse, have_and, have}
-use Rattle.ts_syntax.specs.Parsing.{reads, noted_then, Caller, of_operand, called_open, called, called_with}
+use Rattle.ts_syntax.specs.Parsing.{reads, noted_then, Caller, called_open, called, called_with}
 use Rattle.ts_syntax.proofs.Turns.{inverse_is_read, inverse_is_first}
 use Rattle.ts_syntax.proofs.Reading.{sign_read}
 use Rattle.ts_syntax.proofs.Parts.{halts, starts_shorter}
-use Rattle.ts_expressions.proofs.ExprLemmas.{part_halts, starts_at, operand_read, not_read, and_read, call_read, item_read, message_begins, variable_read, comma_read, no_arguments, argument_due, arguments_closed, trees_more, call_halts, comparison_read}
-use Rattle.ts_expressions.proofs.FindingLemmas.{paren_ended, item_ended, message_ended, made_reads, made_behind, ended_shorter, joined_behind, sign_shorter, or_joined, and_joined, sum_joined, product_joined, comparison_joined}
+use Rattle.ts_expressions.proofs.ExprLemmas.{part_halts, starts_at, operand_read, not_read, and_read, item_read, message_begins, variable_read, comma_read, no_arguments, argument_due, trees_more, comparison_read}
+use Rattle.ts_expressions.proofs.FindingLemmas.{paren_ended, item_ended, message_ended, call_ended, call_shorter, called_reads, called_shorter, made_reads, made_behind, ended_shorter, joined_behind, sign_shorter, or_joined, and_joined, sum_joined, product_joined, comparison_joined}
 use Rattle.ts_expressions.proofs.OperatorLemmas.{product_read, sum_read, or_read, product_over, and_over, sum_alone, comparison_sign_read}
 use Rattle.ts_expressions.proofs.ShorterLemmas.{untold, no_longer, shorter_still, shorter_behind, behind_one, lower, lowest, fewer, fewest, again}
-use Rattle.ts_expressions.proofs.StoppingLemmas.{out_of_memory, sign_halts, box_missing, arguments_open}
+use Rattle.ts_expressions.proofs.StoppingLemmas.{out_of_memory, sign_halts, box_missing}
 use Rattle.ts_expressions.proofs.expression.+expr.Goals as goal
 
 pub arguments-returns-in_default-after-clause-reads : goal.arguments-returns-in_default-after-clause-reads
 arguments-returns-in_default-after-clause-reads t c =
-    λ k. c.loop-args.invariant.1 k ∙ c.in_ok-arg.ensures.reads (called_with k (trees_of c.loop-args.args))
-    ∙ arguments_closed k (trees_of c.loop-args.args) (boxed_tree c.in_ok-arg.arg) c.in_ok-behind.ensures
-    ∙ ap (λ x. reads c.in_ok-behind.behind.now (called k x)) (sym (trees_more c.loop-args.args c.in_ok-arg.arg c.in_ok-push.ensures c.into_inner.ensures))
+    call_ended c.args.tokens.now c.loop-arg.args c.in-Ok.arg (c.append.new.args, c.in-Ok.behind)
+    (trees_more c.loop-arg.args c.in-Ok.arg c.in_default-append.ensures refl)
+    (λ k. c.loop-arg.invariant.1 k ∙ c.in-Ok.ensures.reads (called_with k (trees_of c.loop-arg.args)))
+    c.in-Ok.ensures.over c.in_default-after.ensures c.closed_call.result c.closed_call.ensures
 
-pub arguments-loop-args-preserved : goal.arguments-loop-args-preserved
-arguments-loop-args-preserved t c = (
-  omega (arith, starts_shorter kind.Comma c.in-Some-after.ensures, c.in_ok-arg.ensures.shorter, c.loop-args.invariant.0),
-  λ k. c.loop-args.invariant.1 k ∙ c.in_ok-arg.ensures.reads (called_with k (trees_of c.loop-args.args))
-      ∙ comma_read k (trees_of c.loop-args.args) (boxed_tree c.in_ok-arg.arg) c.in-Some-after.ensures
-      ∙ ap (λ x. reads c.in-Some-after.next.now (expr_due (called_with k x))) (sym (trees_more c.loop-args.args c.in_ok-arg.arg c.in_ok-push.ensures c.into_inner.ensures)),
+pub arguments-loop-arg-preserved : goal.arguments-loop-arg-preserved
+arguments-loop-arg-preserved t c = (
+  omega (arith, starts_shorter kind.Comma c.in-Some-after.ensures, c.in-Ok.ensures.shorter, c.loop-arg.invariant.0),
+  λ k. c.loop-arg.invariant.1 k ∙ c.in-Ok.ensures.reads (called_with k (trees_of c.loop-arg.args))
+      ∙ comma_read k (trees_of c.loop-arg.args) (boxed_tree c.in-Ok.arg) c.in-Some-after.ensures
+      ∙ ap (λ x. reads c.in-Some-after.next.now (expr_due (called_with k x))) (sym (trees_more c.loop-arg.args c.in-Ok.arg c.in_default-append.ensures refl)),
 )
 
-pub behind_name-returns-in_err-args-clause-reads : goal.behind_name-returns-in_err-args-clause-reads
-behind_name-returns-in_err-args-clause-reads t c =
-    call_halts c.args.word c.in-Some.ensures c.from_residual.result c.in_err-args.field-0.0 c.from_residual.ensures.1 c.in_err-args.ensures.reads
-
 pub behind_name-returns-in-Some-clause-reads : goal.behind_name-returns-in-Some-clause-reads
-behind_name-returns-in-Some-clause-reads t c =
-    made_reads (call c.args.word (trees_of c.in_ok-args.args)) c.args.tokens.now c.in_ok-args.rest.now (λ k. named c.args.word k) (λ d k. give k d)
-    (λ k. call_read c.args.word k c.in-Some.ensures ∙ c.in_ok-args.ensures.reads (of_operand c.args.word k))
-    c.call.result c.call.ensures c.made.result c.made.ensures
+behind_name-returns-in-Some-clause-reads t c = called_reads c.args.word c.in-Some.ensures c.arguments.result c.arguments.ensures.reads c.called.result c.called.ensures
 
 pub behind_name-returns-clause-reads : goal.behind_name-returns-clause-reads
 behind_name-returns-clause-reads t c =
     made_reads (variable c.args.word) c.args.tokens.now c.args.tokens.now (λ k. named c.args.word k) (λ d k. give k d)
     (λ k. variable_read c.args.word k c.args.tokens.now c.in_default.ensures c.in_default-after.ensures)
-    c.variable.result c.variable.ensures c.made-2.result c.made-2.ensures
+    c.variable.result c.variable.ensures c.made.result c.made.ensures
 
 pub conjunction-loop-behind-init : goal.conjunction-loop-behind-init
 conjunction-loop-behind-init t c = (
@@ -186,18 +180,11 @@ pub arguments-returns-in-Some-clause-reads : goal.arguments-returns-in-Some-clau
 arguments-returns-in-Some-clause-reads t c =
     λ k. no_arguments k c.in-Some.ensures ∙ ap (λ z. reads c.in-Some.rest.now (called k (trees_of z))) (sym c.new-args.ensures)
 
-pub arguments-returns-in_err-arg-clause-reads : goal.arguments-returns-in_err-arg-clause-reads
-arguments-returns-in_err-arg-clause-reads t c =
-    halts (Box Expr Global) (List Expr) Whole Caller c.args.tokens.now c.loop-args.rest.now expr_due (λ e k. have (boxed_tree e) k) called_open (λ es k. called k (trees_of es))
-    (λ k. called_with k (trees_of c.loop-args.args)) c.loop-args.invariant.1
-    c.from_residual.result c.in_err-arg.field-0.0 c.from_residual.ensures.1 c.in_err-arg.ensures.reads
-
-pub arguments-returns-in_err-behind-clause-reads : goal.arguments-returns-in_err-behind-clause-reads
-arguments-returns-in_err-behind-clause-reads t c =
-    sign_halts {X = List Expr} {K = Caller} kind.Close c.args.tokens.now c.in_ok-arg.behind.now called_open (λ es k. called k (trees_of es))
-    (λ l k. c.loop-args.invariant.1 k ∙ c.in_ok-arg.ensures.reads (called_with k (trees_of c.loop-args.args))
-    ∙ arguments_open c.in_ok-arg.behind.now k (trees_of c.loop-args.args) (boxed_tree c.in_ok-arg.arg) c.in_ok-arg.ensures.over c.in_default-after.ensures l)
-    c.from_residual-in_err-behind.result c.in_err-behind.field-0.0 c.from_residual-in_err-behind.ensures.1 c.in_err-behind.ensures
+pub arguments-returns-in-Err-clause-reads : goal.arguments-returns-in-Err-clause-reads
+arguments-returns-in-Err-clause-reads t c =
+    halts (Box Expr Global) (List Expr) Whole Caller c.args.tokens.now c.loop-arg.rest.now expr_due (λ e k. have (boxed_tree e) k) called_open (λ es k. called k (trees_of es))
+    (λ k. called_with k (trees_of c.loop-arg.args)) c.loop-arg.invariant.1
+    (Err c.in-Err.halt) c.in-Err.halt refl c.in-Err.ensures.reads
 
 pub behind_name-returns-in-Some-after-clause-reads : goal.behind_name-returns-in-Some-after-clause-reads
 behind_name-returns-in-Some-after-clause-reads t c = item_read c.args.word c.in-Some-after.ensures c.behind_open_box.result c.behind_open_box.ensures.reads
@@ -409,12 +396,6 @@ pub behind_message-returns-clause-shorter : goal.behind_message-returns-clause-s
 behind_message-returns-clause-shorter t c =
     made_behind (λ z. length z < length c.args.tokens.now) c.in_ok-index.rest.now (lt_trans (ended_shorter kind.CloseBox c.in_ok-rest.rest.now c.disjunction.result c.disjunction.ensures.shorter (Ok (c.in_ok-index.index, c.in_ok-index.rest)) c.in_ok-index.ensures) (starts_shorter kind.OpenBox c.in_ok-rest.ensures)) c.message_item.result c.made.result c.made.ensures
 
-pub arguments-returns-in_err-arg-clause-shorter : goal.arguments-returns-in_err-arg-clause-shorter
-arguments-returns-in_err-arg-clause-shorter t c = untold _ c.from_residual.result c.in_err-arg.field-0.0 c.from_residual.ensures.1
-
-pub arguments-returns-in_err-behind-clause-shorter : goal.arguments-returns-in_err-behind-clause-shorter
-arguments-returns-in_err-behind-clause-shorter t c = untold _ c.from_residual-in_err-behind.result c.in_err-behind.field-0.0 c.from_residual-in_err-behind.ensures.1
-
 -- ---- each part begins with less
 
 pub disjunction-conjunction-requires : goal.disjunction-conjunction-requires
@@ -469,38 +450,32 @@ pub behind_message-disjunction-requires : goal.behind_message-disjunction-requir
 behind_message-disjunction-requires t c = (fewer 6 (lit< tt) (starts_shorter kind.OpenBox c.in_ok-rest.ensures) c.decreases, tt)
 
 pub arguments-disjunction-requires : goal.arguments-disjunction-requires
-arguments-disjunction-requires t c = (lower 6 7 (lit< tt) (c.loop-args.invariant.0) c.decreases, tt)
-
-pub behind_name-returns-in_err-args-clause-shorter : goal.behind_name-returns-in_err-args-clause-shorter
-behind_name-returns-in_err-args-clause-shorter t c = untold _ c.from_residual.result c.in_err-args.field-0.0 c.from_residual.ensures.1
+arguments-disjunction-requires t c = (lower 6 7 (lit< tt) (c.loop-arg.invariant.0) c.decreases, tt)
 
 pub behind_name-returns-in-Some-clause-shorter : goal.behind_name-returns-in-Some-clause-shorter
-behind_name-returns-in-Some-clause-shorter t c =
-    made_behind (λ z. length z ≤ length c.args.tokens.now) c.in_ok-args.rest.now (le_of_lt (lt_trans c.in_ok-args.ensures.shorter (starts_shorter kind.Open c.in-Some.ensures))) c.call.result c.made.result c.made.ensures
+behind_name-returns-in-Some-clause-shorter t c = called_shorter c.args.word c.in-Some.ensures c.arguments.result c.arguments.ensures.shorter c.called.result c.called.ensures
 
 pub behind_name-returns-in-Some-after-clause-shorter : goal.behind_name-returns-in-Some-after-clause-shorter
 behind_name-returns-in-Some-after-clause-shorter t c =
     no_longer c.args.tokens.now c.behind_open_box.result (shorter_still c.args.tokens.now c.in-Some-after.rest.now (starts_shorter kind.OpenBox c.in-Some-after.ensures) c.behind_open_box.result c.behind_open_box.ensures.shorter)
 
 pub behind_name-returns-clause-shorter : goal.behind_name-returns-clause-shorter
-behind_name-returns-clause-shorter t c = made_behind (λ z. length z ≤ length c.args.tokens.now) c.args.tokens.now (le_refl _) c.variable.result c.made-2.result c.made-2.ensures
+behind_name-returns-clause-shorter t c = made_behind (λ z. length z ≤ length c.args.tokens.now) c.args.tokens.now (le_refl _) c.variable.result c.made.result c.made.ensures
 
 pub arguments-returns-in-Some-clause-shorter : goal.arguments-returns-in-Some-clause-shorter
 arguments-returns-in-Some-clause-shorter t c = starts_shorter kind.Close c.in-Some.ensures
 
 pub arguments-returns-in_default-after-clause-shorter : goal.arguments-returns-in_default-after-clause-shorter
-arguments-returns-in_default-after-clause-shorter t c = lt_of_lt_of_le (lt_trans (starts_shorter kind.Close c.in_ok-behind.ensures) c.in_ok-arg.ensures.shorter) c.loop-args.invariant.0
+arguments-returns-in_default-after-clause-shorter t c =
+    call_shorter c.args.tokens.now (c.append.new.args, c.in-Ok.behind) (lt_of_lt_of_le c.in-Ok.ensures.shorter c.loop-arg.invariant.0) c.closed_call.result c.closed_call.ensures
 
-pub arguments-returns-in_err-push-clause-shorter : goal.arguments-returns-in_err-push-clause-shorter
-arguments-returns-in_err-push-clause-shorter t c = untold _ c.from_residual-in_err-push.result _ c.from_residual-in_err-push.ensures.1
-
-pub arguments-returns-in_err-push-clause-reads : goal.arguments-returns-in_err-push-clause-reads
-arguments-returns-in_err-push-clause-reads t c =
+pub arguments-returns-in-Err-append-clause-reads : goal.arguments-returns-in-Err-append-clause-reads
+arguments-returns-in-Err-append-clause-reads t c =
     out_of_memory {X = List Expr × Bor (List Token)} (λ x. (k : Caller) → reads c.args.tokens.now (called_open k) ≡ reads x.1.now (called k (trees_of x.0))) (λ more. (k : Caller) → reads c.args.tokens.now (called_open k) ≡ Err (kinds more))
-    c.from_residual-in_err-push.result c.from_residual-in_err-push.ensures.1
+    (Err c.in-Err-append.halt) c.in-Err-append.ensures
 
-pub arguments-loop-args-smaller : goal.arguments-loop-args-smaller
-arguments-loop-args-smaller t c = lt_trans (starts_shorter kind.Comma c.in-Some-after.ensures) c.in_ok-arg.ensures.shorter
+pub arguments-loop-arg-smaller : goal.arguments-loop-arg-smaller
+arguments-loop-arg-smaller t c = lt_trans (starts_shorter kind.Comma c.in-Some-after.ensures) c.in-Ok.ensures.shorter
 
 pub product-loop-op-init : goal.product-loop-op-init
 product-loop-op-init t c = (c.in_ok-left.ensures.shorter, λ k. c.in_ok-left.ensures.reads (first_product k))
@@ -557,8 +532,8 @@ operand-behind_message-requires t c = (fewest (behind_one c.in-Some.first.now c.
 pub operand-behind_open-requires : goal.operand-behind_open-requires
 operand-behind_open-requires t c = (fewer 7 (lit< tt) (behind_one c.in-Some.first.now c.in-Some.ensures.cases.0) c.decreases, tt)
 
-pub arguments-loop-args-init : goal.arguments-loop-args-init
-arguments-loop-args-init t c = (
+pub arguments-loop-arg-init : goal.arguments-loop-arg-init
+arguments-loop-arg-init t c = (
   le_refl _,
   λ k. argument_due k c.args.tokens.now c.in_default.ensures ∙ ap (λ z. reads c.args.tokens.now (expr_due (called_with k (trees_of z)))) (sym c.new-args.ensures),
 )

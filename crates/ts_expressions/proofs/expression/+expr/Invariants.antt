@@ -72,9 +72,9 @@ abbrev pub decreases-disjunction-loop-behind : goal.decreases-disjunction-loop-b
 decreases-disjunction-loop-behind l = length l.rest
 
 -- an argument is due behind those that were read
-abbrev pub invariant-arguments-loop-args : goal.invariant-arguments-loop-args
-invariant-arguments-loop-args l =
+abbrev pub invariant-arguments-loop-arg : goal.invariant-arguments-loop-arg
+invariant-arguments-loop-arg l =
     (length l.rest ≤ length l.tokens) × ((k : Caller) → reads l.tokens (called_open k) ≡ reads l.rest (expr_due (called_with k (trees_of l.args))))
 
-abbrev pub decreases-arguments-loop-args : goal.decreases-arguments-loop-args
-decreases-arguments-loop-args l = length l.rest
+abbrev pub decreases-arguments-loop-arg : goal.decreases-arguments-loop-arg
+decreases-arguments-loop-arg l = length l.rest

@@ -1,4 +1,7 @@
 use Rattle.std.proofs.Common.{◌≡◌, refl, subst, List, Option, Some, None, Ok, Err, sym, ◌∙◌, ap, arith, le_refl, le_trans, lt_trans, le_of_lt, lt_of_le_of_lt, lt_of_lt_of_le, lit<}
+use Rattle.std.specs.declared.alloc.Global.{Global}
+use Rattle.std.specs.declared.boxed.Box.{Box}
+use Rattle.ts_expressions.specs.Boxed.{boxed_tree}
 use Rattle.ts_syntax.specs.declared.expr.Expr.{Expr}
 use Rattle.ts_syntax.specs.declared.stmt.Stmt.{Stmt}
 use Rattle.ts_syntax.specs.declared.stmt.ForHead.{ForHead}
@@ -9,101 +12,75 @@ use Rattle.ts_syntax.specs.Tree.{Acts, no_acts, if_then}
 use Rattle.ts_syntax.proofs.SeenLemmas.{act_if_then, act_if_else, act_for_next, act_while_do}
 use Rattle.ts_syntax.specs.Machine.{Frame, Whole, have, stmt_named, cleared, do_word, in_if, in_while, block, for_word, expr_due, with_act}
 use Rattle.ts_syntax.specs.Parsing.{reads}
-use Rattle.ts_statements.specs.Blocks.{opened_by, FrameIn, ReadsStmtIn, Choice, if_made, then_block, choice_made, Branch, branch_due, Repetition, repeated_block, repetition_made, Count, counted_block, count_made}
+use Rattle.ts_statements.specs.Blocks.{opened_by, FrameIn, ReadsStmtIn, if_made, choice_made, Branch, branch_due, Repetition, repeated_block, repetition_made, Count, counted_block, count_made}
 use Rattle.ts_statements.specs.Simple.{head_read}
-use Rattle.ts_expressions.proofs.ShorterLemmas.{untold, no_longer, lower, lowest, fewer}
-use Rattle.ts_statements.proofs.DialectLemmas.{stmt_halts_in, narrowed, no_more, forgotten}
+use Rattle.ts_expressions.proofs.ShorterLemmas.{untold, lower, lowest, fewer}
+use Rattle.ts_statements.proofs.DialectLemmas.{no_more}
 use Rattle.ts_statements.proofs.Halting.{token_misses}
 use Rattle.ts_syntax.proofs.Parts.{halts, starts_shorter}
-use Rattle.ts_statements.proofs.OpeningLemmas.{stmt_opens, opens_shorter, acts_of_push, then_read, then_left, body_due}
+use Rattle.ts_statements.proofs.OpeningLemmas.{stmt_opens, opens_shorter, then_read, then_left, body_due}
 use Rattle.ts_syntax.specs.declared.token.TokenKind.TheVariants as kind
 use Rattle.ts_statements.proofs.BlockLemmas.{then_in, else_in, else_begins, then_end, if_named}
 use Rattle.ts_statements.proofs.EndingLemmas.{repeated_reads, else_reads, counted_reads, ended_shorter, counted_shorter, branch_stuck}
+use Rattle.ts_statements.proofs.TakenLemmas.{onto, onto_halts, onto_shorter, onto_less, not_more, narrowed, block_halts}
 use Rattle.ts_statements.proofs.stmt.+stmt.Goals as goal
 
-pub block-returns-in_err-stmt-clause-reads : goal.block-returns-in_err-stmt-clause-reads
-block-returns-in_err-stmt-clause-reads t c =
-    halts Stmt (List Stmt) (Acts × FrameIn c.args.dialect) (FrameIn c.args.dialect) c.args.tokens.now c.in-Some.behind.now
-    (λ k. opened_by c.in-Some.opening k.0 k.1.frame) (λ s k. block (with_act k.0 (act_of s)) k.1.frame) (λ f. block no_acts f.frame) (λ b f. block (acts_of b) f.frame)
-    (λ f. (acts_of c.loop-opening.stmts, f)) (λ f. c.loop-opening.invariant.1 f ∙ stmt_opens c.in-Some.ensures (acts_of c.loop-opening.stmts) f)
-    c.from_residual.result c.in_err-stmt.field-0.0 c.from_residual.ensures.1 c.in_err-stmt.ensures.reads
+pub block-returns-in-Err-clause-reads : goal.block-returns-in-Err-clause-reads
+block-returns-in-Err-clause-reads t c =
+    block_halts c.args.dialect c.args.tokens.now c.in-Some.behind.now (opened_by c.in-Some.opening) c.loop-opening.stmts c.statement.new.stmts
+    (λ f. c.loop-opening.invariant.1 f ∙ stmt_opens c.in-Some.ensures (acts_of c.loop-opening.stmts) f) c.in-Err.halt c.in-Err.ensures.reads
 
 pub block-loop-opening-preserved : goal.block-loop-opening-preserved
 block-loop-opening-preserved t c = (
-  omega (arith, opens_shorter c.in-Some.ensures, c.in_ok-stmt.ensures.shorter, c.loop-opening.invariant.0),
-  λ f. c.loop-opening.invariant.1 f ∙ stmt_opens c.in-Some.ensures (acts_of c.loop-opening.stmts) f ∙ c.in_ok-stmt.ensures.reads (acts_of c.loop-opening.stmts, f)
-      ∙ ap (λ z. reads c.in_ok-stmt.then.now (block z f.frame)) (acts_of_push c.loop-opening.stmts c.in_ok-stmt.stmt ∙ ap acts_of (sym c.in_ok-push.ensures)),
+  omega (arith, opens_shorter c.in-Some.ensures, c.in-Ok.ensures.shorter, c.loop-opening.invariant.0),
+  λ f. c.loop-opening.invariant.1 f ∙ stmt_opens c.in-Some.ensures (acts_of c.loop-opening.stmts) f ∙ c.in-Ok.ensures.reads f,
 )
-
-pub branches-returns-in_err-body-clause-reads : goal.branches-returns-in_err-body-clause-reads
-branches-returns-in_err-body-clause-reads t c =
-    halts (List Stmt) (List Stmt × Option (List Stmt)) (FrameIn c.args.dialect) (Choice c.args.dialect) c.args.tokens.now c.args.tokens.now
-    (λ f. block no_acts f.frame) (λ b f. block (acts_of b) f.frame) (λ k. then_block k) (λ x k. choice_made k (acts_of x.0) x.1) then_in (λ k. refl)
-    c.from_residual.result c.in_err-body.field-0.0 c.from_residual.ensures.1 c.in_err-body.ensures.reads
-
-pub branches-returns-in_err-other-clause-reads : goal.branches-returns-in_err-other-clause-reads
-branches-returns-in_err-other-clause-reads t c =
-    halts (Option (List Stmt)) (List Stmt × Option (List Stmt)) (Branch c.args.dialect) (Choice c.args.dialect) c.args.tokens.now c.in_ok-body.rest.now
-    (λ k. branch_due k) (λ b k. choice_made k.choice k.body b) (λ k. then_block k) (λ x k. choice_made k (acts_of x.0) x.1)
-    (λ k. record { choice = k; body = acts_of c.in_ok-body.body }) (λ k. c.in_ok-body.ensures.reads (then_in k))
-    c.from_residual-in_err-other.result c.in_err-other.field-0.0 c.from_residual-in_err-other.ensures.1 c.in_err-other.ensures.reads
-
-pub branches-returns-clause-reads : goal.branches-returns-clause-reads
-branches-returns-clause-reads t c =
-    λ k. c.in_ok-body.ensures.reads (then_in k) ∙ c.in_ok-other.ensures.reads (record { choice = k; body = acts_of c.in_ok-body.body })
 
 act_if : (e : Expr) (a : List Stmt) (b : Option (List Stmt)) → act_of (does.If e a b) ≡ if_made (tree_of e) (acts_of a) b
 act_if e a None = act_if_then e a
 act_if e a (Some b) = act_if_else e a b
 
-pub choice-returns-in_err-body-clause-reads : goal.choice-returns-in_err-body-clause-reads
-choice-returns-in_err-body-clause-reads t c =
-    stmt_halts_in {X = List Stmt × Option (List Stmt)} {K = Choice c.args.dialect} c.args.dialect c.args.tokens.now c.in_ok-rest.rest.now
-    (λ k. then_block k) (λ x k. choice_made k (acts_of x.0) x.1) (λ a f. expr_due (in_if a f))
-    (λ k. record { test = tree_of c.in_ok-test.test; before = k.0; frame = k.1 })
-    (λ k. c.in_ok-test.ensures.reads (in_if k.0 k.1.frame) ∙ then_read c.in_ok-rest.ensures (tree_of c.in_ok-test.test) k.0 k.1.frame)
-    c.from_residual-in_err-body.result c.in_err-body.field-0.0 c.from_residual-in_err-body.ensures.1 c.in_err-body.ensures.reads
+pub choice-returns-in-Ok-block-clause-reads : goal.choice-returns-in-Ok-block-clause-reads
+choice-returns-in-Ok-block-clause-reads t c =
+    onto {X = Option (List Stmt)} {K = Branch c.args.dialect} {L = FrameIn c.args.dialect} (λ f. f.frame) c.args.tokens.now c.in-Ok-block.rest.now
+    (λ k. branch_due k) (λ b k. choice_made k.choice k.body b) (λ a f. expr_due (in_if a f)) c.args.stmts.now c.append_choice.new.stmts
+    (λ f. record { choice = record { test = boxed_tree c.in_ok-test.test; before = acts_of c.args.stmts.now; frame = f }; body = acts_of c.in-Ok-block.body })
+    (λ x. does.If c.in_ok-test.test.value c.in-Ok-block.body x)
+    (λ f. c.in_ok-test.ensures.reads (in_if (acts_of c.args.stmts.now) f.frame) ∙ then_read c.in-Ok.ensures (boxed_tree c.in_ok-test.test) (acts_of c.args.stmts.now) f.frame ∙ c.in-Ok-block.ensures.reads (then_in (record { test = boxed_tree c.in_ok-test.test; before = acts_of c.args.stmts.now; frame = f })))
+    (λ x f. ap (λ a. block (with_act (acts_of c.args.stmts.now) a) f.frame) (sym (act_if c.in_ok-test.test.value c.in-Ok-block.body x)))
+    c.other_branch-other.result c.other_branch-other.ensures.reads c.append_choice.result c.append_choice.ensures
 
-pub choice-returns-clause-reads : goal.choice-returns-clause-reads
-choice-returns-clause-reads t c =
-    λ k. c.in_ok-test.ensures.reads (in_if k.0 k.1.frame) ∙ then_read c.in_ok-rest.ensures (tree_of c.in_ok-test.test) k.0 k.1.frame
-    ∙ c.in_ok-body.ensures.reads (record { test = tree_of c.in_ok-test.test; before = k.0; frame = k.1 })
-    ∙ ap (λ x. reads c.in_ok-body.rest.now (block (with_act k.0 x) k.1.frame)) (sym (act_if c.in_ok-test.test c.in_ok-body.body c.in_ok-body.other))
-
-pub counting-returns-in_err-body-clause-reads : goal.counting-returns-in_err-body-clause-reads
-counting-returns-in_err-body-clause-reads t c =
-    stmt_halts_in {X = List Stmt × Word} {K = Count c.args.dialect} c.args.dialect c.args.tokens.now c.in_ok-head.rest.now
-    (λ k. counted_block k) (λ x k. count_made k (acts_of x.0) x.1) for_word
-    (λ k. record { var = c.in_ok-head.head.var; from = tree_of c.in_ok-head.head.from; to = tree_of c.in_ok-head.head.to; step = c.in_ok-head.head.step; before = k.0; frame = k.1 })
-    (λ k. c.in_ok-head.ensures.reads (k.0, k.1.frame))
-    c.from_residual-in_err-body.result c.in_err-body.field-0.0 c.from_residual-in_err-body.ensures.1
-    (counted_reads c.args.dialect c.in_ok-head.rest.now c.block.result c.block.ensures.reads c.block.ensures.over (Err c.in_err-body.field-0.0) c.in_err-body.ensures)
+pub choice-returns-in-Err-block-clause-reads : goal.choice-returns-in-Err-block-clause-reads
+choice-returns-in-Err-block-clause-reads t c =
+    onto_halts {X = List Stmt} {K = FrameIn c.args.dialect} {L = FrameIn c.args.dialect} (λ f. f.frame) c.args.tokens.now c.in-Ok.rest.now
+    (λ f. block no_acts f.frame) (λ b f. block (acts_of b) f.frame) (λ a f. expr_due (in_if a f)) c.args.stmts.now c.args.stmts.now
+    (λ f. then_in (record { test = boxed_tree c.in_ok-test.test; before = acts_of c.args.stmts.now; frame = f })) (λ f. c.in_ok-test.ensures.reads (in_if (acts_of c.args.stmts.now) f.frame) ∙ then_read c.in-Ok.ensures (boxed_tree c.in_ok-test.test) (acts_of c.args.stmts.now) f.frame)
+    (Err c.in-Err-block.halt) c.in-Err-block.halt refl c.in-Err-block.ensures.reads
 
 pub counting-returns-clause-reads : goal.counting-returns-clause-reads
 counting-returns-clause-reads t c =
-    λ k. c.in_ok-head.ensures.reads (k.0, k.1.frame)
-    ∙ counted_reads c.args.dialect c.in_ok-head.rest.now c.block.result c.block.ensures.reads c.block.ensures.over (Ok ((c.in_ok-body.body, c.in_ok-body.last), c.in_ok-body.rest)) c.in_ok-body.ensures (record { var = c.in_ok-head.head.var; from = tree_of c.in_ok-head.head.from; to = tree_of c.in_ok-head.head.to; step = c.in_ok-head.head.step; before = k.0; frame = k.1 })
-    ∙ ap (λ x. reads c.in_ok-body.rest.now (block (with_act k.0 x) k.1.frame)) (sym (act_for_next c.in_ok-head.head c.in_ok-body.body c.in_ok-body.last))
-
-pub repetition-returns-in_err-body-clause-reads : goal.repetition-returns-in_err-body-clause-reads
-repetition-returns-in_err-body-clause-reads t c =
-    stmt_halts_in {X = List Stmt} {K = Repetition c.args.dialect} c.args.dialect c.args.tokens.now c.in_ok-test.rest.now
-    (λ k. repeated_block k) (λ b k. repetition_made k (acts_of b)) (λ a f. expr_due (in_while a f))
-    (λ k. record { test = tree_of c.in_ok-test.test; before = k.0; frame = k.1 })
-    (λ k. c.in_ok-test.ensures.reads (in_while k.0 k.1.frame) ∙ body_due c.in_ok-test.rest.now c.in_ok-test.ensures.over (tree_of c.in_ok-test.test) k.0 k.1.frame)
-    c.from_residual-in_err-body.result c.in_err-body.field-0.0 c.from_residual-in_err-body.ensures.1
-    (repeated_reads c.args.dialect c.in_ok-test.rest.now c.block.result c.block.ensures.reads c.block.ensures.over (Err c.in_err-body.field-0.0) c.in_err-body.ensures)
+    onto {X = List Stmt × Word} {K = Count c.args.dialect} {L = FrameIn c.args.dialect} (λ f. f.frame) c.args.tokens.now c.in_ok-head.rest.now
+    (λ k. counted_block k) (λ x k. count_made k (acts_of x.0) x.1) for_word c.args.stmts.now c.append_count.new.stmts
+    (λ f. record { var = c.in_ok-head.head.var; from = tree_of c.in_ok-head.head.from; to = tree_of c.in_ok-head.head.to; step = c.in_ok-head.head.step; before = acts_of c.args.stmts.now; frame = f })
+    (λ x. does.For c.in_ok-head.head x.0 x.1) (λ f. c.in_ok-head.ensures.reads (acts_of c.args.stmts.now, f.frame))
+    (λ x f. ap (λ a. block (with_act (acts_of c.args.stmts.now) a) f.frame) (sym (act_for_next c.in_ok-head.head x.0 x.1)))
+    c.counted.result (counted_reads c.args.dialect c.in_ok-head.rest.now c.block.result c.block.ensures.reads c.block.ensures.over c.counted.result c.counted.ensures)
+    c.append_count.result c.append_count.ensures
 
 pub repetition-returns-clause-reads : goal.repetition-returns-clause-reads
 repetition-returns-clause-reads t c =
-    λ k. c.in_ok-test.ensures.reads (in_while k.0 k.1.frame) ∙ body_due c.in_ok-test.rest.now c.in_ok-test.ensures.over (tree_of c.in_ok-test.test) k.0 k.1.frame
-    ∙ repeated_reads c.args.dialect c.in_ok-test.rest.now c.block.result c.block.ensures.reads c.block.ensures.over (Ok (c.in_ok-body.body, c.in_ok-body.rest)) c.in_ok-body.ensures (record { test = tree_of c.in_ok-test.test; before = k.0; frame = k.1 })
-    ∙ ap (λ x. reads c.in_ok-body.rest.now (block (with_act k.0 x) k.1.frame)) (sym (act_while_do c.in_ok-test.test c.in_ok-body.body))
+    onto {X = List Stmt} {K = Repetition c.args.dialect} {L = FrameIn c.args.dialect} (λ f. f.frame) c.args.tokens.now c.in_ok-test.rest.now
+    (λ k. repeated_block k) (λ b k. repetition_made k (acts_of b)) (λ a f. expr_due (in_while a f)) c.args.stmts.now c.append_repetition.new.stmts
+    (λ f. record { test = boxed_tree c.in_ok-test.test; before = acts_of c.args.stmts.now; frame = f }) (λ x. does.While c.in_ok-test.test.value x)
+    (λ f. c.in_ok-test.ensures.reads (in_while (acts_of c.args.stmts.now) f.frame) ∙ body_due c.in_ok-test.rest.now c.in_ok-test.ensures.over (boxed_tree c.in_ok-test.test) (acts_of c.args.stmts.now) f.frame)
+    (λ x f. ap (λ a. block (with_act (acts_of c.args.stmts.now) a) f.frame) (sym (act_while_do c.in_ok-test.test.value x)))
+    c.closed_block-read.result (repeated_reads c.args.dialect c.in_ok-test.rest.now c.block.result c.block.ensures.reads c.block.ensures.over c.closed_block-read.result c.closed_block-read.ensures)
+    c.append_repetition.result c.append_repetition.ensures
 
 pub counting-returns-in_err-head-clause-reads : goal.counting-returns-in_err-head-clause-reads
 counting-returns-in_err-head-clause-reads t c =
-    stmt_halts_in {X = ForHead} {K = Acts × Frame} c.args.dialect c.args.tokens.now c.args.tokens.now (λ k. for_word k.0 k.1) (λ h k. head_read k h) for_word
-    (λ k. (k.0, k.1.frame)) (λ k. refl) c.from_residual.result c.in_err-head.field-0.0 c.from_residual.ensures.1 c.in_err-head.ensures.reads
+    onto_halts {X = ForHead} {K = Acts × Frame} {L = FrameIn c.args.dialect} (λ f. f.frame) c.args.tokens.now c.args.tokens.now (λ k. for_word k.0 k.1) (λ h k. head_read k h) for_word
+    c.args.stmts.now c.args.stmts.now (λ f. (acts_of c.args.stmts.now, f.frame)) (λ f. refl) c.from_residual.result c.in_err-head.field-0.0 c.from_residual.ensures.1 c.in_err-head.ensures.reads
 
 pub other_branch-returns-in_err-other-clause-reads : goal.other_branch-returns-in_err-other-clause-reads
 other_branch-returns-in_err-other-clause-reads t c =
@@ -126,53 +103,55 @@ other_branch-returns-in-Some-clause-reads t c =
 
 pub statement-returns-in-Named-clause-reads : goal.statement-returns-in-Named-clause-reads
 statement-returns-in-Named-clause-reads t c =
-    subst (λ o. ReadsStmtIn c.args.dialect c.args.tokens.now (opened_by o) c.behind_name.result) (sym c.in-Named.is)
-    (narrowed c.args.dialect c.args.tokens.now (stmt_named c.in-Named.word) c.behind_name.result c.behind_name.ensures.reads)
+    subst (λ o. ReadsStmtIn c.args.dialect c.args.tokens.now (opened_by o) c.args.stmts.now c.append_named.new.stmts c.append_named.result) (sym c.in-Named.is)
+    (narrowed c.args.dialect c.args.tokens.now (stmt_named c.in-Named.word) c.args.stmts.now c.append_named.new.stmts c.append_named.result c.append_named.ensures.reads)
 
 pub statement-returns-in-Clear-clause-reads : goal.statement-returns-in-Clear-clause-reads
 statement-returns-in-Clear-clause-reads t c =
-    subst (λ o. ReadsStmtIn c.args.dialect c.args.tokens.now (opened_by o) c.clearing.result) (sym c.in-Clear.is)
-    (narrowed c.args.dialect c.args.tokens.now cleared c.clearing.result c.clearing.ensures.reads)
+    subst (λ o. ReadsStmtIn c.args.dialect c.args.tokens.now (opened_by o) c.args.stmts.now c.append_clearing.new.stmts c.append_clearing.result) (sym c.in-Clear.is)
+    (narrowed c.args.dialect c.args.tokens.now cleared c.args.stmts.now c.append_clearing.new.stmts c.append_clearing.result c.append_clearing.ensures.reads)
 
 pub statement-returns-in-Do-clause-reads : goal.statement-returns-in-Do-clause-reads
 statement-returns-in-Do-clause-reads t c =
-    subst (λ o. ReadsStmtIn c.args.dialect c.args.tokens.now (opened_by o) c.running.result) (sym c.in-Do.is)
-    (narrowed c.args.dialect c.args.tokens.now do_word c.running.result c.running.ensures.reads)
+    subst (λ o. ReadsStmtIn c.args.dialect c.args.tokens.now (opened_by o) c.args.stmts.now c.append_running.new.stmts c.append_running.result) (sym c.in-Do.is)
+    (narrowed c.args.dialect c.args.tokens.now do_word c.args.stmts.now c.append_running.new.stmts c.append_running.result c.append_running.ensures.reads)
 
 pub statement-returns-in-If-clause-reads : goal.statement-returns-in-If-clause-reads
-statement-returns-in-If-clause-reads t c = subst (λ o. ReadsStmtIn c.args.dialect c.args.tokens.now (opened_by o) c.choice.result) (sym c.in-If.is) c.choice.ensures.reads
+statement-returns-in-If-clause-reads t c =
+    subst (λ o. ReadsStmtIn c.args.dialect c.args.tokens.now (opened_by o) c.args.stmts.now c.choice.new.stmts c.choice.result) (sym c.in-If.is) c.choice.ensures.reads
 
 pub statement-returns-in-For-clause-reads : goal.statement-returns-in-For-clause-reads
-statement-returns-in-For-clause-reads t c = subst (λ o. ReadsStmtIn c.args.dialect c.args.tokens.now (opened_by o) c.counting.result) (sym c.in-For.is) c.counting.ensures.reads
+statement-returns-in-For-clause-reads t c =
+    subst (λ o. ReadsStmtIn c.args.dialect c.args.tokens.now (opened_by o) c.args.stmts.now c.counting.new.stmts c.counting.result) (sym c.in-For.is) c.counting.ensures.reads
 
 pub statement-returns-in-While-clause-reads : goal.statement-returns-in-While-clause-reads
-statement-returns-in-While-clause-reads t c = subst (λ o. ReadsStmtIn c.args.dialect c.args.tokens.now (opened_by o) c.repetition.result) (sym c.in-While.is) c.repetition.ensures.reads
+statement-returns-in-While-clause-reads t c =
+    subst (λ o. ReadsStmtIn c.args.dialect c.args.tokens.now (opened_by o) c.args.stmts.now c.repetition.new.stmts c.repetition.result) (sym c.in-While.is) c.repetition.ensures.reads
 
 pub choice-returns-in_err-test-clause-reads : goal.choice-returns-in_err-test-clause-reads
 choice-returns-in_err-test-clause-reads t c =
-    stmt_halts_in {X = Expr} {K = Whole} c.args.dialect c.args.tokens.now c.args.tokens.now (λ k. expr_due k) (λ e k. have (tree_of e) k) (λ a f. expr_due (in_if a f))
-    (λ k. in_if k.0 k.1.frame) (λ k. refl) c.from_residual.result c.in_err-test.field-0.0 c.from_residual.ensures.1 c.in_err-test.ensures.reads
+    onto_halts {X = Box Expr Global} {K = Whole} {L = FrameIn c.args.dialect} (λ f. f.frame) c.args.tokens.now c.args.tokens.now (λ k. expr_due k) (λ e k. have (boxed_tree e) k) (λ a f. expr_due (in_if a f))
+    c.args.stmts.now c.args.stmts.now (λ f. in_if (acts_of c.args.stmts.now) f.frame) (λ f. refl) c.from_residual.result c.in_err-test.field-0.0 c.from_residual.ensures.1 c.in_err-test.ensures.reads
 
 pub repetition-returns-in_err-test-clause-reads : goal.repetition-returns-in_err-test-clause-reads
 repetition-returns-in_err-test-clause-reads t c =
-    stmt_halts_in {X = Expr} {K = Whole} c.args.dialect c.args.tokens.now c.args.tokens.now (λ k. expr_due k) (λ e k. have (tree_of e) k) (λ a f. expr_due (in_while a f))
-    (λ k. in_while k.0 k.1.frame) (λ k. refl) c.from_residual.result c.in_err-test.field-0.0 c.from_residual.ensures.1 c.in_err-test.ensures.reads
+    onto_halts {X = Box Expr Global} {K = Whole} {L = FrameIn c.args.dialect} (λ f. f.frame) c.args.tokens.now c.args.tokens.now (λ k. expr_due k) (λ e k. have (boxed_tree e) k) (λ a f. expr_due (in_while a f))
+    c.args.stmts.now c.args.stmts.now (λ f. in_while (acts_of c.args.stmts.now) f.frame) (λ f. refl) c.from_residual.result c.in_err-test.field-0.0 c.from_residual.ensures.1 c.in_err-test.ensures.reads
 
 pub block-loop-opening-init : goal.block-loop-opening-init
 block-loop-opening-init t c = (le_refl _, λ f. ap (λ z. reads c.args.tokens.now (block (acts_of z) f.frame)) (sym c.new-stmts.ensures))
 
-pub block-returns-in_err-push-clause-reads : goal.block-returns-in_err-push-clause-reads
-block-returns-in_err-push-clause-reads t c =
-    forgotten {X = List Stmt} {K = FrameIn c.args.dialect} c.args.tokens.now (λ f. block no_acts f.frame) (λ b f. block (acts_of b) f.frame) c.from_residual-in_err-push.result c.from_residual-in_err-push.ensures.1
-
 pub block-returns-clause-reads : goal.block-returns-clause-reads
 block-returns-clause-reads t c = c.loop-opening.invariant.1
 
-pub choice-returns-in_err-rest-clause-reads : goal.choice-returns-in_err-rest-clause-reads
-choice-returns-in_err-rest-clause-reads t c =
-    token_misses {Y = Stmt} {L = Acts × FrameIn c.args.dialect} kind.Then c.args.tokens.now c.in_ok-test.rest.now (λ k. expr_due (in_if k.0 k.1.frame)) (λ s k. block (with_act k.0 (act_of s)) k.1.frame)
-    (λ k more l. c.in_ok-test.ensures.reads (in_if k.0 k.1.frame) ∙ then_left c.in_ok-test.ensures.over l (tree_of c.in_ok-test.test) k.0 k.1.frame)
-    c.from_residual-in_err-rest.result c.in_err-rest.field-0.0 c.from_residual-in_err-rest.ensures.1 c.in_err-rest.ensures
+pub choice-returns-in-Err-clause-reads : goal.choice-returns-in-Err-clause-reads
+choice-returns-in-Err-clause-reads t c =
+    onto_halts {X = Stmt} {K = FrameIn c.args.dialect} {L = FrameIn c.args.dialect} (λ f. f.frame) c.args.tokens.now c.args.tokens.now
+    (λ f. expr_due (in_if (acts_of c.args.stmts.now) f.frame)) (λ s f. block no_acts f.frame) (λ a f. expr_due (in_if a f)) c.args.stmts.now c.args.stmts.now (λ f. f) (λ f. refl)
+    (Err c.in-Err.halt) c.in-Err.halt refl
+    (token_misses {Y = Stmt} {L = FrameIn c.args.dialect} kind.Then c.args.tokens.now c.in_ok-test.rest.now (λ f. expr_due (in_if (acts_of c.args.stmts.now) f.frame)) (λ s f. block no_acts f.frame)
+    (λ f more l. c.in_ok-test.ensures.reads (in_if (acts_of c.args.stmts.now) f.frame) ∙ then_left c.in_ok-test.ensures.over l (boxed_tree c.in_ok-test.test) (acts_of c.args.stmts.now) f.frame)
+    (Err c.in-Err.halt) c.in-Err.halt refl c.in-Err.ensures)
 
 pub other_branch-returns-clause-reads : goal.other_branch-returns-clause-reads
 other_branch-returns-clause-reads t c =
@@ -181,38 +160,14 @@ other_branch-returns-clause-reads t c =
 
 -- ---- what is left behind a part
 
-pub block-returns-in_err-stmt-clause-over : goal.block-returns-in_err-stmt-clause-over
-block-returns-in_err-stmt-clause-over t c = untold _ c.from_residual.result c.in_err-stmt.field-0.0 c.from_residual.ensures.1
-
-pub block-returns-in_err-stmt-clause-shorter : goal.block-returns-in_err-stmt-clause-shorter
-block-returns-in_err-stmt-clause-shorter t c = untold _ c.from_residual.result c.in_err-stmt.field-0.0 c.from_residual.ensures.1
-
-pub branches-returns-in_err-body-clause-shorter : goal.branches-returns-in_err-body-clause-shorter
-branches-returns-in_err-body-clause-shorter t c = untold _ c.from_residual.result c.in_err-body.field-0.0 c.from_residual.ensures.1
-
-pub branches-returns-in_err-other-clause-shorter : goal.branches-returns-in_err-other-clause-shorter
-branches-returns-in_err-other-clause-shorter t c = untold _ c.from_residual-in_err-other.result c.in_err-other.field-0.0 c.from_residual-in_err-other.ensures.1
-
 pub choice-returns-in_err-test-clause-shorter : goal.choice-returns-in_err-test-clause-shorter
 choice-returns-in_err-test-clause-shorter t c = untold _ c.from_residual.result c.in_err-test.field-0.0 c.from_residual.ensures.1
-
-pub choice-returns-in_err-rest-clause-shorter : goal.choice-returns-in_err-rest-clause-shorter
-choice-returns-in_err-rest-clause-shorter t c = untold _ c.from_residual-in_err-rest.result c.in_err-rest.field-0.0 c.from_residual-in_err-rest.ensures.1
-
-pub choice-returns-in_err-body-clause-shorter : goal.choice-returns-in_err-body-clause-shorter
-choice-returns-in_err-body-clause-shorter t c = untold _ c.from_residual-in_err-body.result c.in_err-body.field-0.0 c.from_residual-in_err-body.ensures.1
 
 pub counting-returns-in_err-head-clause-shorter : goal.counting-returns-in_err-head-clause-shorter
 counting-returns-in_err-head-clause-shorter t c = untold _ c.from_residual.result c.in_err-head.field-0.0 c.from_residual.ensures.1
 
-pub counting-returns-in_err-body-clause-shorter : goal.counting-returns-in_err-body-clause-shorter
-counting-returns-in_err-body-clause-shorter t c = untold _ c.from_residual-in_err-body.result c.in_err-body.field-0.0 c.from_residual-in_err-body.ensures.1
-
 pub repetition-returns-in_err-test-clause-shorter : goal.repetition-returns-in_err-test-clause-shorter
 repetition-returns-in_err-test-clause-shorter t c = untold _ c.from_residual.result c.in_err-test.field-0.0 c.from_residual.ensures.1
-
-pub repetition-returns-in_err-body-clause-shorter : goal.repetition-returns-in_err-body-clause-shorter
-repetition-returns-in_err-body-clause-shorter t c = untold _ c.from_residual-in_err-body.result c.in_err-body.field-0.0 c.from_residual-in_err-body.ensures.1
 
 pub other_branch-returns-in_err-other-clause-shorter : goal.other_branch-returns-in_err-other-clause-shorter
 other_branch-returns-in_err-other-clause-shorter t c = untold _ c.from_residual.result c.in_err-other.field-0.0 c.from_residual.ensures.1
@@ -220,29 +175,34 @@ other_branch-returns-in_err-other-clause-shorter t c = untold _ c.from_residual.
 pub other_branch-returns-in_err-rest-clause-shorter : goal.other_branch-returns-in_err-rest-clause-shorter
 other_branch-returns-in_err-rest-clause-shorter t c = untold _ c.from_residual-in_err-rest.result c.in_err-rest.field-0.0 c.from_residual-in_err-rest.ensures.1
 
-pub choice-returns-clause-shorter : goal.choice-returns-clause-shorter
-choice-returns-clause-shorter t c = le_trans c.in_ok-body.ensures.shorter (le_of_lt (lt_trans (starts_shorter kind.Then c.in_ok-rest.ensures) c.in_ok-test.ensures.shorter))
-
-pub branches-returns-clause-shorter : goal.branches-returns-clause-shorter
-branches-returns-clause-shorter t c = le_trans c.in_ok-other.ensures.shorter c.in_ok-body.ensures.shorter
+pub choice-returns-in-Ok-block-clause-shorter : goal.choice-returns-in-Ok-block-clause-shorter
+choice-returns-in-Ok-block-clause-shorter t c =
+    onto_less c.args.tokens.now c.in-Ok-block.rest.now (le_trans c.in-Ok-block.ensures.shorter (le_of_lt (lt_trans (starts_shorter kind.Then c.in-Ok.ensures) c.in_ok-test.ensures.shorter))) c.append_choice.result
+    (onto_shorter c.in-Ok-block.rest.now (λ x. does.If c.in_ok-test.test.value c.in-Ok-block.body x) c.args.stmts.now c.append_choice.new.stmts c.other_branch-other.result c.other_branch-other.ensures.shorter c.append_choice.result c.append_choice.ensures)
 
 pub repetition-returns-clause-shorter : goal.repetition-returns-clause-shorter
-repetition-returns-clause-shorter t c = le_trans (ended_shorter kind.While c.in_ok-test.rest.now c.block.result c.block.ensures.shorter (Ok (c.in_ok-body.body, c.in_ok-body.rest)) c.in_ok-body.ensures) (le_of_lt c.in_ok-test.ensures.shorter)
+repetition-returns-clause-shorter t c =
+    onto_less c.args.tokens.now c.in_ok-test.rest.now (le_of_lt c.in_ok-test.ensures.shorter) c.append_repetition.result
+    (onto_shorter c.in_ok-test.rest.now (λ x. does.While c.in_ok-test.test.value x) c.args.stmts.now c.append_repetition.new.stmts c.closed_block-read.result
+    (ended_shorter kind.While c.in_ok-test.rest.now c.block.result c.block.ensures.shorter c.closed_block-read.result c.closed_block-read.ensures) c.append_repetition.result c.append_repetition.ensures)
 
 pub counting-returns-clause-shorter : goal.counting-returns-clause-shorter
-counting-returns-clause-shorter t c = le_trans (counted_shorter c.in_ok-head.rest.now c.block.result c.block.ensures.shorter (Ok ((c.in_ok-body.body, c.in_ok-body.last), c.in_ok-body.rest)) c.in_ok-body.ensures) (le_of_lt c.in_ok-head.ensures.shorter)
+counting-returns-clause-shorter t c =
+    onto_less c.args.tokens.now c.in_ok-head.rest.now (le_of_lt c.in_ok-head.ensures.shorter) c.append_count.result
+    (onto_shorter c.in_ok-head.rest.now (λ x. does.For c.in_ok-head.head x.0 x.1) c.args.stmts.now c.append_count.new.stmts c.counted.result
+    (counted_shorter c.in_ok-head.rest.now c.block.result c.block.ensures.shorter c.counted.result c.counted.ensures) c.append_count.result c.append_count.ensures)
 
 pub other_branch-returns-in-Some-clause-shorter : goal.other_branch-returns-in-Some-clause-shorter
 other_branch-returns-in-Some-clause-shorter t c = le_trans (ended_shorter kind.If c.in-Some.rest.now c.block.result c.block.ensures.shorter (Ok (c.in_ok-other.other, c.in_ok-other.rest)) c.in_ok-other.ensures) (no_more kind.Else c.in-Some.ensures)
 
 pub statement-returns-in-Named-clause-shorter : goal.statement-returns-in-Named-clause-shorter
-statement-returns-in-Named-clause-shorter t c = no_longer c.args.tokens.now c.behind_name.result c.behind_name.ensures.shorter
+statement-returns-in-Named-clause-shorter t c = not_more c.args.tokens.now c.append_named.result c.append_named.ensures.shorter
 
 pub statement-returns-in-Clear-clause-shorter : goal.statement-returns-in-Clear-clause-shorter
-statement-returns-in-Clear-clause-shorter t c = no_longer c.args.tokens.now c.clearing.result c.clearing.ensures.shorter
+statement-returns-in-Clear-clause-shorter t c = not_more c.args.tokens.now c.append_clearing.result c.append_clearing.ensures.shorter
 
 pub statement-returns-in-Do-clause-shorter : goal.statement-returns-in-Do-clause-shorter
-statement-returns-in-Do-clause-shorter t c = no_longer c.args.tokens.now c.running.result c.running.ensures.shorter
+statement-returns-in-Do-clause-shorter t c = not_more c.args.tokens.now c.append_running.result c.append_running.ensures.shorter
 
 pub statement-returns-in-If-clause-shorter : goal.statement-returns-in-If-clause-shorter
 statement-returns-in-If-clause-shorter t c = c.choice.ensures.shorter
@@ -252,12 +212,6 @@ statement-returns-in-For-clause-shorter t c = c.counting.ensures.shorter
 
 pub statement-returns-in-While-clause-shorter : goal.statement-returns-in-While-clause-shorter
 statement-returns-in-While-clause-shorter t c = c.repetition.ensures.shorter
-
-pub block-returns-in_err-push-clause-over : goal.block-returns-in_err-push-clause-over
-block-returns-in_err-push-clause-over t c = untold _ c.from_residual-in_err-push.result _ c.from_residual-in_err-push.ensures.1
-
-pub block-returns-in_err-push-clause-shorter : goal.block-returns-in_err-push-clause-shorter
-block-returns-in_err-push-clause-shorter t c = untold _ c.from_residual-in_err-push.result _ c.from_residual-in_err-push.ensures.1
 
 pub block-returns-clause-over : goal.block-returns-clause-over
 block-returns-clause-over t c = c.in_default.ensures
@@ -271,7 +225,7 @@ other_branch-returns-clause-shorter t c = le_trans (no_more kind.If c.in_ok-rest
 -- ---- each part begins with less
 
 pub block-loop-opening-smaller : goal.block-loop-opening-smaller
-block-loop-opening-smaller t c = lt_of_le_of_lt c.in_ok-stmt.ensures.shorter (opens_shorter c.in-Some.ensures)
+block-loop-opening-smaller t c = lt_of_le_of_lt c.in-Ok.ensures.shorter (opens_shorter c.in-Some.ensures)
 
 pub block-statement-requires : goal.block-statement-requires
 block-statement-requires t c = (fewer 4 (lit< tt) (lt_of_lt_of_le (opens_shorter c.in-Some.ensures) c.loop-opening.invariant.0) c.decreases, tt)
@@ -282,14 +236,11 @@ statement-choice-requires t c = (lower 3 4 (lit< tt) (le_refl _) c.decreases, tt
 pub statement-counting-requires : goal.statement-counting-requires
 statement-counting-requires t c = (lower 3 4 (lit< tt) (le_refl _) c.decreases, tt)
 
-pub choice-branches-requires : goal.choice-branches-requires
-choice-branches-requires t c = (lower 2 3 (lit< tt) (le_of_lt (lt_trans (starts_shorter kind.Then c.in_ok-rest.ensures) c.in_ok-test.ensures.shorter)) c.decreases, tt)
+pub choice-block-requires : goal.choice-block-requires
+choice-block-requires t c = (lowest 3 (lit< tt) (le_of_lt (lt_trans (starts_shorter kind.Then c.in-Ok.ensures) c.in_ok-test.ensures.shorter)) c.decreases, tt)
 
-pub branches-block-requires : goal.branches-block-requires
-branches-block-requires t c = (lowest 2 (lit< tt) (le_refl _) c.decreases, tt)
-
-pub branches-other_branch-requires : goal.branches-other_branch-requires
-branches-other_branch-requires t c = (lower 1 2 (lit< tt) c.in_ok-body.ensures.shorter c.decreases, c.in_ok-body.ensures.over)
+pub choice-other_branch-other-requires : goal.choice-other_branch-other-requires
+choice-other_branch-other-requires t c = (lower 1 3 (lit< tt) (le_trans c.in-Ok-block.ensures.shorter (le_of_lt (lt_trans (starts_shorter kind.Then c.in-Ok.ensures) c.in_ok-test.ensures.shorter))) c.decreases, c.in-Ok-block.ensures.over)
 
 pub other_branch-block-requires : goal.other_branch-block-requires
 other_branch-block-requires t c = (lowest 1 (lit< tt) (no_more kind.Else c.in-Some.ensures) c.decreases, tt)

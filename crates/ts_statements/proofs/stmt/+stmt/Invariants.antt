@@ -13,9 +13,6 @@ decreases-block l = 8 * length l.tokens.now
 abbrev pub decreases-other_branch : goal.decreases-other_branch
 decreases-other_branch l = 8 * length l.tokens.now + 1
 
-abbrev pub decreases-branches : goal.decreases-branches
-decreases-branches l = 8 * length l.tokens.now + 2
-
 abbrev pub decreases-choice : goal.decreases-choice
 decreases-choice l = 8 * length l.tokens.now + 3
 
