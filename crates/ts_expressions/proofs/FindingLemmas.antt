@@ -3,7 +3,7 @@ use Rattle.std.proofs.Common.{◌≡◌, ◌<◌, length, List, Result, Ok, Err,
 use Rattle.std.specs.declared.alloc.Global.{Global}
 use Rattle.std.specs.declared.boxed.Box.{Box}
 use Rattle.ts_expressions.specs.Boxed.{boxed_tree}
-use Rattle.ts_expressions.specs.Finding.{Found, Made, Joined, Called}
+use Rattle.ts_expressions.specs.Finding.{Found, Made, Joined, MadeCall}
 use Rattle.ts_syntax.specs.Parsing.{Ended, reads, noted_then, Reads, Starts, Lacks, LacksOperator, StartsOperator, Caller, called_open, called_with, called, of_operand}
 use Rattle.ts_syntax.specs.declared.halt.Halt.{Halt}
 use Rattle.ts_syntax.specs.declared.halt.Halt.TheVariants as halt
@@ -155,7 +155,7 @@ call_shorter ts x less (Ok y) e = lt_trans (starts_shorter kind.Close e.1) less
 call_shorter ts x less (Err f) e = tt
 
 -- a call of a function
-pub called_made : {E : Type 0} (w : Word) (x : List Expr × Bor (List Token)) (n : Result (Box Expr Global) E) → IfOk n (λ e. boxed_tree e ≡ call w (trees_of x.0)) → (r : Found) → Made n x.1.now r → Called w (Ok x) r
+pub called_made : {E : Type 0} (w : Word) (x : List Expr × Bor (List Token)) (n : Result (Box Expr Global) E) → IfOk n (λ e. boxed_tree e ≡ call w (trees_of x.0)) → (r : Found) → Made n x.1.now r → MadeCall w (Ok x) r
 called_made w x (Ok e) is (Ok y) m = (ap (λ (z : Box Expr Global). boxed_tree z) m.0 ∙ is, m.1)
 called_made w x (Ok e) is (Err f) m = absurd m
 called_made w x (Err e) is (Ok y) m = absurd m
@@ -163,7 +163,7 @@ called_made w x (Err e) is (Err f) m = m
 
 pub called_reads : (w : Word) {ts us : List Token} → Starts kind.Open ts us → (r : Result (List Expr × Bor (List Token)) Halt)
     → Reads {X = List Expr} {K = Caller} us (λ k. called_open k) (λ es k. called k (trees_of es)) r
-    → (s : Found) → Called w r s → Reads {X = Box Expr Global} {K = Operand} ts (λ k. named w k) (λ d k. give k (boxed_tree d)) s
+    → (s : Found) → MadeCall w r s → Reads {X = Box Expr Global} {K = Operand} ts (λ k. named w k) (λ d k. give k (boxed_tree d)) s
 called_reads w o (Ok x) h (Ok y) e =
     λ k. call_read w k o ∙ h (of_operand w k) ∙ ap (λ z. reads z (give k (call w (trees_of x.0)))) (sym e.1) ∙ ap (λ z. reads y.1.now (give k z)) (sym e.0)
 called_reads w {ts} o (Ok x) h (Err f) e =
@@ -171,7 +171,7 @@ called_reads w {ts} o (Ok x) h (Err f) e =
 called_reads w o (Err f) h s e = call_halts w o s f e h
 
 pub called_shorter : (w : Word) {ts us : List Token} → Starts kind.Open ts us → (r : Result (List Expr × Bor (List Token)) Halt) → IfOk r (λ x. length x.1.now < length us)
-    → (s : Found) → Called w r s → IfOk s (λ x. length x.1.now ≤ length ts)
+    → (s : Found) → MadeCall w r s → IfOk s (λ x. length x.1.now ≤ length ts)
 called_shorter w {ts} o (Ok x) h (Ok y) e = subst (λ z. length z ≤ length ts) (sym e.1) (le_of_lt (lt_trans h (starts_shorter kind.Open o)))
 called_shorter w o (Err f) h (Ok y) e = absurd e
 called_shorter w o r h (Err f) e = tt

@@ -30,7 +30,7 @@ Joined o l (Ok x) (Err f) = f ≡ halt.Memory
 Joined o l (Err e) r = IsErrAnd r (λ f. f ≡ e)
 
 -- a call of this function
-abbrev pub Called : Word → Result (List Expr × Bor (List Token)) Halt → Found → Type 0
-Called w (Ok x) (Ok y) = (boxed_tree y.0 ≡ call w (trees_of x.0)) × (y.1.now ≡ x.1.now)
-Called w (Ok x) (Err f) = f ≡ halt.Memory
-Called w (Err e) r = IsErrAnd r (λ f. f ≡ e)
+abbrev pub MadeCall : Word → Result (List Expr × Bor (List Token)) Halt → Found → Type 0
+MadeCall w (Ok x) (Ok y) = (boxed_tree y.0 ≡ call w (trees_of x.0)) × (y.1.now ≡ x.1.now)
+MadeCall w (Ok x) (Err f) = f ≡ halt.Memory
+MadeCall w (Err e) r = IsErrAnd r (λ f. f ≡ e)

@@ -5,7 +5,7 @@ ghost use Rattle.ts_syntax.specs.Parsing.{Ended};
 ghost use Rattle.ts_syntax.specs.declared.halt.Halt.TheVariants as halt;
 ghost use Rattle.ts_syntax.specs.declared.token.TokenKind.TheVariants as kind;
 ghost use Rattle.ts_expressions.specs.Boxed.{boxed_tree};
-ghost use Rattle.ts_expressions.specs.Finding.{Made, Joined, Called};
+ghost use Rattle.ts_expressions.specs.Finding.{Made, Joined, MadeCall};
 
 use crate::node::{call, two};
 use std::alloc::{AllocError, Global};
@@ -44,7 +44,7 @@ pub fn called<'a>(
     function: Word,
     read: Result<(Args, &'a [Token]), Halt<'a>>,
 ) -> Found<'a>
-    ensures { Called function read.entry result }
+    ensures { MadeCall function read.entry result }
 {
     let (args, rest) = read?;
     made(call(alloc, function, args), rest)
