@@ -1,5 +1,6 @@
 //! What becomes of the parts of a statement or a block that were read. What recurs calls these, and none of them is inlined
-//! there: a statement is large, and to drop one takes a copy of it.
+//! there: a statement is large, and to drop one takes a copy of it. After a refusal nothing is said of the block to which a
+//! statement was to be appended: whoever reads the block drops it.
 
 ghost use Rattle.std.specs.Prelude.{◌≡◌, ◌<◌, length, IfOk};
 ghost use Rattle.ts_statements.specs.Taking.{Appended, ReadsOnto};
