@@ -1,6 +1,6 @@
 //! The exchange of one node.
 
-ghost use Rattle.std.specs.Prelude.{◌≡◌, ◌*◌, ◌/◌, ◌%◌, ◌<◌, ◌≤◌, ◌↔◌, [], ◌∷◌, length, map, false, IsTrue, IfOk, IfSome, is_some, All, Some, if◌then◌else◌};
+ghost use Rattle.std.specs.Prelude.{◌≡◌, ◌*◌, ◌/◌, ◌%◌, ◌<◌, ◌≤◌, ◌↔◌, [], ◌∷◌, length, map, false, IsTrue, IfOk, IfSome, is_some, All, Some, MatchResult, if◌then◌else◌};
 ghost use Rattle.std.specs.List.{list_any};
 ghost use Rattle.std.specs.Option.{option_map};
 ghost use Rattle.mate_num.specs.declared.bounds.TheConstants.{FRAGMENTS_MAX, HANDLERS_MAX};
@@ -15,6 +15,7 @@ use crate::handler_state::{Form, HandlerState};
 use crate::handlers::{
     aim_each, any_marked, ask_each, forget_each, held_versions, next_slot, write_held,
 };
+use crate::kept_image::KeptImage;
 use crate::summary::Summary;
 use arrayvec::ArrayVec;
 use capsule_codec::Piece;
@@ -50,6 +51,7 @@ impl Heard {
 /// Contracts speak of all that happened so far: they see what the node knows after it.
 #[derive(Drop)]
 pub struct Exchange {
+    alloc: Global,
     handlers: Vec<HandlerState>,
     last: Option<u8>,
     summary: Summary,
@@ -67,7 +69,7 @@ impl Model for Exchange {
 }
 
 impl Exchange {
-    /// Nothing is held, collected or to be sent for any of the handlers. No other call takes memory.
+    /// Nothing is held, collected or to be sent for any of the handlers. Of the other calls `installed` alone takes memory.
     pub fn new(alloc: Global, handlers: u8) -> Result<Exchange, NoMemory>
         requires low { 1 ≤ handlers }
         requires high { handlers ≤ HANDLERS_MAX }
@@ -75,10 +77,11 @@ impl Exchange {
     {
         let mut states = Vec::with_capacity(alloc, usize::from(handlers))?;
         for _ in 0..handlers {
-            states.push(HandlerState::default())?;
+            states.push(HandlerState::none(alloc))?;
         }
         let summary = Summary::of(states.as_slice());
         Ok(Exchange {
+            alloc,
             handlers: states,
             last: None,
             summary,
@@ -300,17 +303,25 @@ impl Exchange {
         self.handlers[usize::from(handler.0)].collect_into(image)
     }
 
-    /// The image was installed: what was collected and marked of the handler is dropped.
-    pub fn installed(&mut self, handler: HandlerId, version: u32, image: &Image)
+    /// The image was installed: what was collected and marked of the handler is dropped. `NoMemory` leaves the exchange as it was.
+    pub fn installed(
+        &mut self,
+        handler: HandlerId,
+        version: u32,
+        image: &Image,
+    ) -> Result<(), NoMemory>
         requires handler { handler.0 < length self.old.handlers }
         requires newer { held_of self.old handler < version }
         requires filled { 1 ≤ length image.now.items }
-        ensures learned { Learns self.old (Installs handler.0 version image.now.items) self.new }
+        ensures learned { MatchResult result (λ _. Learns self.old (Installs handler.0 version image.now.items) self.new)
+            (λ _. self.new ≡ self.old) }
         ensures handlers { length self.new.handlers ≡ length self.old.handlers }
     {
+        let kept = KeptImage::of(self.alloc, image)?;
         let state = &mut self.handlers.as_mut_slice()[usize::from(handler.0)];
-        state.install(version, image);
+        state.install(version, kept);
         self.summary = Summary::of(self.handlers.as_slice());
+        Ok(())
     }
 
     /// What is collected and marked is dropped.

@@ -7,11 +7,13 @@ ghost use Rattle.capsule_codec.specs.Fragments.{count_of};
 ghost use Rattle.capsule_exchange.specs.Happenings.{fragment_of};
 ghost use Rattle.capsule_exchange.specs.Steps.{no_state, aimed, takes, kept, hears_fragment, marked, hears_status, after_sending, installs, forgets, places_in, image_held, complete_in, ask_in};
 
+use crate::kept_image::KeptImage;
 use crate::kept_piece::KeptPiece;
 use crate::pieces::{is_whole, join_into, missing_mask, no_marks, no_pieces};
 use capsule_codec::{Piece, count, fragment};
 use mate_num::{FRAGMENTS_MAX, HandlerId, Image, SHORT_IMAGE};
 use packet_codec::Packet;
+use std::alloc::Global;
 
 /// The count and the kind of an image's fragments.
 #[derive(Clone, Copy)]
@@ -28,7 +30,7 @@ pub struct HandlerState {
     /// The version that is held, 0 for none.
     pub(crate) held: u32,
     /// The image that is held, without bytes for none.
-    pub(crate) image: Image,
+    pub(crate) image: KeptImage,
     /// The newer version that is collected, 0 for none.
     pub(crate) target: u32,
     /// The form of the target's fragments, once one was received.
@@ -39,22 +41,21 @@ pub struct HandlerState {
     pub(crate) marks: [bool; FRAGMENTS_MAX],
 }
 
-impl Default for HandlerState {
-    ghost is_default = { λ s. s ≡ no_state };
-
-    fn default() -> HandlerState {
+impl HandlerState {
+    /// Nothing is held, collected or owed.
+    pub(crate) fn none(alloc: Global) -> HandlerState
+        ensures { result ≡ no_state }
+    {
         HandlerState {
             held: 0,
-            image: Image::new(),
+            image: KeptImage::none(alloc),
             target: 0,
             form: None,
             pieces: no_pieces(),
             marks: no_marks(),
         }
     }
-}
 
-impl HandlerState {
     /// The version becomes the target if it is over the held one and the target.
     pub(crate) fn aim(&mut self, version: u32)
         ensures { self.new ≡ aimed version self.old }
@@ -104,7 +105,7 @@ impl HandlerState {
         ensures { self.new ≡ hears_status version missing self.old }
     {
         if version == self.held {
-            let count = count(&self.image);
+            let count = count(&self.image.image());
             mark(&mut self.marks, count, missing);
         }
     }
@@ -118,11 +119,11 @@ impl HandlerState {
     }
 
     /// The image is held from now on.
-    pub(crate) fn install(&mut self, version: u32, image: &Image)
-        ensures { self.new ≡ installs version image.now self.old }
+    pub(crate) fn install(&mut self, version: u32, image: KeptImage)
+        ensures { self.new ≡ installs version image self.old }
     {
         self.held = version;
-        write_image(&mut self.image, image);
+        self.image = image;
         self.forget();
     }
 
@@ -187,28 +188,19 @@ impl HandlerState {
         ensures value { result ≡ fragment_of handler.0 self.now.held self.now.image.items index }
         ensures right { (n : ℕ) → handler.0 < n → 1 ≤ self.now.held → IsRightPacket n result }
     {
-        let Some(bytes) = fragment(&self.image, index) else {
+        let image = self.image.image();
+        let Some(bytes) = fragment(&image, index) else {
             unreachable!()
         };
         Packet::Fragment {
             handler,
             version: self.held,
             index,
-            count: count(&self.image),
-            large: self.image.len() > SHORT_IMAGE,
+            count: count(&image),
+            large: image.len() > SHORT_IMAGE,
             bytes,
         }
     }
-}
-
-// Writes the other image in its place: no more than its bytes, and not all the room that an image has.
-fn write_image(image: &mut Image, other: &Image)
-    ensures { image.new ≡ other.now }
-{
-    image.clear();
-    let Ok(()) = image.try_extend_from_slice(other.as_slice()) else {
-        unreachable!()
-    };
 }
 
 // Marks the places below the count that a bit of `missing` names.

@@ -4,6 +4,7 @@
 pub mod exchange;
 mod handler_state;
 mod handlers;
+mod kept_image;
 mod kept_piece;
 pub mod laws;
 mod pieces;

@@ -174,8 +174,7 @@ fn install(node: &mut Exchange, handler: HandlerId, version: u32, image: &Image)
     if node.held(handler) >= version {
         return None;
     }
-    node.installed(handler, version, image);
-    Some(())
+    node.installed(handler, version, image).ok()
 }
 
 // The image that the node has collected of the handler.

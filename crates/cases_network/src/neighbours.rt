@@ -106,6 +106,8 @@ fn hold(alloc: Global, node: &mut Exchange, held: &str) -> Result<String, AllocE
     {
         return "no newer version".to_string(alloc);
     }
-    node.installed(handler, version, &image);
+    let Ok(()) = node.installed(handler, version, &image) else {
+        return Err(AllocError);
+    };
     Ok(String::new(alloc))
 }

@@ -25,7 +25,7 @@ fn a_holder(alloc: Global) -> Result<Exchange, NoMemory>
     let mut exchange = Exchange::new(alloc, 1)?;
     let mut image = Image::new();
     image.push(7);
-    exchange.installed(HandlerId(0), 2, &image);
+    exchange.installed(HandlerId(0), 2, &image)?;
     Ok(exchange)
 }
 

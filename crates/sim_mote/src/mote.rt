@@ -139,7 +139,7 @@ impl Mote {
         }
         match self.node.install_anywhere(image.as_slice(), at)? {
             Ok(()) => {
-                self.exchange.installed(handler, version, image);
+                self.exchange.installed(handler, version, image)?;
                 effect.cuts = true;
                 effect.begins = self.timer.reset(at.time);
                 Ok(())

@@ -5,5 +5,5 @@ use Rattle.network_callers.proofs.exchanges.a_holder.Goals as goal
 
 pub returns : goal.returns
 returns c =
-    c.installed.ensures.learned 1 [] c.in_ok-exchange.ensures
+    c.in_ok-installed.ensures.learned 1 [] c.in_ok-exchange.ensures
     ∙ ap (λ (bytes : List ℕ). knowledge 1 (Installs 0 2 bytes ∷ [])) (c.push.ensures.items ∙ ap (λ (bytes : List ℕ). bytes ++ 7 ∷ []) c.new-image.ensures)

@@ -15,8 +15,8 @@ loop-preserved c =
     let before = c.loop.invariant in
     record {
       so_far = c.in_ok-push.ensures.items
-          ∙ ap (λ (ss : List HandlerState). ss ++ c.default.result ∷ []) before.so_far
-          ∙ ap (λ (s : HandlerState). map (state_after []) (range_with_len 0 n) ++ s ∷ []) c.default.ensures
+          ∙ ap (λ (ss : List HandlerState). ss ++ c.none.result ∷ []) before.so_far
+          ∙ ap (λ (s : HandlerState). map (state_after []) (range_with_len 0 n) ++ s ∷ []) c.none.ensures
           ∙ sym (map-range_with_len_more (state_after []) 0 n n (omega arith));
       few = (let e = c.in_ok-push.ensures.len in let h = before.few in omega arith);
     }

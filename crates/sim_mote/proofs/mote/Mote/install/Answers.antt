@@ -16,8 +16,8 @@ use Rattle.sim_mote.proofs.mote.Mote.install.Goals as goal
 pub install_anywhere-requires-clause-timely : goal.install_anywhere-requires-clause-timely
 install_anywhere-requires-clause-timely c = (tellable-same c.args.self.now.node c.reserve.new.self c.args.at c.in_ok-reserve.ensures.same c.requires.tellable).timely
 
-pub returns-in-Ok : goal.returns-in-Ok
-returns-in-Ok c =
+pub returns-in_ok-installed-in-Ok : goal.returns-in_ok-installed-in-Ok
+returns-in_ok-installed-in-Ok c =
     let mid = c.reserve.new.self in
     let new = c.install_anywhere.new.self in
     let T : Result ⊤ InstallFault → Type 0 = λ r. TakesCapsule mid new c.as_slice.result.now c.args.at r in
@@ -28,7 +28,7 @@ returns-in-Ok c =
           tells-behind c.args.self.now.node mid new c.args.at (λ d r. Pacing (InstallsBytes d r c.args.image.now.items)) c.in_ok-reserve.ensures.same c.in_ok-reserve.ensures.pace
           (subst P c.as_slice.ensures.value (subst T c.in-Ok.is c.in_ok-install_anywhere.ensures));
       timer = c.reset-effect.ensures.next.next;
-      exchange = c.installed.ensures.learned;
+      exchange = c.in_ok-installed-in-Ok.ensures.learned;
       pumps = refl;
       calls = refl;
       effect = ap (λ (e : Effect). record e { begins = c.reset-effect.result; cuts = true }) c.requires.plain ∙ ap E (c.reset-effect.ensures.begun ∙ sym (begins-reset c.args.self.now.timer));
