@@ -39,7 +39,7 @@ use Rattle.sim_run.specs.Telling.{AddsEvent}
 use Rattle.sim_run.specs.declared.simulation.Simulation.{Simulation}
 use Rattle.sim_run.proofs.MoteLemmas.{long-logs, set-log, first-mote, at-mote}
 use Rattle.sim_run.proofs.KeepingLemmas.{alike}
-use Rattle.world_pieces.specs.Recording.{IsRecordOf, IsRecordBefore, HasStoreBehind, HaveStoresBehind, IsRecorded, IsRecordedBefore, AreStoresBefore, StaysRecorded}
+use Rattle.world_pieces.specs.Recording.{IsRecordOf, IsRecordBefore, HasStoreBehind, HaveStoresBehind, IsRecorded, IsRecordedBefore, AreStoresBefore, AreStoresRecorded, StaysRecorded}
 
 -- ---- lists of logs that are the same but for their room
 
@@ -377,9 +377,16 @@ module _ (w : World) (ms : List Moment) (at : Stamp) (olds mids news : List Mote
         }
 
 pub stores-before : (kept : Option Record) (w : World) (ms : List Moment) (at : Stamp) (olds : List Mote) (mid new : Simulation) → HaveForgotten (length olds) olds mid.motes.items → ShowStores at (length mid.motes.items) mid.motes.items new.motes.items
-    → ShowTheirStores w ms (mote_logs mid.motes.items) (mote_logs new.motes.items) → new.radio.air ≡ mid.radio.air → IsRecorded kept mid → AreStoresBefore kept new
-stores-before None w ms at olds mid new f shows told air of = tt
-stores-before (Some r) w ms at olds mid new f shows told air of = (stores-behind w ms at olds mid.motes.items new.motes.items f shows told r of.logs of.places, of.air ∙ sym air)
+    → ShowTheirStores w ms (mote_logs mid.motes.items) (mote_logs new.motes.items) → IsRecorded kept mid → AreStoresBefore kept new.motes.items
+stores-before None w ms at olds mid new f shows told of = tt
+stores-before (Some r) w ms at olds mid new f shows told of = stores-behind w ms at olds mid.motes.items new.motes.items f shows told r of.logs of.places
+
+-- where they were recorded, all is
+pub stored-recorded : (old kept : Option Record) (s new : Simulation) → new.radio.air ≡ s.radio.air → IsRecorded old s → AreStoresRecorded old kept new.motes.items → IsRecorded kept new
+stored-recorded None None s new air of stored = tt
+stored-recorded None (Some k) s new air of stored = absurd stored
+stored-recorded (Some r) None s new air of stored = absurd stored
+stored-recorded (Some r) (Some k) s new air of stored = subst (λ (xs : List Aired). IsRecordOf k (mote_logs new.motes.items) xs) (of.air ∙ sym air) stored
 
 -- ---- they are appended, one node after the other
 

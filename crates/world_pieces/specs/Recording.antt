@@ -55,9 +55,16 @@ abbrev pub IsRecordedBefore : Option Record → Simulation → ℕ → Type 0
 IsRecordedBefore None s node = ⊤
 IsRecordedBefore (Some r) s node = IsRecordBefore r s node
 
-abbrev pub AreStoresBefore : Option Record → Simulation → Type 0
-AreStoresBefore None s = ⊤
-AreStoresBefore (Some r) s = HaveStoresBehind r s.motes.items × (r.air ≡ s.radio.air)
+abbrev pub AreStoresBefore : Option Record → List Mote → Type 0
+AreStoresBefore None motes = ⊤
+AreStoresBefore (Some r) motes = HaveStoresBehind r motes
+
+-- the nodes' logs are recorded, beside the air that was
+abbrev pub AreStoresRecorded : Option Record → Option Record → List Mote → Type 0
+AreStoresRecorded None None motes = ⊤
+AreStoresRecorded None (Some s) motes = ⊥
+AreStoresRecorded (Some r) None motes = ⊥
+AreStoresRecorded (Some r) (Some s) motes = IsRecordOf s (mote_logs motes) r.air
 
 -- it stays as it was, but for its room
 abbrev pub StaysRecorded : Option Record → Option Record → Type 0

@@ -1,7 +1,9 @@
 -- The run of a world whose lines are written as its events end, and whose report may be recorded.
-use Rattle.std.specs.Prelude.{◌≡◌, ℕ, ◌<◌, List, length, slice_get, IsSomeAnd, Option, Some, Result, Ok, Err, false}
+use Rattle.std.specs.Prelude.{◌≡◌, ℕ, ◌<◌, Bool, List, length, slice_get, IsSomeAnd, Option, Some, Result, Ok, Err, false}
 use Rattle.mate_journal.specs.NodeScript.{RunEnd}
 use Rattle.mate_journal.specs.Ranges.{HasReportRanges}
+use Rattle.mate_journal.specs.declared.air.Aired.{Aired}
+use Rattle.mate_journal.specs.declared.report.Report.{Report}
 use Rattle.report_text.specs.Text.{lines}
 use Rattle.world_pieces.specs.declared.record.Record.{Record}
 use Rattle.report_summary.specs.Writing.{OfRun, HasWritten, WritesReport}
@@ -15,7 +17,8 @@ use Rattle.world_rules.specs.Report.{IsWorldReport}
 use Rattle.sim_run.specs.Standing.{IsMoteAfter}
 use Rattle.sim_run.specs.Keeping.{IsWhole}
 use Rattle.sim_run.specs.Ranging.{AreInRange}
-use Rattle.sim_run.specs.Reporting.{told_report}
+use Rattle.sim_run.specs.Reporting.{mote_logs, told_report}
+use Rattle.sim_mote.specs.declared.mote.Mote.{Mote}
 use Rattle.sim_run.specs.Telling.{report_now, LogsAreKept}
 use Rattle.sim_run.specs.Running.{StandsAfter}
 use Rattle.world_pieces.specs.Recording.{IsRecorded}
@@ -34,6 +37,10 @@ pub record WritesRecorded (d : Description) (Is : OfRun) (out out' : Option (Lis
   pub gives : WritesReport d Is out out' before now pass.result (told_report ended pass.events pass.whole)
   pub recorded : IsRecorded kept ended
   pub ranges : HasReportRanges (told_report ended pass.events pass.whole)
+
+-- the report of these nodes and of what happened on the air
+abbrev pub report_of : List Mote → List Aired → ℕ → Bool → Report
+report_of motes air events whole = record { nodes = mote_logs motes; air = air; events = events; whole = whole }
 
 -- wherever the run's report began in the sink, the run ended so
 abbrev pub EndsSo : Description → World → Simulation → Option (List ℕ) → ℕ → Option (List ℕ) → ℕ → Pass → Option Record → Type 0

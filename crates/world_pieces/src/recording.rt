@@ -4,7 +4,7 @@ ghost use Rattle.std.specs.Prelude.{◌≡◌, ◌<◌, ◌≤◌, length, Match
 ghost use Rattle.mate_num.specs.declared.bounds.TheConstants.{NODES_MAX};
 ghost use Rattle.world_pieces.specs.Records.{IsSameRecord};
 ghost use Rattle.sim_run.specs.Reporting.{mote_logs};
-ghost use Rattle.world_pieces.specs.Recording.{IsRecordOf, IsRecordBefore, HaveStoresBehind, IsRecorded, IsRecordedBefore, AreStoresBefore};
+ghost use Rattle.world_pieces.specs.Recording.{IsRecordOf, IsRecordBefore, HaveStoresBehind, IsRecorded, IsRecordedBefore, AreStoresBefore, AreStoresRecorded};
 ghost use Rattle.world_pieces.specs.Recording.{StaysRecorded, has_record};
 
 use crate::record::Record;
@@ -31,14 +31,15 @@ pub fn record_event(
 }
 
 /// Records the stores that the nodes have at hand, if a record is kept. `NoMemory` leaves it as it was, but for its room.
-pub(crate) fn record_stores(records: &mut Option<Record>, sim: &Simulation) -> Result<(), NoMemory>
-    requires few { length sim.now.motes.items ≤ NODES_MAX }
-    requires before { AreStoresBefore records.old sim.now }
-    ensures recorded { MatchResult result (λ _. IsRecorded records.new sim.now) (λ _. StaysRecorded records.old records.new) }
+pub(crate) fn record_stores(records: &mut Option<Record>, motes: &[Mote]) -> Result<(), NoMemory>
+    requires few { length motes.now ≤ NODES_MAX }
+    requires before { AreStoresBefore records.old motes.now }
+    ensures recorded { MatchResult result (λ _. AreStoresRecorded records.old records.new motes.now)
+        (λ _. StaysRecorded records.old records.new) }
     ensures kept { has_record records.new ≡ has_record records.old }
 {
     match records {
-        Some(record) => add_stores(record, sim.motes.as_slice()),
+        Some(record) => add_stores(record, motes),
         None => Ok(()),
     }
 }

@@ -1,9 +1,10 @@
 //! The parts of a run of a world whose lines are written as its events end: its start, one event's lines, and its end.
 
-ghost use Rattle.std.specs.Prelude.{◌≡◌, ◌≤◌, ◌<◌, ◌+◌, length, drop, sum_by, slice_get, All, Some, IfSome, Err, false};
+ghost use Rattle.std.specs.Prelude.{◌≡◌, ◌≤◌, ◌<◌, ◌+◌, List, length, drop, sum_by, slice_get, All, Some, IfSome, Err, false};
 ghost use Rattle.mate_num.specs.declared.bounds.TheConstants.{NODES_MAX};
 ghost use Rattle.mate_files.specs.Sink.{Puts};
 ghost use Rattle.mate_journal.specs.NodeScript.{Whole};
+ghost use Rattle.mate_journal.specs.declared.air.Aired.{Aired as Happened};
 ghost use Rattle.report_text.specs.Text.{event_piece};
 ghost use Rattle.report_summary.specs.Writing.{PutsLastLine, last_line};
 ghost use Rattle.world_state_laws.specs.Coming.{code_world};
@@ -15,7 +16,7 @@ ghost use Rattle.sim_run.specs.Reporting.{mote_logs, told_report};
 ghost use Rattle.sim_run.specs.Running.{StandsAfter};
 ghost use Rattle.sim_run.specs.Telling.{LogsAreKept};
 ghost use Rattle.world_pieces.specs.Recording.{IsRecorded, has_record};
-ghost use Rattle.world_pieces.specs.Writing.{EndsSo, IsStartWritten, StandsAtEnd};
+ghost use Rattle.world_pieces.specs.Writing.{EndsSo, IsStartWritten, StandsAtEnd, report_of};
 ghost use Rattle.world_laws.specs.EventText.{store_lines};
 
 use crate::record::Record;
@@ -27,6 +28,7 @@ use report_summary::{Pass, WriteFault, ended, stopped};
 use report_text::{write_end, write_event};
 use sim_mote::Mote;
 use sim_run::{Simulation, forget_all, see_stores};
+use std::mem;
 use vm_desc::Description;
 use world_laws::text_grows_by_events;
 use world_script::World;
@@ -66,23 +68,24 @@ pub fn write_start<S: Sink>(
     }
 }
 
-/// Each node's store is seen; they are recorded, if a record is kept; and their lines are written, and the last line.
+/// Each node's store is seen; they are recorded, if a record is kept; and their lines are written, and the last line. The memory of the
+/// radio is free for these stores. That of the nodes isn't freed piece by piece: to free them takes about as long as to make them.
 #[inline(never)]
 pub fn write_ending<S: Sink>(
     desc: &Description,
     world: &World,
     programs: &Programs,
-    sim: &mut Simulation,
+    sim: Simulation,
     events: u64,
     records: &mut Option<Record>,
     out: &mut S,
 ) -> Pass
     requires right { AreProgramsOfWorld desc.now world.now programs.now }
-    requires ends { StandsAtEnd (code_world desc.now world.now programs.now) Whole events sim.old }
+    requires ends { StandsAtEnd (code_world desc.now world.now programs.now) Whole events sim }
     requires few { events < 18446744073709551615 }
-    requires recorded { IsRecorded records.old sim.old }
-    requires ranges { AreInRange sim.old }
-    ensures writes { EndsSo desc.now (code_world desc.now world.now programs.now) sim.old (S.written out.old) (S.faults out.old)
+    requires recorded { IsRecorded records.old sim }
+    requires ranges { AreInRange sim }
+    ensures writes { EndsSo desc.now (code_world desc.now world.now programs.now) sim (S.written out.old) (S.faults out.old)
         (S.written out.new) (S.faults out.new) result records.new }
     ensures kept { has_record records.new ≡ has_record records.old }
     ensures later { S.faults out.old ≤ S.faults out.new }
@@ -92,24 +95,33 @@ pub fn write_ending<S: Sink>(
         event: events + 1,
         time: world.until,
     };
-    let Ok(()) = forget_all(&mut sim.motes) else {
+    let Simulation {
+        radio,
+        mut motes,
+        ..
+    } = sim;
+    let happened = radio.aired();
+    drop(radio);
+    let Ok(()) = forget_all(&mut motes) else {
         return stopped_at(events, WriteFault::NoMemory);
     };
-    let Ok(()) = see_stores(&mut sim.motes, at) else {
+    let Ok(()) = see_stores(&mut motes, at) else {
         return stopped_at(events, WriteFault::NoMemory);
     };
-    logs_are_kept(sim.motes.as_slice());
-    let Ok(()) = record_stores(records, sim) else {
+    logs_are_kept(motes.as_slice());
+    let Ok(()) = record_stores(records, motes.as_slice()) else {
         return stopped_at(events, WriteFault::NoMemory);
     };
-    if let Err(fault) = write_stores(desc, sim.motes.as_slice(), out) {
+    if let Err(fault) = write_stores(desc, motes.as_slice(), out) {
         return Pass {
             events,
             whole: true,
             result: Err(stopped(fault)),
         };
     }
-    write_last(sim, events, true, out)
+    let pass = end_with(motes.as_slice(), happened, events, true, out);
+    mem::forget(motes);
+    pass
 }
 
 /// Writes what a node and the radio have at hand.
@@ -156,7 +168,16 @@ pub fn write_last<S: Sink>(sim: &Simulation, events: u64, whole: bool, out: &mut
     ensures { PutsLastLine (told_report sim.now events whole) (S.written out.old) (S.faults out.old) (S.written out.new) (S.faults out.new)
         result }
 {
-    let put = put_last(sim, events, whole, out);
+    end_with(sim.motes.as_slice(), sim.radio.aired(), events, whole, out)
+}
+
+/// Writes that line of nodes and of so many records of the air.
+fn end_with<S: Sink>(motes: &[Mote], aired: usize, events: u64, whole: bool, out: &mut S) -> Pass
+    requires { length motes.now ≤ NODES_MAX }
+    ensures { (air : List Happened) → length air ≡ aired → PutsLastLine (report_of motes.now air events whole) (S.written out.old)
+        (S.faults out.old) (S.written out.new) (S.faults out.new) result }
+{
+    let put = put_last(motes, aired, events, whole, out);
     Pass {
         events,
         whole,
@@ -164,29 +185,30 @@ pub fn write_last<S: Sink>(sim: &Simulation, events: u64, whole: bool, out: &mut
     }
 }
 
-/// Writes that last line. (`NoMemory` comes also if 64 bits don't count the records; nothing is written then.)
+/// Writes it. (`NoMemory` comes also if 64 bits don't count the records; nothing is written then.)
 fn put_last<S: Sink>(
-    sim: &Simulation,
+    motes: &[Mote],
+    aired: usize,
     events: u64,
     whole: bool,
     out: &mut S,
 ) -> Result<(), SinkFault>
-    requires { length sim.now.motes.items ≤ NODES_MAX }
-    ensures { Puts (S.written out.old) (S.faults out.old) (S.written out.new) (S.faults out.new) result
-        (last_line (told_report sim.now events whole)) }
+    requires { length motes.now ≤ NODES_MAX }
+    ensures { (air : List Happened) → length air ≡ aired → Puts (S.written out.old) (S.faults out.old) (S.written out.new)
+        (S.faults out.new) result (last_line (report_of motes.now air events whole)) }
 {
-    match records_in(sim) {
-        Some(records) => write_end(records, events, sim.motes.len() as u8, whole, out),
+    match records_in(motes, aired) {
+        Some(records) => write_end(records, events, motes.len() as u8, whole, out),
         None => Err(SinkFault::NoMemory),
     }
 }
 
 /// How many records there are; None if 64 bits don't count them.
-fn records_in(sim: &Simulation) -> Option<u64>
-    ensures { IfSome result (λ n. n ≡ length sim.now.radio.air + sum_by (λ l. length l.entries) (mote_logs sim.now.motes.items)) }
+fn records_in(motes: &[Mote], aired: usize) -> Option<u64>
+    ensures { IfSome result (λ n. n ≡ aired + sum_by (λ l. length l.entries) (mote_logs motes.now)) }
 {
-    let told = entries_in(sim.motes.as_slice())?;
-    (sim.radio.aired() as u64).checked_add(told)
+    let told = entries_in(motes)?;
+    (aired as u64).checked_add(told)
 }
 
 /// How many entries the nodes recorded; None if 64 bits don't count them.

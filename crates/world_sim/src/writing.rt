@@ -36,7 +36,7 @@ fn start_recorded(
 }
 
 /// Runs a world as `run` does, and writes each event's lines when it ends, and then the last line. After a fault of the sink no
-/// further event is begun; the report then has the events that ended.
+/// further event is begun; the report then has the events that ended. The memory of the nodes is left to the end of the process.
 pub fn run_into<S: Sink>(
     alloc: Global,
     desc: &Description,
@@ -50,11 +50,11 @@ pub fn run_into<S: Sink>(
     ensures later { S.faults out.old ≤ S.faults out.new }
 {
     reports_keep_the_promise();
-    let Ok((mut sim, record)) = start_recorded(alloc, desc, world, programs) else {
+    let Ok((sim, record)) = start_recorded(alloc, desc, world, programs) else {
         return Err(IntoFault::NoMemory(nothing_run(alloc)));
     };
     let mut record = Some(record);
-    let pass = write_run(alloc, desc, world, programs, &mut sim, &mut record, out);
+    let pass = write_run(alloc, desc, world, programs, sim, &mut record, out);
     let Some(record) = record else { unreachable!() };
     let report = record.into_report(pass.events, pass.whole);
     match pass.result {

@@ -36,7 +36,7 @@ use world_state_laws::states_are_sound;
 /// Runs a world on nodes of this machine, with the programs of its files, and writes each event's lines when it ends, and then the last
 /// line. After a fault of the sink no further event is begun. No report is kept: what a node recorded in an event, and what happened on
 /// the air in it, is forgotten before the next one, and the room of its log goes to the node of the next one. So a long run takes no
-/// more memory than its nodes and its longest event.
+/// more memory than its nodes and its longest event. The memory of the nodes is left to the end of the process.
 pub fn write_world<S: Sink>(
     alloc: Global,
     desc: &Description,
@@ -50,37 +50,37 @@ pub fn write_world<S: Sink>(
     ensures later { S.faults out.old ≤ S.faults out.new }
 {
     reports_keep_the_promise();
-    let Ok(mut sim) = Simulation::start(alloc, desc, world, programs) else {
+    let Ok(sim) = Simulation::start(alloc, desc, world, programs) else {
         return Err(WriteFault::NoMemory);
     };
     let mut none = None;
-    write_run(alloc, desc, world, programs, &mut sim, &mut none, out).result
+    write_run(alloc, desc, world, programs, sim, &mut none, out).result
 }
 
 /// Runs a world from its start, and writes each event's lines when it ends, and then the last line. If a record is kept, it has what
-/// the report has that was written, or a part of it.
+/// the report has that was written, or a part of it. The memory of the nodes is left to the end of the process, if the run ends by itself.
 #[inline(never)]
 pub fn write_run<S: Sink>(
     alloc: Global,
     desc: &Description,
     world: &World,
     programs: &Programs,
-    sim: &mut Simulation,
+    mut sim: Simulation,
     records: &mut Option<Record>,
     out: &mut S,
 ) -> Pass
     requires right { AreProgramsOfWorld desc.now world.now programs.now }
-    requires stands { StandsAfter (code_world desc.now world.now programs.now) 0 sim.old }
-    requires whole { IsWhole sim.old }
-    requires recorded { IsRecorded records.old sim.old }
-    requires ranges { AreInRange sim.old }
+    requires stands { StandsAfter (code_world desc.now world.now programs.now) 0 sim }
+    requires whole { IsWhole sim }
+    requires recorded { IsRecorded records.old sim }
+    requires ranges { AreInRange sim }
     ensures gives { WritesRecorded desc.now (IsWorldReport (code_world desc.now world.now programs.now)) (S.written out.old)
         (S.written out.new) (S.faults out.old) (S.faults out.new) result records.new }
     ensures kept { has_record records.new ≡ has_record records.old }
     ensures later { S.faults out.old ≤ S.faults out.new }
 {
     states_are_sound();
-    if let Err(fault) = write_start(desc, world, programs, sim, out) {
+    if let Err(fault) = write_start(desc, world, programs, &sim, out) {
         return stopped_at(0, fault);
     }
     let mut room = NodeLog::new(alloc);
@@ -91,7 +91,7 @@ pub fn write_run<S: Sink>(
             return write_ending(desc, world, programs, sim, events, records, out);
         };
         if sim.records >= RECORDS_MAX {
-            return write_last(sim, events, false, out);
+            return write_last(&sim, events, false, out);
         }
         let at = Stamp {
             event: events + 1,
@@ -101,7 +101,7 @@ pub fn write_run<S: Sink>(
             desc,
             world,
             programs,
-            sim,
+            &mut sim,
             &event,
             at,
             &mut room,

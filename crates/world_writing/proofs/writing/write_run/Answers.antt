@@ -17,7 +17,7 @@ use Rattle.world_writing.proofs.writing.write_run.Goals as goal
 pub returns-in-Err-clause-gives : goal.returns-in-Err-clause-gives
 returns-in-Err-clause-gives g c =
     subst (λ (p : Pass). WritesRecorded c.args.desc.now (IsWorldReport (code_world c.args.desc.now c.args.world.now c.args.programs.now)) (g.S.Sink.written c.args.out.now) (g.S.Sink.written c.write_start.new.out) (g.S.Sink.faults c.args.out.now) (g.S.Sink.faults c.write_start.new.out) p c.args.records.now)
-    (sym c.stopped_at.ensures) (record { ended = c.args.sim.now; gives = c.in-Err.ensures.writes; recorded = c.requires.recorded; ranges = report-ranges c.args.sim.now 0 false c.requires.ranges (lit< tt) })
+    (sym c.stopped_at.ensures) (record { ended = c.args.sim; gives = c.in-Err.ensures.writes; recorded = c.requires.recorded; ranges = report-ranges c.args.sim 0 false c.requires.ranges (lit< tt) })
 
 pub write_ending-requires-clause-ends : goal.write_ending-requires-clause-ends
 write_ending-requires-clause-ends g c =
