@@ -2,7 +2,7 @@
 use Rattle.std.specs.Prelude.{◌≡◌, ℕ}
 use Rattle.arrayvec.specs.ArrayVec.{ArrayVec}
 use Rattle.code_verifier.specs.Verified.{VerifiedCode}
-use Rattle.node_invariant.specs.Meaning.{image_code}
+use Rattle.node_state.specs.Meaning.{image_code}
 use Rattle.vm_desc.specs.Shapes.{shape_of}
 use Rattle.vm_desc.specs.declared.description.Description.{Description}
 

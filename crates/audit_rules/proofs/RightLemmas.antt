@@ -23,8 +23,8 @@ use Rattle.mate_journal.specs.declared.program.Program.{Program}
 use Rattle.journal_laws.specs.Growth.{event_of, IsNamedBelow, AreNamedBelow}
 use Rattle.journal_laws.proofs.TidyLemmas.{NamesInLog-numbered}
 use Rattle.journal_laws.proofs.Devices.{devices-in-turn}
-use Rattle.node_invariant.specs.Meaning.{image_code, meaning_of}
-use Rattle.node_invariant.proofs.AskLemmas.{writes-what_it_asks}
+use Rattle.node_state.specs.Meaning.{image_code, meaning_of}
+use Rattle.node_state.proofs.AskLemmas.{writes-what_it_asks}
 use Rattle.node_programs.specs.Right.{AreRightPrograms}
 use Rattle.node_programs.specs.Sources.{meaning_by}
 use Rattle.node_programs.proofs.MeaningLemmas.{meaning_by-right}

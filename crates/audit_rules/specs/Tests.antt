@@ -10,7 +10,7 @@ use Rattle.mate_journal.specs.Log.{Log}
 use Rattle.mate_journal.specs.Machine.{HeldProgram, Machine}
 use Rattle.mate_journal.specs.declared.program.Program.{Program}
 use Rattle.mate_journal.specs.declared.report.Report.{Report}
-use Rattle.node_invariant.specs.Meaning.{image_code}
+use Rattle.node_state.specs.Meaning.{image_code}
 use Rattle.node_programs.specs.Sources.{is_held_as}
 use Rattle.audit_rules.specs.Granting.{ConflictTest, grants_in_order}
 use Rattle.audit_rules.specs.Rerun.{replays_right}

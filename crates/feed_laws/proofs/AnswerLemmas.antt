@@ -10,7 +10,7 @@ use Rattle.mate_journal.specs.Journal.{NodeState, JournalEntry, Installed as Tol
 use Rattle.mate_journal.specs.Machine.{Machine, HeldProgram}
 use Rattle.mate_journal.specs.NodeScript.{Installs}
 use Rattle.mate_journal.specs.Pace.{Pace}
-use Rattle.node_invariant.specs.Meaning.{machine_in}
+use Rattle.node_state.specs.Meaning.{machine_in}
 use Rattle.node_calls.specs.Installing.{Refuses, InstallsBytes, IsRightCapsule, capsule_handler, program_by}
 use Rattle.node_calls.specs.declared.installing.InstallFault.{InstallFault}
 use Rattle.node_calls.specs.declared.installing.InstallFault.TheVariants as fault

@@ -3,7 +3,7 @@
 ghost use Rattle.std.specs.Prelude.{◌≡◌, ℕ, List};
 ghost use Rattle.vm_desc.specs.declared.description.Description.{Description};
 ghost use Rattle.mate_journal.specs.Journal.{first_state};
-ghost use Rattle.node_invariant.specs.Meaning.{machine_in};
+ghost use Rattle.node_state.specs.Meaning.{machine_in};
 ghost use Rattle.slip_gateway.specs.Stream.{frames};
 ghost use Rattle.mate_documents.specs.FeedAnswers.{answers_to};
 ghost use Rattle.mate_documents.specs.declared.answer.Answer.{Answer};

@@ -15,8 +15,8 @@ use Rattle.mate_journal.specs.Pace.{Pace}
 use Rattle.mate_journal.specs.Turns.{entry_at, mark_of}
 use Rattle.journal_laws.proofs.Changed.{changed-here}
 use Rattle.journal_laws.proofs.WaitsApart.{LiveApart, apart-after, nothing_heard-apart}
-use Rattle.node_invariant.specs.Keeps.{reading, event_at}
-use Rattle.node_invariant.specs.Meaning.{machine_in}
+use Rattle.node_state.specs.Keeps.{reading, event_at}
+use Rattle.node_state.specs.Meaning.{machine_in}
 use Rattle.node_calls.proofs.AnswerLemmas.{given}
 use Rattle.open_node.specs.Calls.{HasStepped, Pacing}
 use Rattle.open_node.specs.Journal.{KeepsJournal}

@@ -14,7 +14,7 @@ use Rattle.mate_journal.specs.Machine.{Machine}
 use Rattle.mate_journal.specs.NodeScript.{Installs, Resets, Occasion}
 use Rattle.mate_journal.specs.Pace.{Pace}
 use Rattle.journal_laws.specs.Progress.{IsNoneLive}
-use Rattle.node_invariant.specs.Meaning.{machine_in}
+use Rattle.node_state.specs.Meaning.{machine_in}
 use Rattle.node_calls.specs.Installing.{IsRightCapsule, InstallsBytes, Refuses, capsule_handler, program_by}
 use Rattle.node_calls.specs.declared.installing.InstallFault.{InstallFault}
 use Rattle.node_calls.specs.declared.installing.InstallFault.TheVariants as fault

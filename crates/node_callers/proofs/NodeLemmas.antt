@@ -13,8 +13,8 @@ use Rattle.mate_journal.specs.Pace.{Pace}
 use Rattle.mate_journal.specs.WellFormed.{IsBusy, IsIdle, IsWellFormed}
 use Rattle.journal_laws.proofs.Append.{GrantsInOrder-last, AtEachPlace-last}
 use Rattle.journal_laws.specs.Apart.{AreApart}
-use Rattle.node_invariant.specs.Keeps.{reading}
-use Rattle.node_invariant.specs.Meaning.{machine_in}
+use Rattle.node_state.specs.Keeps.{reading}
+use Rattle.node_state.specs.Meaning.{machine_in}
 use Rattle.node_calls.proofs.SettleLemmas.{reading-grows}
 use Rattle.node_calls.specs.Posting.{PostGives}
 use Rattle.node_calls.specs.declared.posting.PostAnswer.{PostAnswer}

@@ -10,7 +10,7 @@ use Rattle.mate_journal.specs.Pace.{Pace, paced_all, gives_way, others}
 use Rattle.mate_journal.specs.Turns.{Turn, IsTurn, AreTurns, entry_at, mark_of, after_turn, after_step, pace_after, told_in}
 use Rattle.journal_laws.proofs.Changed.{changed-here, changed-other}
 use Rattle.journal_laws.specs.Progress.{IsSomeReady}
-use Rattle.node_invariant.specs.Meaning.{machine_in}
+use Rattle.node_state.specs.Meaning.{machine_in}
 use Rattle.node_calls.specs.Pacing.{SettlesWithin}
 use Rattle.open_node.proofs.CallLemmas.{Tells-by}
 use Rattle.open_node.specs.Calls.{HasStepped}

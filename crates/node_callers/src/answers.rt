@@ -4,8 +4,8 @@ ghost use Rattle.std.specs.Prelude.{◌≡◌, ◌≤◌, ◌<◌, ◌+◌, ◌+
 ghost use Rattle.mate_num.specs.declared.bounds.TheConstants.{CONTEXTS_MAX};
 ghost use Rattle.mate_journal.specs.Journal.{JournalEntry, journal_of};
 ghost use Rattle.mate_journal.specs.Pace.{Pace};
-ghost use Rattle.node_invariant.specs.Keeps.{IsTimely, event_at};
-ghost use Rattle.node_invariant.specs.Meaning.{machine_in};
+ghost use Rattle.node_state.specs.Keeps.{IsTimely, event_at};
+ghost use Rattle.node_state.specs.Meaning.{machine_in};
 ghost use Rattle.open_node.specs.View.{heard_of, HasPace};
 ghost use Rattle.open_node.specs.declared.open_node.TheConstants.{TURN_ENTRIES};
 ghost use Rattle.node_callers.specs.Told.{GoesByAnswer};

@@ -4,8 +4,8 @@ ghost use Rattle.std.specs.Prelude.{◌≡◌, ◌≤◌, ◌<◌, true, false, 
 ghost use Rattle.capsule_codec.specs.Image.{CapsuleParts};
 ghost use Rattle.mate_journal.specs.Journal.{JournalEntry, held};
 ghost use Rattle.mate_journal.specs.Pace.{Pace};
-ghost use Rattle.node_invariant.specs.Keeps.{IsTimely};
-ghost use Rattle.node_invariant.specs.Meaning.{machine_in};
+ghost use Rattle.node_state.specs.Keeps.{IsTimely};
+ghost use Rattle.node_state.specs.Meaning.{machine_in};
 ghost use Rattle.node_calls.specs.Installing.{IsRightCapsule, capsule_handler, program_by};
 ghost use Rattle.node_calls.specs.declared.installing.InstallFault.TheVariants.{NotNewer};
 ghost use Rattle.open_node.specs.View.{HasPlaces, heard_of, HasPace, Tells};

@@ -4,8 +4,8 @@ ghost use Rattle.std.specs.Prelude.{◌≡◌, ◌≤◌, ◌<◌, length};
 ghost use Rattle.mate_num.specs.declared.bounds.TheConstants.{CONTEXTS_MAX};
 ghost use Rattle.mate_journal.specs.Grants.{AllHeldBack};
 ghost use Rattle.journal_laws.specs.Apart.{AreApart};
-ghost use Rattle.node_invariant.specs.Keeps.{IsTimely};
-ghost use Rattle.node_invariant.specs.Meaning.{machine_in};
+ghost use Rattle.node_state.specs.Keeps.{IsTimely};
+ghost use Rattle.node_state.specs.Meaning.{machine_in};
 ghost use Rattle.open_node.specs.View.{heard_of};
 ghost use Rattle.open_node.specs.declared.open_node.TheConstants.{TURN_ENTRIES};
 

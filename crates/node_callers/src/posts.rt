@@ -5,8 +5,8 @@ ghost use Rattle.mate_num.specs.declared.id.ContextId.{ContextId};
 ghost use Rattle.mate_journal.specs.Machine.{IsContextOf};
 ghost use Rattle.mate_journal.specs.Pace.{Pace};
 ghost use Rattle.mate_journal.specs.WellFormed.{IsIdle};
-ghost use Rattle.node_invariant.specs.Keeps.{IsTimely};
-ghost use Rattle.node_invariant.specs.Meaning.{machine_in};
+ghost use Rattle.node_state.specs.Keeps.{IsTimely};
+ghost use Rattle.node_state.specs.Meaning.{machine_in};
 ghost use Rattle.node_calls.specs.declared.posting.PostAnswer.TheVariants.{AllBusy};
 ghost use Rattle.open_node.specs.View.{heard_of, HasPace};
 

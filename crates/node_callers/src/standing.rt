@@ -3,7 +3,7 @@
 ghost use Rattle.std.specs.Prelude.{◌≡◌, ◌≤◌, ◌<◌, suc, length};
 ghost use Rattle.mate_num.specs.declared.id.ContextId.{ContextId};
 ghost use Rattle.mate_journal.specs.Pace.{Pace};
-ghost use Rattle.node_invariant.specs.Keeps.{IsTimely};
+ghost use Rattle.node_state.specs.Keeps.{IsTimely};
 ghost use Rattle.open_node.specs.Calls.{IsNoneReady};
 ghost use Rattle.open_node.specs.View.{heard_of, HasPace};
 ghost use Rattle.open_node.specs.declared.standing.Standing.TheVariants.{Can};

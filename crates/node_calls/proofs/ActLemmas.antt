@@ -14,27 +14,27 @@ use Rattle.mate_journal.specs.declared.entry.Entry.{Entry}
 use Rattle.mate_journal.specs.Log.{Log}
 use Rattle.mate_journal.specs.Journal.{JournalEntry, is_live, is_started, NodeState, whole_run, changed, next_state}
 use Rattle.mate_journal.specs.Grants.{AllHeldBack}
-use Rattle.node_contexts.specs.declared.seat.Seat.{Seat}
-use Rattle.node_contexts.specs.declared.contexts.Contexts.{Contexts}
-use Rattle.node_contexts.specs.At.{At, at, ready, Becomes}
-use Rattle.node_contexts.specs.Programs.{held_at}
-use Rattle.node_contexts.specs.Executing.{Executes}
-use Rattle.node_invariant.specs.declared.parts.Parts.{Parts}
-use Rattle.node_invariant.specs.Meaning.{machine_in}
-use Rattle.node_invariant.specs.Keeps.{reading, Keeps, IsTimely, Grows}
-use Rattle.node_invariant.specs.Continues.{Continues}
-use Rattle.node_invariant.proofs.FitLemmas.{IsAlone}
-use Rattle.node_invariant.proofs.MoveLemmas.{alone-seat, stood_ready}
-use Rattle.node_invariant.proofs.AgreeLemmas.{going_in}
-use Rattle.node_invariant.proofs.KeepLemmas.{Grows-none}
-use Rattle.node_invariant.specs.Queue.{number_at, invocation_in}
-use Rattle.node_invariant.specs.Totals.{may_start, owed, left, starts_left, owes, falls}
+use Rattle.node_state.specs.declared.seat.Seat.{Seat}
+use Rattle.node_state.specs.declared.contexts.Contexts.{Contexts}
+use Rattle.node_state.specs.At.{At, at, ready, Becomes}
+use Rattle.node_state.specs.Programs.{held_at}
+use Rattle.node_state.specs.Executing.{Executes}
+use Rattle.node_state.specs.declared.parts.Parts.{Parts}
+use Rattle.node_state.specs.Meaning.{machine_in}
+use Rattle.node_state.specs.Keeps.{reading, Keeps, IsTimely, Grows}
+use Rattle.node_state.specs.Continues.{Continues}
+use Rattle.node_state.proofs.FitLemmas.{IsAlone}
+use Rattle.node_state.proofs.MoveLemmas.{alone-seat, stood_ready}
+use Rattle.node_state.proofs.AgreeLemmas.{going_in}
+use Rattle.node_state.proofs.KeepLemmas.{Grows-none}
+use Rattle.node_state.specs.Queue.{number_at, invocation_in}
+use Rattle.node_state.specs.Totals.{may_start, owed, left, starts_left, owes, falls}
 use Rattle.mate_journal.specs.Pace.{Pace, others, paced, paced_all}
 use Rattle.mate_journal.specs.Turns.{IsTurn, mark_of, entry_at, after_step}
-use Rattle.node_invariant.specs.Pace.{IsPace}
-use Rattle.node_invariant.specs.Starting.{KeepsOrder, Rests}
-use Rattle.node_invariant.proofs.TotalLemmas.{over_all-becomes}
-use Rattle.node_invariant.proofs.OrderLemmas.{live-above, grows-by, heard-by}
+use Rattle.node_state.specs.Pace.{IsPace}
+use Rattle.node_state.specs.Starting.{KeepsOrder, Rests}
+use Rattle.node_state.proofs.TotalLemmas.{over_all-becomes}
+use Rattle.node_state.proofs.OrderLemmas.{live-above, grows-by, heard-by}
 use Rattle.node_calls.specs.Pacing.{most, HasGoneOn, HasMoved, TakesTurn}
 use Rattle.node_calls.proofs.RunningLemmas.{one, one-ready, one-below, one-within, one-few, HasGoneOn-ready}
 use Rattle.node_calls.proofs.TurnLemmas.{pace-leaves, pace-stays, now-inv, now-count, mark-is, end-is}

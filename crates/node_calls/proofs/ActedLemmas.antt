@@ -23,26 +23,26 @@ use Rattle.mate_journal.specs.Grants.{AllHeldBack}
 use Rattle.mate_journal.specs.Grants.{IsStart}
 use Rattle.mate_journal.specs.WellFormed.{Closes}
 use Rattle.journal_laws.specs.Growth.{IsPushed}
-use Rattle.node_invariant.proofs.KeepLemmas.{IsPlain}
+use Rattle.node_state.proofs.KeepLemmas.{IsPlain}
 use Rattle.journal_laws.proofs.Moves.{asked-Moves, ended-Moves}
-use Rattle.node_contexts.specs.declared.seat.Seat.{Seat}
-use Rattle.node_contexts.specs.declared.contexts.Contexts.{Contexts}
-use Rattle.node_contexts.specs.At.{At, at, ready, Becomes, Asks, Ends, IsPlaced}
-use Rattle.node_contexts.specs.Programs.{held_at}
-use Rattle.node_invariant.specs.declared.parts.Parts.{Parts}
-use Rattle.node_invariant.specs.Meaning.{machine_in}
-use Rattle.node_invariant.specs.Keeps.{reading, Keeps, IsTimely}
-use Rattle.node_invariant.specs.Continues.{Continues}
-use Rattle.node_invariant.proofs.MoveLemmas.{stood_ready}
-use Rattle.node_invariant.proofs.AgreeLemmas.{going_in}
-use Rattle.node_invariant.proofs.EntryLemmas.{IsClosing, Continues-asked, Continues-ended}
-use Rattle.node_invariant.proofs.KeepLemmas.{Grows-then}
-use Rattle.node_invariant.specs.Queue.{number_at, invocation_in}
-use Rattle.node_invariant.specs.Totals.{may_start, owed, left, starts_left}
+use Rattle.node_state.specs.declared.seat.Seat.{Seat}
+use Rattle.node_state.specs.declared.contexts.Contexts.{Contexts}
+use Rattle.node_state.specs.At.{At, at, ready, Becomes, Asks, Ends, IsPlaced}
+use Rattle.node_state.specs.Programs.{held_at}
+use Rattle.node_state.specs.declared.parts.Parts.{Parts}
+use Rattle.node_state.specs.Meaning.{machine_in}
+use Rattle.node_state.specs.Keeps.{reading, Keeps, IsTimely}
+use Rattle.node_state.specs.Continues.{Continues}
+use Rattle.node_state.proofs.MoveLemmas.{stood_ready}
+use Rattle.node_state.proofs.AgreeLemmas.{going_in}
+use Rattle.node_state.proofs.EntryLemmas.{IsClosing, Continues-asked, Continues-ended}
+use Rattle.node_state.proofs.KeepLemmas.{Grows-then}
+use Rattle.node_state.specs.Queue.{number_at, invocation_in}
+use Rattle.node_state.specs.Totals.{may_start, owed, left, starts_left}
 use Rattle.mate_journal.specs.Turns.{mark_of, entry_at}
-use Rattle.node_invariant.specs.Starting.{KeepsOrder, IsStarting, Rests, StartsAll}
-use Rattle.node_invariant.proofs.WaiterLemmas.{all-held-moves}
-use Rattle.node_invariant.proofs.OrderLemmas.{IsQueue-becomes, KeepsOrder-push, heard-by, last-by, IsStarting-first}
+use Rattle.node_state.specs.Starting.{KeepsOrder, IsStarting, Rests, StartsAll}
+use Rattle.node_state.proofs.WaiterLemmas.{all-held-moves}
+use Rattle.node_state.proofs.OrderLemmas.{IsQueue-becomes, KeepsOrder-push, heard-by, last-by, IsStarting-first}
 use Rattle.node_calls.specs.Pacing.{most, HasGoneOn, HasStopped, HasMoved, TakesTurn}
 use Rattle.node_calls.proofs.RunningLemmas.{one, one-within}
 use Rattle.node_calls.proofs.ActLemmas.{ready-mid, number-mid, held-mid, HasMoved-from}

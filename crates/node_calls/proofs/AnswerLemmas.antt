@@ -27,27 +27,27 @@ use Rattle.mate_journal.specs.Grants.{AllHeldBack}
 use Rattle.mate_journal.specs.NodeScript.{AnswersCall as AnswersStep}
 use Rattle.journal_laws.specs.Growth.{IsPushed}
 use Rattle.journal_laws.proofs.Moves.{answered-Moves}
-use Rattle.node_contexts.specs.declared.seat.Seat.{Seat}
-use Rattle.node_contexts.specs.declared.contexts.Contexts.{Contexts}
-use Rattle.node_contexts.specs.At.{At, ready, at, Becomes, IsPlaced}
-use Rattle.node_contexts.specs.Programs.{Programs, held_at}
-use Rattle.node_contexts.specs.Executing.{CanAnswer, IsAnswered}
-use Rattle.node_invariant.specs.declared.parts.Parts.{Parts}
-use Rattle.node_invariant.specs.Meaning.{machine_in}
-use Rattle.node_invariant.specs.Agrees.{code_for, uses_for, own_run, own_in, IsOwnRun, RunsOwn, Agrees}
-use Rattle.node_invariant.specs.Keeps.{reading, Keeps, IsTimely}
-use Rattle.node_invariant.specs.Continues.{Continues}
-use Rattle.node_invariant.proofs.FitLemmas.{HasSeat, IsAlone}
-use Rattle.node_invariant.proofs.KeepLemmas.{IsPrepared-same, AddsTidily-plain}
-use Rattle.node_invariant.proofs.MoveLemmas.{alone-seat, answering, was_waiting, stood_waiting, waits-in, none_waits, Fits-answered}
-use Rattle.node_invariant.proofs.AgreeLemmas.{Agrees-moves}
-use Rattle.node_invariant.specs.Queue.{number_at, invocation_in}
+use Rattle.node_state.specs.declared.seat.Seat.{Seat}
+use Rattle.node_state.specs.declared.contexts.Contexts.{Contexts}
+use Rattle.node_state.specs.At.{At, ready, at, Becomes, IsPlaced}
+use Rattle.node_state.specs.Programs.{Programs, held_at}
+use Rattle.node_state.specs.Executing.{CanAnswer, IsAnswered}
+use Rattle.node_state.specs.declared.parts.Parts.{Parts}
+use Rattle.node_state.specs.Meaning.{machine_in}
+use Rattle.node_state.specs.Agrees.{code_for, uses_for, own_run, own_in, IsOwnRun, RunsOwn, Agrees}
+use Rattle.node_state.specs.Keeps.{reading, Keeps, IsTimely}
+use Rattle.node_state.specs.Continues.{Continues}
+use Rattle.node_state.proofs.FitLemmas.{HasSeat, IsAlone}
+use Rattle.node_state.proofs.KeepLemmas.{IsPrepared-same, AddsTidily-plain}
+use Rattle.node_state.proofs.MoveLemmas.{alone-seat, answering, was_waiting, stood_waiting, waits-in, none_waits, Fits-answered}
+use Rattle.node_state.proofs.AgreeLemmas.{Agrees-moves}
+use Rattle.node_state.specs.Queue.{number_at, invocation_in}
 use Rattle.mate_journal.specs.Pace.{Pace, paced}
-use Rattle.node_invariant.specs.Pace.{IsPace}
-use Rattle.node_invariant.specs.Starting.{KeepsOrder, Rests}
-use Rattle.node_invariant.proofs.WaiterLemmas.{all-held-moves}
-use Rattle.node_invariant.proofs.OrderLemmas.{IsQueue-becomes, KeepsOrder-push, heard-by, grows-by}
-use Rattle.node_invariant.proofs.StartingLemmas.{map-same}
+use Rattle.node_state.specs.Pace.{IsPace}
+use Rattle.node_state.specs.Starting.{KeepsOrder, Rests}
+use Rattle.node_state.proofs.WaiterLemmas.{all-held-moves}
+use Rattle.node_state.proofs.OrderLemmas.{IsQueue-becomes, KeepsOrder-push, heard-by, grows-by}
+use Rattle.node_state.proofs.StartingLemmas.{map-same}
 use Rattle.node_calls.specs.Calls.{RestsAgain, NobodyWaits}
 use Rattle.mate_journal.specs.OpenLog.{OpenView}
 

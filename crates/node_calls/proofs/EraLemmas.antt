@@ -19,22 +19,22 @@ use Rattle.journal_laws.specs.Growth.{IsPushed, last_is_seen}
 use Rattle.journal_laws.proofs.Append.{last_is_seen-push}
 use Rattle.journal_laws.proofs.Moves.{Cuts}
 use Rattle.exec_unit.specs.Step.{HasLengths}
-use Rattle.node_contexts.specs.At.{At, AreIdle}
-use Rattle.node_contexts.specs.Programs.{HeldPrograms, held_at}
-use Rattle.node_invariant.specs.declared.parts.Parts.{Parts}
-use Rattle.node_invariant.specs.Meaning.{machine_in}
-use Rattle.node_invariant.specs.Fits.{AreInstalled}
-use Rattle.node_invariant.specs.Keeps.{reading, Keeps, IsTimely, Grows, event_at}
-use Rattle.node_invariant.specs.Continues.{IsPrepared, AddsTidily, Continues}
-use Rattle.node_invariant.proofs.SerialLemmas.{started-live}
-use Rattle.node_invariant.proofs.KeepLemmas.{IsPrepared-same, AddsTidily-plain}
-use Rattle.node_invariant.proofs.MoveLemmas.{Fits-idle, cut-dead}
-use Rattle.node_invariant.proofs.StartLemmas.{Agrees-idle}
-use Rattle.node_invariant.specs.Queue.{invocation_in}
+use Rattle.node_state.specs.At.{At, AreIdle}
+use Rattle.node_state.specs.Programs.{HeldPrograms, held_at}
+use Rattle.node_state.specs.declared.parts.Parts.{Parts}
+use Rattle.node_state.specs.Meaning.{machine_in}
+use Rattle.node_state.specs.Fits.{AreInstalled}
+use Rattle.node_state.specs.Keeps.{reading, Keeps, IsTimely, Grows, event_at}
+use Rattle.node_state.specs.Continues.{IsPrepared, AddsTidily, Continues}
+use Rattle.node_state.proofs.SerialLemmas.{started-live}
+use Rattle.node_state.proofs.KeepLemmas.{IsPrepared-same, AddsTidily-plain}
+use Rattle.node_state.proofs.MoveLemmas.{Fits-idle, cut-dead}
+use Rattle.node_state.proofs.StartLemmas.{Agrees-idle}
+use Rattle.node_state.specs.Queue.{invocation_in}
 use Rattle.mate_journal.specs.Pace.{Pace, paced}
-use Rattle.node_invariant.specs.Pace.{IsPace}
-use Rattle.node_invariant.specs.Starting.{last_started, Rests}
-use Rattle.node_invariant.proofs.OrderLemmas.{KeepsOrder-push, heard-by, grows-by, IsQueue-idle}
+use Rattle.node_state.specs.Pace.{IsPace}
+use Rattle.node_state.specs.Starting.{last_started, Rests}
+use Rattle.node_state.proofs.OrderLemmas.{KeepsOrder-push, heard-by, grows-by, IsQueue-idle}
 use Rattle.node_calls.specs.Calls.{RestsAgain, AtPace, TellsStore, IsCleared}
 use Rattle.node_calls.proofs.QuietLemmas.{RestsAgain-then}
 use Rattle.mate_journal.specs.OpenLog.{OpenView}

@@ -41,15 +41,15 @@ use Rattle.mate_journal.specs.Journal.{JournalEntry, Installed, Seen, NodeState,
 use Rattle.journal_laws.specs.Growth.{AddsImage, last_is_seen}
 use Rattle.journal_laws.proofs.Append.{heard_all-append, journal_of-add_image}
 use Rattle.mate_num.specs.declared.store.Store.{Store}
-use Rattle.node_contexts.specs.declared.handlers.Held.{Held}
-use Rattle.node_contexts.specs.At.{AreIdle}
-use Rattle.node_contexts.specs.Programs.{HasOwnRoom, HeldPrograms, held_at, held_version_in, renewed}
-use Rattle.node_invariant.specs.declared.parts.Parts.{Parts}
-use Rattle.node_invariant.specs.Meaning.{machine_in, image_code}
-use Rattle.node_invariant.specs.Fits.{program_of, IsHeld, AreInstalled}
-use Rattle.node_invariant.specs.Keeps.{reading, Keeps, IsTimely, event_at, Grows}
-use Rattle.node_invariant.specs.Continues.{IsPrepared, AddsTidily}
-use Rattle.node_invariant.specs.Starting.{Rests}
+use Rattle.node_state.specs.declared.handlers.Held.{Held}
+use Rattle.node_state.specs.At.{AreIdle}
+use Rattle.node_state.specs.Programs.{HasOwnRoom, HeldPrograms, held_at, held_version_in, renewed}
+use Rattle.node_state.specs.declared.parts.Parts.{Parts}
+use Rattle.node_state.specs.Meaning.{machine_in, image_code}
+use Rattle.node_state.specs.Fits.{program_of, IsHeld, AreInstalled}
+use Rattle.node_state.specs.Keeps.{reading, Keeps, IsTimely, event_at, Grows}
+use Rattle.node_state.specs.Continues.{IsPrepared, AddsTidily}
+use Rattle.node_state.specs.Starting.{Rests}
 use Rattle.node_calls.specs.declared.posting.PostAnswer.{PostAnswer}
 use Rattle.node_calls.specs.declared.posting.PostAnswer.TheVariants.{Posted as PostedAnswer, NoCode, AllBusy}
 use Rattle.node_calls.specs.Calls.{RestsAgain, AtPace, TellsStore, IsCleared}

@@ -32,25 +32,25 @@ use Rattle.mate_journal.specs.WellFormed.{IsIdle, IsBusy}
 use Rattle.mate_journal.specs.NodeScript.{DropsNoCode, DropsAllBusy, IsFirstIdle, Posts}
 use Rattle.journal_laws.specs.Growth.{IsPushed}
 use Rattle.journal_laws.proofs.Moves.{posted-Joins}
-use Rattle.node_contexts.specs.declared.handlers.Held.{Held}
-use Rattle.node_contexts.specs.declared.seat.Seat.{Seat}
-use Rattle.node_contexts.specs.declared.contexts.Contexts.{Contexts}
-use Rattle.node_contexts.specs.At.{At, at, idle, queued, Becomes, IsPlaced}
-use Rattle.node_contexts.specs.Programs.{Programs, held_at}
-use Rattle.node_invariant.specs.declared.parts.Parts.{Parts}
-use Rattle.node_invariant.specs.Meaning.{machine_in}
-use Rattle.node_invariant.specs.Fits.{program_of, ContextsMatch}
-use Rattle.node_invariant.specs.Keeps.{reading, IsTimely, Grows}
-use Rattle.node_invariant.specs.Continues.{Continues}
-use Rattle.node_invariant.proofs.FitLemmas.{no_seat, by_seat}
-use Rattle.node_invariant.proofs.MoveLemmas.{some-map}
-use Rattle.node_invariant.proofs.KeepLemmas.{Grows-then}
-use Rattle.node_invariant.specs.Queue.{number_at, invocation_in}
+use Rattle.node_state.specs.declared.handlers.Held.{Held}
+use Rattle.node_state.specs.declared.seat.Seat.{Seat}
+use Rattle.node_state.specs.declared.contexts.Contexts.{Contexts}
+use Rattle.node_state.specs.At.{At, at, idle, queued, Becomes, IsPlaced}
+use Rattle.node_state.specs.Programs.{Programs, held_at}
+use Rattle.node_state.specs.declared.parts.Parts.{Parts}
+use Rattle.node_state.specs.Meaning.{machine_in}
+use Rattle.node_state.specs.Fits.{program_of, ContextsMatch}
+use Rattle.node_state.specs.Keeps.{reading, IsTimely, Grows}
+use Rattle.node_state.specs.Continues.{Continues}
+use Rattle.node_state.proofs.FitLemmas.{no_seat, by_seat}
+use Rattle.node_state.proofs.MoveLemmas.{some-map}
+use Rattle.node_state.proofs.KeepLemmas.{Grows-then}
+use Rattle.node_state.specs.Queue.{number_at, invocation_in}
 use Rattle.mate_journal.specs.Pace.{Pace}
-use Rattle.node_invariant.specs.Pace.{IsPace}
-use Rattle.node_invariant.specs.Starting.{Rests, IsStarting, IsRoomForAll, StartsAll}
-use Rattle.node_invariant.proofs.OrderLemmas.{heard-by, grows-by}
-use Rattle.node_invariant.proofs.PostLemmas.{Continues-posted, IsStarting-posted, AllBut-new}
+use Rattle.node_state.specs.Pace.{IsPace}
+use Rattle.node_state.specs.Starting.{Rests, IsStarting, IsRoomForAll, StartsAll}
+use Rattle.node_state.proofs.OrderLemmas.{heard-by, grows-by}
+use Rattle.node_state.proofs.PostLemmas.{Continues-posted, IsStarting-posted, AllBut-new}
 use Rattle.node_calls.specs.Calls.{RestsAgain}
 use Rattle.node_calls.specs.Posting.{IsFirstFree, HasNoneFree, CanQueue, IsQueued}
 use Rattle.node_calls.proofs.QuietLemmas.{RestsAgain-as}

@@ -7,7 +7,7 @@ use Rattle.mate_journal.specs.Machine.{Machine}
 use Rattle.mate_journal.specs.Journal.{NodeState, changed}
 use Rattle.mate_journal.specs.Pace.{Pace, others, gives_way, paced_all}
 use Rattle.mate_journal.specs.Turns.{Turn, IsTurn, mark_of, after_step, after_turn}
-use Rattle.node_invariant.proofs.FitLemmas.{changed-here, changed-other}
+use Rattle.node_state.proofs.FitLemmas.{changed-here, changed-other}
 use Rattle.node_calls.specs.Pacing.{AreTogether}
 
 changed-again : (f : ℕ → ℕ) (n a b : ℕ) → changed (changed f n a) n b ≡ changed f n b

@@ -6,16 +6,16 @@ use Rattle.mate_journal.specs.declared.entry.Entry.{Entry}
 use Rattle.mate_journal.specs.Log.{Log}
 use Rattle.mate_journal.specs.Journal.{JournalEntry, NodeState, next_state}
 use Rattle.mate_journal.specs.Grants.{AllHeldBack, IsGranted}
-use Rattle.node_invariant.specs.declared.parts.Parts.{Parts}
-use Rattle.node_invariant.specs.Meaning.{machine_in}
-use Rattle.node_invariant.specs.Keeps.{reading}
-use Rattle.node_invariant.specs.Continues.{Continues}
-use Rattle.node_invariant.proofs.KeepLemmas.{Grows-then}
+use Rattle.node_state.specs.declared.parts.Parts.{Parts}
+use Rattle.node_state.specs.Meaning.{machine_in}
+use Rattle.node_state.specs.Keeps.{reading}
+use Rattle.node_state.specs.Continues.{Continues}
+use Rattle.node_state.proofs.KeepLemmas.{Grows-then}
 use Rattle.mate_journal.specs.Pace.{Pace, paced, paced_all}
-use Rattle.node_invariant.specs.Pace.{IsPace}
-use Rattle.node_invariant.specs.Starting.{last_started, Rests}
-use Rattle.node_invariant.proofs.OrderLemmas.{KeepsOrder-push, heard-by, grows-by}
-use Rattle.node_invariant.proofs.StartingLemmas.{paced_all-append}
+use Rattle.node_state.specs.Pace.{IsPace}
+use Rattle.node_state.specs.Starting.{last_started, Rests}
+use Rattle.node_state.proofs.OrderLemmas.{KeepsOrder-push, heard-by, grows-by}
+use Rattle.node_state.proofs.StartingLemmas.{paced_all-append}
 use Rattle.node_calls.specs.Calls.{RestsAgain}
 use Rattle.mate_journal.specs.OpenLog.{OpenView}
 

@@ -9,15 +9,15 @@ use Rattle.mate_num.specs.declared.call.Stamp.{Stamp}
 use Rattle.mate_journal.specs.Pace.{Pace}
 use Rattle.mate_journal.specs.Stores.{values_at, WritesResource}
 use Rattle.mate_journal.specs.Turns.{store_so_far, ShowsReady}
-use Rattle.node_contexts.specs.declared.seat.Seat.{Seat}
-use Rattle.node_invariant.specs.declared.parts.Parts.{Parts}
-use Rattle.node_invariant.specs.Meaning.{machine_in}
-use Rattle.node_invariant.specs.Agrees.{uses_for, own_run, IsOwnRun, RunsOwn}
-use Rattle.node_invariant.specs.Keeps.{reading, Keeps, IsTimely}
-use Rattle.node_invariant.proofs.AgreeLemmas.{or-right}
-use Rattle.node_invariant.proofs.SerialLemmas.{values-read}
-use Rattle.node_invariant.specs.Pace.{IsPace}
-use Rattle.node_invariant.specs.Starting.{Rests}
+use Rattle.node_state.specs.declared.seat.Seat.{Seat}
+use Rattle.node_state.specs.declared.parts.Parts.{Parts}
+use Rattle.node_state.specs.Meaning.{machine_in}
+use Rattle.node_state.specs.Agrees.{uses_for, own_run, IsOwnRun, RunsOwn}
+use Rattle.node_state.specs.Keeps.{reading, Keeps, IsTimely}
+use Rattle.node_state.proofs.AgreeLemmas.{or-right}
+use Rattle.node_state.proofs.SerialLemmas.{values-read}
+use Rattle.node_state.specs.Pace.{IsPace}
+use Rattle.node_state.specs.Starting.{Rests}
 use Rattle.node_calls.specs.Calls.{TellsStore}
 use Rattle.node_calls.proofs.SeenLemmas.{IsShownIn, RestsAgain-seen}
 use Rattle.mate_journal.specs.OpenLog.{OpenView}

@@ -13,27 +13,27 @@ use Rattle.exec_unit.specs.declared.step_end.StepEnd.TheVariants.{Next, Ask, Hal
 use Rattle.exec_unit.specs.Step.{HasLengths, IsStep}
 use Rattle.vm_desc.specs.declared.description.Description.{Description}
 use Rattle.mate_journal.specs.Journal.{Phase, Ready, Invocation, NodeState}
-use Rattle.node_contexts.specs.declared.handlers.Held.{Held}
+use Rattle.node_state.specs.declared.handlers.Held.{Held}
 use Rattle.exec_unit.specs.declared.running.Ran.{Ran}
-use Rattle.node_contexts.specs.declared.seat.Seat.{Seat}
-use Rattle.node_contexts.specs.declared.contexts.Contexts.{Contexts}
-use Rattle.node_contexts.specs.At.{At, at, Becomes}
-use Rattle.node_contexts.specs.Programs.{Programs, held_at}
+use Rattle.node_state.specs.declared.seat.Seat.{Seat}
+use Rattle.node_state.specs.declared.contexts.Contexts.{Contexts}
+use Rattle.node_state.specs.At.{At, at, Becomes}
+use Rattle.node_state.specs.Programs.{Programs, held_at}
 use Rattle.exec_unit.specs.Running.{GoFor, StopsAfter, HasRunTo, HasExecuted}
-use Rattle.node_contexts.specs.Executing.{IsSameSeat, with_seat, CanExecute, Executes, HasTurn}
-use Rattle.node_contexts.proofs.ContextLemmas.{with_seat-becomes, with_seat-same, with_seat-twice}
-use Rattle.node_invariant.specs.declared.parts.Parts.{Parts}
-use Rattle.node_invariant.specs.Meaning.{machine_in}
-use Rattle.node_invariant.specs.Fits.{IsHeld, FitsIn}
-use Rattle.node_invariant.specs.Agrees.{status_in, IsOwnRun, RunsOwn, own_run}
-use Rattle.node_invariant.specs.Keeps.{reading, Keeps}
-use Rattle.node_invariant.proofs.FitLemmas.{HasSeat}
-use Rattle.node_invariant.proofs.MoveLemmas.{running, was_ready}
-use Rattle.node_invariant.proofs.EntryLemmas.{Keeps-executed}
-use Rattle.node_invariant.proofs.SerialLemmas.{HasVerified, verified-seat, whole}
-use Rattle.node_invariant.specs.Queue.{number_at}
-use Rattle.node_invariant.specs.Starting.{KeepsOrder}
-use Rattle.node_invariant.proofs.OrderLemmas.{IsQueue-becomes}
+use Rattle.node_state.specs.Executing.{IsSameSeat, with_seat, CanExecute, Executes, HasTurn}
+use Rattle.node_state.proofs.ContextLemmas.{with_seat-becomes, with_seat-same, with_seat-twice}
+use Rattle.node_state.specs.declared.parts.Parts.{Parts}
+use Rattle.node_state.specs.Meaning.{machine_in}
+use Rattle.node_state.specs.Fits.{IsHeld, FitsIn}
+use Rattle.node_state.specs.Agrees.{status_in, IsOwnRun, RunsOwn, own_run}
+use Rattle.node_state.specs.Keeps.{reading, Keeps}
+use Rattle.node_state.proofs.FitLemmas.{HasSeat}
+use Rattle.node_state.proofs.MoveLemmas.{running, was_ready}
+use Rattle.node_state.proofs.EntryLemmas.{Keeps-executed}
+use Rattle.node_state.proofs.SerialLemmas.{HasVerified, verified-seat, whole}
+use Rattle.node_state.specs.Queue.{number_at}
+use Rattle.node_state.specs.Starting.{KeepsOrder}
+use Rattle.node_state.proofs.OrderLemmas.{IsQueue-becomes}
 use Rattle.node_calls.specs.Pacing.{most, HasGoneOn, HasStopped, RunsTo, RunsFor}
 use Rattle.node_calls.proofs.MarkLemmas.{mark-going, mark-few}
 

@@ -16,13 +16,13 @@ use Rattle.mate_journal.specs.Log.{Log}
 use Rattle.mate_journal.specs.Journal.{Dropped, Seen, Void}
 use Rattle.journal_laws.specs.Growth.{IsPushed, AddsStore}
 use Rattle.journal_laws.proofs.Append.{journal_of-add_store}
-use Rattle.node_contexts.specs.Programs.{held_at}
-use Rattle.node_invariant.specs.declared.parts.Parts.{Parts}
-use Rattle.node_invariant.specs.Keeps.{reading, Keeps, IsTimely}
-use Rattle.node_invariant.specs.Continues.{IsPrepared, AddsTidily, Continues}
-use Rattle.node_invariant.proofs.KeepLemmas.{Continues-same}
-use Rattle.node_invariant.proofs.SerialLemmas.{shown}
-use Rattle.node_invariant.specs.Starting.{Rests}
+use Rattle.node_state.specs.Programs.{held_at}
+use Rattle.node_state.specs.declared.parts.Parts.{Parts}
+use Rattle.node_state.specs.Keeps.{reading, Keeps, IsTimely}
+use Rattle.node_state.specs.Continues.{IsPrepared, AddsTidily, Continues}
+use Rattle.node_state.proofs.KeepLemmas.{Continues-same}
+use Rattle.node_state.proofs.SerialLemmas.{shown}
+use Rattle.node_state.specs.Starting.{Rests}
 use Rattle.node_calls.specs.Calls.{RestsAgain}
 use Rattle.node_calls.proofs.QuietLemmas.{RestsAgain-quiet}
 use Rattle.mate_journal.specs.OpenLog.{OpenView}

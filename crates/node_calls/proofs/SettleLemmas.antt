@@ -15,29 +15,29 @@ use Rattle.mate_journal.specs.Log.{Log}
 use Rattle.mate_journal.specs.Machine.{Machine}
 use Rattle.mate_journal.specs.Journal.{JournalEntry, Ready, NodeState, is_live, journal_of, first_state, next_state, state_after_all}
 pub use Rattle.mate_journal.proofs.JournalLemmas.{heard_all-append, heard_told-append}
-use Rattle.node_contexts.specs.declared.seat.Seat.{Seat}
-use Rattle.node_contexts.specs.declared.contexts.Contexts.{Contexts}
-use Rattle.node_contexts.specs.At.{At, at, GivesWay}
-use Rattle.node_contexts.specs.Programs.{Programs, held_at}
-use Rattle.node_invariant.specs.declared.parts.Parts.{Parts}
-use Rattle.node_invariant.specs.Meaning.{machine_in}
-use Rattle.node_invariant.specs.Fits.{ContextsMatch, IsRightContext}
-use Rattle.node_contexts.specs.At.{IsPlaced}
-use Rattle.node_invariant.specs.Agrees.{Agrees}
-use Rattle.node_invariant.specs.Keeps.{reading, IsTimely, event_at, Grows}
-use Rattle.node_invariant.proofs.FitLemmas.{IsAlone}
-use Rattle.node_invariant.proofs.MoveLemmas.{alone-seat, none_ready}
-use Rattle.node_invariant.proofs.KeepLemmas.{Grows-then, Grows-none}
-use Rattle.node_invariant.specs.Queue.{number_at, invocation_in, NumbersRise}
-use Rattle.node_invariant.specs.Totals.{if_waits, if_ready, may_start, owed, left, starts_left, owes, falls}
+use Rattle.node_state.specs.declared.seat.Seat.{Seat}
+use Rattle.node_state.specs.declared.contexts.Contexts.{Contexts}
+use Rattle.node_state.specs.At.{At, at, GivesWay}
+use Rattle.node_state.specs.Programs.{Programs, held_at}
+use Rattle.node_state.specs.declared.parts.Parts.{Parts}
+use Rattle.node_state.specs.Meaning.{machine_in}
+use Rattle.node_state.specs.Fits.{ContextsMatch, IsRightContext}
+use Rattle.node_state.specs.At.{IsPlaced}
+use Rattle.node_state.specs.Agrees.{Agrees}
+use Rattle.node_state.specs.Keeps.{reading, IsTimely, event_at, Grows}
+use Rattle.node_state.proofs.FitLemmas.{IsAlone}
+use Rattle.node_state.proofs.MoveLemmas.{alone-seat, none_ready}
+use Rattle.node_state.proofs.KeepLemmas.{Grows-then, Grows-none}
+use Rattle.node_state.specs.Queue.{number_at, invocation_in, NumbersRise}
+use Rattle.node_state.specs.Totals.{if_waits, if_ready, may_start, owed, left, starts_left, owes, falls}
 use Rattle.mate_journal.specs.Journal.{state_after_entries}
 use Rattle.mate_journal.specs.Pace.{Pace, others, gives_way}
 use Rattle.mate_journal.specs.Turns.{Turn, IsTurn, after_step, after_turn, AreTurns, told_in, pace_after}
-use Rattle.node_invariant.specs.Pace.{IsPace}
-use Rattle.node_invariant.specs.Starting.{Rests}
-use Rattle.node_invariant.proofs.QueueLemmas.{NumbersRise-same}
-use Rattle.node_invariant.proofs.TotalLemmas.{over_all-same, over_all-less}
-use Rattle.node_invariant.proofs.OrderLemmas.{live-above}
+use Rattle.node_state.specs.Pace.{IsPace}
+use Rattle.node_state.specs.Starting.{Rests}
+use Rattle.node_state.proofs.QueueLemmas.{NumbersRise-same}
+use Rattle.node_state.proofs.TotalLemmas.{over_all-same, over_all-less}
+use Rattle.node_state.proofs.OrderLemmas.{live-above}
 use Rattle.node_calls.specs.Pacing.{most, TakesTurn, AreWithin, AreQuanta, AreTogether, Chains, SettlesSome, SettlesAll}
 use Rattle.node_calls.proofs.RunningLemmas.{one, one-ready}
 use Rattle.node_calls.proofs.TurnLemmas.{line-without}

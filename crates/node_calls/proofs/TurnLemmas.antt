@@ -12,23 +12,23 @@ use Rattle.exec_unit.specs.declared.step_end.StepEnd.{StepEnd}
 use Rattle.exec_unit.specs.Step.{own_after}
 use Rattle.vm_desc.specs.declared.description.Description.{Description}
 use Rattle.mate_journal.specs.Journal.{is_started, Invocation, NodeState, whole_run, changed}
-use Rattle.node_contexts.specs.declared.seat.Seat.{Seat}
-use Rattle.node_contexts.specs.declared.contexts.Contexts.{Contexts}
-use Rattle.node_contexts.specs.At.{At, at, Becomes}
-use Rattle.node_contexts.specs.Programs.{held_at}
-use Rattle.node_contexts.specs.Executing.{Executes}
-use Rattle.node_invariant.specs.declared.parts.Parts.{Parts}
-use Rattle.node_invariant.specs.Meaning.{machine_in}
-use Rattle.node_invariant.specs.Agrees.{own_run}
-use Rattle.node_invariant.specs.Keeps.{reading, Keeps}
-use Rattle.node_invariant.proofs.FitLemmas.{IsAlone, changed-here, changed-other}
-use Rattle.node_invariant.proofs.AgreeLemmas.{going_in}
-use Rattle.node_invariant.proofs.EntryLemmas.{own-after}
-use Rattle.node_invariant.proofs.SerialLemmas.{whole, whole-over}
-use Rattle.node_invariant.specs.Queue.{number_at, invocation_in}
+use Rattle.node_state.specs.declared.seat.Seat.{Seat}
+use Rattle.node_state.specs.declared.contexts.Contexts.{Contexts}
+use Rattle.node_state.specs.At.{At, at, Becomes}
+use Rattle.node_state.specs.Programs.{held_at}
+use Rattle.node_state.specs.Executing.{Executes}
+use Rattle.node_state.specs.declared.parts.Parts.{Parts}
+use Rattle.node_state.specs.Meaning.{machine_in}
+use Rattle.node_state.specs.Agrees.{own_run}
+use Rattle.node_state.specs.Keeps.{reading, Keeps}
+use Rattle.node_state.proofs.FitLemmas.{IsAlone, changed-here, changed-other}
+use Rattle.node_state.proofs.AgreeLemmas.{going_in}
+use Rattle.node_state.proofs.EntryLemmas.{own-after}
+use Rattle.node_state.proofs.SerialLemmas.{whole, whole-over}
+use Rattle.node_state.specs.Queue.{number_at, invocation_in}
 use Rattle.mate_journal.specs.Pace.{Pace, others}
-use Rattle.node_invariant.specs.Pace.{IsPace}
-use Rattle.node_invariant.proofs.StartingLemmas.{map-same}
+use Rattle.node_state.specs.Pace.{IsPace}
+use Rattle.node_state.proofs.StartingLemmas.{map-same}
 use Rattle.node_calls.proofs.MarkLemmas.{mark-over}
 use Rattle.node_calls.proofs.RunningLemmas.{one, one-verified}
 

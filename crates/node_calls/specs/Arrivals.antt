@@ -9,13 +9,13 @@ use Rattle.vm_desc.specs.declared.description.Description.{Description}
 use Rattle.mate_journal.specs.Journal.{Installed, journal_of}
 use Rattle.mate_journal.specs.declared.report.TheConstants.{ENTRIES_MAX}
 use Rattle.journal_laws.specs.Growth.{last_is_seen}
-use Rattle.node_contexts.specs.declared.handlers.Held.{Held}
-use Rattle.node_contexts.specs.Programs.{held_at, held_version_in, renewed}
-use Rattle.node_invariant.specs.declared.parts.Parts.{Parts}
-use Rattle.node_invariant.specs.Fits.{IsHeld, program_of}
-use Rattle.node_invariant.specs.Keeps.{IsTimely, reading}
-use Rattle.node_invariant.specs.Meaning.{machine_in}
-use Rattle.node_invariant.specs.Starting.{Rests}
+use Rattle.node_state.specs.declared.handlers.Held.{Held}
+use Rattle.node_state.specs.Programs.{held_at, held_version_in, renewed}
+use Rattle.node_state.specs.declared.parts.Parts.{Parts}
+use Rattle.node_state.specs.Fits.{IsHeld, program_of}
+use Rattle.node_state.specs.Keeps.{IsTimely, reading}
+use Rattle.node_state.specs.Meaning.{machine_in}
+use Rattle.node_state.specs.Starting.{Rests}
 use Rattle.node_calls.specs.Calls.{RestsAgain, TellsStore}
 use Rattle.node_calls.specs.Installing.{IsInstallable}
 use Rattle.node_calls.specs.Posting.{PostGives}

@@ -5,15 +5,15 @@ use Rattle.mate_num.specs.declared.call.Stamp.{Stamp}
 use Rattle.mate_num.specs.declared.id.ContextId.{ContextId}
 use Rattle.mate_journal.specs.Journal.{JournalEntry, Seen, NodeState}
 use Rattle.mate_journal.specs.WellFormed.{IsWaiting}
-use Rattle.node_contexts.specs.At.{AreIdle}
+use Rattle.node_state.specs.At.{AreIdle}
 use Rattle.vm_desc.specs.declared.description.Description.{Description}
-use Rattle.node_invariant.specs.declared.parts.Parts.{Parts}
-use Rattle.node_invariant.specs.Keeps.{reading, TellsMore}
+use Rattle.node_state.specs.declared.parts.Parts.{Parts}
+use Rattle.node_state.specs.Keeps.{reading, TellsMore}
 use Rattle.mate_journal.specs.Pace.{Pace, paced_all}
 use Rattle.mate_journal.specs.Turns.{ShowsReady}
-use Rattle.node_invariant.specs.Meaning.{machine_in}
-use Rattle.node_invariant.specs.Pace.{IsPace}
-use Rattle.node_invariant.specs.Starting.{Rests}
+use Rattle.node_state.specs.Meaning.{machine_in}
+use Rattle.node_state.specs.Pace.{IsPace}
+use Rattle.node_state.specs.Starting.{Rests}
 
 -- The entries meet the rule, the node rests again, and its pace is the one that they make.
 pub record RestsAgain (d : Description) (old new : Parts) (at : Stamp) (Rule : List JournalEntry → Type 0) : Type 0 where

@@ -15,11 +15,11 @@ use Rattle.mate_journal.specs.Machine.{HeldProgram}
 use Rattle.mate_journal.specs.Journal.{JournalEntry, NodeState, held}
 use Rattle.mate_journal.specs.NodeScript.{Installs}
 use Rattle.mate_journal.specs.Pace.{Pace}
-use Rattle.node_contexts.specs.declared.handlers.Held.{Held}
-use Rattle.node_invariant.specs.Meaning.{machine_in}
-use Rattle.node_invariant.specs.declared.parts.Parts.{Parts}
-use Rattle.node_invariant.specs.Keeps.{reading}
-use Rattle.node_invariant.specs.Fits.{IsHeld, program_of}
+use Rattle.node_state.specs.declared.handlers.Held.{Held}
+use Rattle.node_state.specs.Meaning.{machine_in}
+use Rattle.node_state.specs.declared.parts.Parts.{Parts}
+use Rattle.node_state.specs.Keeps.{reading}
+use Rattle.node_state.specs.Fits.{IsHeld, program_of}
 use Rattle.node_calls.specs.Calls.{RestsAgain, AtPace}
 use Rattle.node_calls.specs.declared.installing.InstallFault.{InstallFault}
 use Rattle.node_calls.specs.declared.installing.InstallFault.TheVariants.{Capsule, Code, NotNewer}

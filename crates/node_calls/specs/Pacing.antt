@@ -9,17 +9,17 @@ use Rattle.vm_desc.specs.declared.description.Description.{Description}
 use Rattle.mate_journal.specs.Machine.{Machine}
 use Rattle.mate_journal.specs.Journal.{JournalEntry, Ready, NodeState, whole_run, changed, next_state}
 use Rattle.exec_unit.specs.declared.running.Ran.{Ran}
-use Rattle.node_contexts.specs.declared.seat.Seat.{Seat}
-use Rattle.node_contexts.specs.At.{at, Becomes}
-use Rattle.node_contexts.specs.Programs.{held_at}
-use Rattle.node_contexts.specs.Executing.{IsSameSeat, Executes}
-use Rattle.node_invariant.specs.declared.parts.Parts.{Parts}
-use Rattle.node_invariant.specs.Meaning.{machine_in}
-use Rattle.node_invariant.specs.Keeps.{reading, Grows}
-use Rattle.node_invariant.specs.Queue.{invocation_in}
-use Rattle.node_invariant.specs.Totals.{starts_left, owes, falls}
-use Rattle.node_invariant.specs.Pace.{IsPace}
-use Rattle.node_invariant.specs.Starting.{KeepsOrder, Rests}
+use Rattle.node_state.specs.declared.seat.Seat.{Seat}
+use Rattle.node_state.specs.At.{at, Becomes}
+use Rattle.node_state.specs.Programs.{held_at}
+use Rattle.node_state.specs.Executing.{IsSameSeat, Executes}
+use Rattle.node_state.specs.declared.parts.Parts.{Parts}
+use Rattle.node_state.specs.Meaning.{machine_in}
+use Rattle.node_state.specs.Keeps.{reading, Grows}
+use Rattle.node_state.specs.Queue.{invocation_in}
+use Rattle.node_state.specs.Totals.{starts_left, owes, falls}
+use Rattle.node_state.specs.Pace.{IsPace}
+use Rattle.node_state.specs.Starting.{KeepsOrder, Rests}
 use Rattle.mate_journal.specs.Journal.{state_after_entries}
 use Rattle.mate_journal.specs.Pace.{Pace, paced_all}
 use Rattle.mate_journal.specs.Turns.{Turn, IsTurn, mark_of, entry_at, after_step, after_turn, AreTurns, told_in, pace_after, Settles}

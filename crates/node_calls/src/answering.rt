@@ -3,14 +3,13 @@
 ghost use Rattle.std.specs.Prelude.{◌≡◌, ◌<◌, ◌≤◌, MatchResult};
 ghost use Rattle.mate_num.specs.declared.bounds.TheConstants.{CONTEXTS_MAX};
 ghost use Rattle.mate_journal.specs.NodeScript.{AnswersCall};
-ghost use Rattle.node_invariant.specs.Keeps.{reading, IsTimely};
-ghost use Rattle.node_invariant.specs.Starting.{Rests};
+ghost use Rattle.node_state.specs.Keeps.{reading, IsTimely};
+ghost use Rattle.node_state.specs.Starting.{Rests};
 ghost use Rattle.node_calls.specs.Calls.{RestsAgain, NobodyWaits};
 
 use mate_journal::Entry;
 use mate_num::{ContextId, Stamp};
-use node_contexts::{answer, number};
-use node_invariant::{Parts, tell};
+use node_state::{Parts, answer, number, tell};
 use split_phase::NotWaiting;
 use vm_desc::Description;
 

@@ -2,15 +2,15 @@
 
 ghost use Rattle.std.specs.Prelude.{◌≡◌, ◌<◌, ◌≤◌, length};
 ghost use Rattle.mate_journal.specs.NodeScript.{Resets};
-ghost use Rattle.node_invariant.specs.Meaning.{machine_in};
-ghost use Rattle.node_invariant.specs.Keeps.{reading, IsTimely};
-ghost use Rattle.node_invariant.specs.Starting.{Rests};
+ghost use Rattle.node_state.specs.Meaning.{machine_in};
+ghost use Rattle.node_state.specs.Keeps.{reading, IsTimely};
+ghost use Rattle.node_state.specs.Starting.{Rests};
 ghost use Rattle.node_calls.specs.Calls.{RestsAgain, AtPace, IsCleared};
 
 use crate::showing::seen_in;
 use mate_journal::Entry;
 use mate_num::Stamp;
-use node_invariant::{Parts, tell};
+use node_state::{Parts, tell};
 use vm_desc::Description;
 
 /// Cuts all live invocations, sets all shared variables to 0, and empties all buffers.

@@ -4,9 +4,9 @@ ghost use Rattle.std.specs.Prelude.{◌≡◌, ◌<◌, ◌∷◌, [], length, A
 ghost use Rattle.mate_journal.specs.Journal.{Installed};
 ghost use Rattle.vm_desc.specs.Shapes.{shape_of};
 ghost use Rattle.code_verifier.specs.Verified.{IsVerificationOf};
-ghost use Rattle.node_contexts.specs.Programs.{HasOwnRoom, held_at};
-ghost use Rattle.node_invariant.specs.Fits.{IsHeld, program_of};
-ghost use Rattle.node_invariant.specs.Meaning.{machine_in};
+ghost use Rattle.node_state.specs.Programs.{HasOwnRoom, held_at};
+ghost use Rattle.node_state.specs.Fits.{IsHeld, program_of};
+ghost use Rattle.node_state.specs.Meaning.{machine_in};
 ghost use Rattle.node_calls.specs.Calls.{RestsAgain};
 ghost use Rattle.node_calls.specs.Arrivals.{Arrives, HasBegun, CanRenew, HoldsCode, MayInstall, Prepares};
 ghost use Rattle.node_calls.specs.Installing.{IsInstallable, IsReadAs, IsReadyOn, InstallGives};
@@ -20,8 +20,7 @@ use code_verifier::{Verified, VerifyFault, verify};
 use lock_inference::locks;
 use mate_code::Table;
 use mate_num::{HandlerId, Image, Payload, Stamp};
-use node_contexts::{Held, SharedHeld};
-use node_invariant::Parts;
+use node_state::{Held, Parts, SharedHeld};
 use vm_desc::{Description, HandlerKind, shape};
 
 /// Why a capsule isn't installed.

@@ -2,18 +2,17 @@
 
 ghost use Rattle.std.specs.Prelude.{◌≡◌, ◌+◌, ◌<◌, ◌≤◌, [], length, MatchOption};
 ghost use Rattle.mate_num.specs.declared.bounds.TheConstants.{CONTEXTS_MAX};
-ghost use Rattle.node_contexts.specs.At.{at as at_context};
-ghost use Rattle.node_invariant.specs.Keeps.{reading, IsTimely};
-ghost use Rattle.node_invariant.specs.Meaning.{machine_in};
-ghost use Rattle.node_invariant.specs.Starting.{Rests};
+ghost use Rattle.node_state.specs.At.{at as at_context};
+ghost use Rattle.node_state.specs.Keeps.{reading, IsTimely};
+ghost use Rattle.node_state.specs.Meaning.{machine_in};
+ghost use Rattle.node_state.specs.Starting.{Rests};
 ghost use Rattle.node_calls.specs.Calls.{RestsAgain};
 ghost use Rattle.node_calls.specs.Posting.{PostGives, IsFirstFree, HasNoneFree, CanQueue, IsQueued};
 
 use exec_unit::Machine;
 use mate_journal::{DropCause, Entry};
 use mate_num::{ContextId, HandlerId, LockSet, Payload, Stamp};
-use node_contexts::{Contexts, Seat};
-use node_invariant::{Parts, start_all, tell};
+use node_state::{Contexts, Parts, Seat, start_all, tell};
 use vm_desc::Description;
 
 /// What became of an event.

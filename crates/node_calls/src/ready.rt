@@ -10,7 +10,7 @@ use capsule_codec::{CapsuleRef, decode_in_place};
 use code_verifier::{Verified, verify};
 use mate_code::Table;
 use mate_num::{HandlerId, IMAGE_HEAD, NoMemory};
-use node_contexts::SharedHeld;
+use node_state::SharedHeld;
 use std::alloc::Global;
 use vm_desc::{Description, shape};
 

@@ -2,18 +2,17 @@
 
 ghost use Rattle.std.specs.Prelude.{◌≡◌, ◌<◌, true};
 ghost use Rattle.mate_num.specs.declared.bounds.TheConstants.{CONTEXTS_MAX};
-ghost use Rattle.node_contexts.specs.At.{at};
-ghost use Rattle.node_contexts.specs.Executing.{CanExecute, HasTurn};
-ghost use Rattle.node_contexts.specs.Programs.{held_at};
-ghost use Rattle.node_invariant.specs.Starting.{KeepsOrder};
+ghost use Rattle.node_state.specs.At.{at};
+ghost use Rattle.node_state.specs.Executing.{CanExecute, HasTurn};
+ghost use Rattle.node_state.specs.Programs.{held_at};
+ghost use Rattle.node_state.specs.Starting.{KeepsOrder};
 ghost use Rattle.node_calls.specs.Pacing.{RunsFor};
 
 use exec_unit::Ran;
 use fused_runs::run;
 use mate_num::ContextId;
-use node_contexts::{Contexts, Handlers};
 use node_heap::Heap;
-use node_invariant::Parts;
+use node_state::{Contexts, Handlers, Parts};
 use vm_desc::Description;
 
 /// Executes n instructions of the invocation in the context, or fewer if it calls a function or ends.

@@ -2,14 +2,14 @@
 
 ghost use Rattle.std.specs.Prelude.{◌≡◌, ◌<◌, ◌≤◌, ◌∷◌, [], length};
 ghost use Rattle.mate_journal.specs.Journal.{Void};
-ghost use Rattle.node_invariant.specs.Keeps.{IsTimely};
-ghost use Rattle.node_invariant.specs.Starting.{Rests};
+ghost use Rattle.node_state.specs.Keeps.{IsTimely};
+ghost use Rattle.node_state.specs.Starting.{Rests};
 ghost use Rattle.node_calls.specs.Calls.{RestsAgain, TellsStore};
 
 use mate_journal::{Entry, HasStore, VoidCause};
 use mate_num::{BufId, Stamp};
 use node_heap::Heap;
-use node_invariant::{Parts, tell};
+use node_state::{Parts, tell};
 use vm_desc::Description;
 
 /// The memory of a node, whose store is recorded from where it is.

@@ -2,18 +2,17 @@
 
 ghost use Rattle.std.specs.Prelude.{◌≡◌, ◌<◌, ◌≤◌, ◌+◌, true};
 ghost use Rattle.mate_num.specs.declared.bounds.TheConstants.{CONTEXTS_MAX};
-ghost use Rattle.node_contexts.specs.At.{at as at_context};
-ghost use Rattle.node_invariant.specs.Keeps.{IsTimely};
-ghost use Rattle.node_invariant.specs.Totals.{owes, starts_left};
-ghost use Rattle.node_invariant.specs.Starting.{Rests};
+ghost use Rattle.node_state.specs.At.{at as at_context};
+ghost use Rattle.node_state.specs.Keeps.{IsTimely};
+ghost use Rattle.node_state.specs.Totals.{owes, starts_left};
+ghost use Rattle.node_state.specs.Starting.{Rests};
 ghost use Rattle.node_calls.specs.Pacing.{TakesTurn, AreQuanta, SettlesAll};
 
 use crate::running::run_some;
 use exec_unit::{Ran, StepEnd};
 use mate_journal::Entry;
 use mate_num::{ContextId, Stamp, copy_of};
-use node_contexts::number;
-use node_invariant::{Parts, start_all, tell};
+use node_state::{Parts, number, start_all, tell};
 use vm_desc::Description;
 
 /// The ready invocation in the context has a turn of n instructions. If it calls a function or ends, that is recorded; if it

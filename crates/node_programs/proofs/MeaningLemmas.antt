@@ -11,7 +11,7 @@ use Rattle.vm_desc.specs.Shapes.{shape_of}
 use Rattle.vm_desc.specs.declared.description.Description.{Description}
 use Rattle.mate_journal.specs.Machine.{HeldProgram}
 use Rattle.mate_journal.specs.declared.program.Program.{Program}
-use Rattle.node_invariant.specs.Meaning.{image_code, meaning_of}
+use Rattle.node_state.specs.Meaning.{image_code, meaning_of}
 use Rattle.node_programs.specs.Right.{IsSourceOf, IsRightProgram, AreRightPrograms}
 use Rattle.node_programs.specs.Sources.{is_held_as, source_in, run_from, uses_from, meaning_by}
 

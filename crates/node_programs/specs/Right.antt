@@ -13,7 +13,7 @@ use Rattle.ts_meaning.specs.Uses.{script_uses}
 use Rattle.vm_desc.specs.Shapes.{shape_of}
 use Rattle.vm_desc.specs.declared.description.Description.{Description}
 use Rattle.mate_journal.specs.declared.program.Program.{Program}
-use Rattle.node_invariant.specs.Meaning.{image_code}
+use Rattle.node_state.specs.Meaning.{image_code}
 
 -- the source has the machine's shape, and the code has its run, its reads and its writes
 pub record IsSourceOf (shape : Shape) (code : Code) (source : ScriptTree) : Type 0 where

@@ -13,7 +13,7 @@ use Rattle.vm_desc.specs.Shapes.{shape_of}
 use Rattle.vm_desc.specs.declared.description.Description.{Description}
 use Rattle.mate_journal.specs.Machine.{HeldProgram, Meaning}
 use Rattle.mate_journal.specs.declared.program.Program.{Program}
-use Rattle.node_invariant.specs.Meaning.{meaning_of}
+use Rattle.node_state.specs.Meaning.{meaning_of}
 
 -- a program as a node holds it
 abbrev pub held_as : Program → HeldProgram

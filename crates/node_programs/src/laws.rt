@@ -7,7 +7,7 @@ ghost use Rattle.mate_journal.specs.NodeScript.{Step, RunEnd};
 ghost use Rattle.mate_journal.specs.NodeReport.{IsNodeReport};
 ghost use Rattle.mate_journal.specs.declared.program.Program.{Program};
 ghost use Rattle.mate_journal.specs.declared.report.Report.{Report};
-ghost use Rattle.node_invariant.specs.Meaning.{meaning_of};
+ghost use Rattle.node_state.specs.Meaning.{meaning_of};
 ghost use Rattle.node_programs.specs.Right.{AreRightPrograms};
 ghost use Rattle.node_programs.specs.Sources.{meaning_by};
 

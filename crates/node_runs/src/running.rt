@@ -1,7 +1,7 @@
 //! The run of a node script, whose report is handed out.
 
 ghost use Rattle.std.specs.Prelude.{◌≡◌, length};
-ghost use Rattle.node_invariant.specs.Meaning.{machine_in};
+ghost use Rattle.node_state.specs.Meaning.{machine_in};
 ghost use Rattle.open_node.specs.Journal.{KeepsJournal};
 ghost use Rattle.node_programs.specs.ScriptSteps.{AreProgramsOf};
 ghost use Rattle.mate_journal.specs.OpenLog.{nothing_gone};

@@ -9,10 +9,10 @@ use Rattle.mate_journal.specs.Machine.{Machine}
 use Rattle.mate_journal.specs.Journal.{JournalEntry, NodeState}
 use Rattle.mate_journal.specs.Pace.{Pace, paced_all}
 use Rattle.mate_journal.specs.NodeScript.{ShowsOnce, Occasion}
-use Rattle.node_invariant.specs.declared.parts.Parts.{Parts}
-use Rattle.node_invariant.specs.Meaning.{machine_in}
-use Rattle.node_invariant.specs.Keeps.{reading}
-use Rattle.node_invariant.specs.Starting.{Rests}
+use Rattle.node_state.specs.declared.parts.Parts.{Parts}
+use Rattle.node_state.specs.Meaning.{machine_in}
+use Rattle.node_state.specs.Keeps.{reading}
+use Rattle.node_state.specs.Starting.{Rests}
 use Rattle.node_calls.specs.Calls.{RestsAgain, AtPace, TellsStore}
 use Rattle.node_calls.specs.Posting.{PostGives}
 use Rattle.node_calls.specs.declared.posting.PostAnswer.{PostAnswer}

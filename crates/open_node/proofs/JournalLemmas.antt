@@ -22,17 +22,17 @@ use Rattle.std.specs.Prelude.{All}
 use Rattle.journal_laws.proofs.Apart.{nothing_heard-orderly}
 use Rattle.journal_laws.proofs.Order.{ends-in_order}
 use Rattle.journal_laws.proofs.Progress.{never-stuck}
-use Rattle.node_contexts.specs.declared.handlers.Held.{Held}
-use Rattle.node_contexts.specs.Programs.{HeldPrograms, held_at}
-use Rattle.node_invariant.proofs.AskLemmas.{writes-what_it_asks}
-use Rattle.node_invariant.specs.declared.parts.Parts.{Parts}
-use Rattle.node_invariant.specs.Meaning.{machine_in}
-use Rattle.node_invariant.specs.Fits.{AreInstalled, ContextsMatch}
-use Rattle.node_invariant.specs.Agrees.{Agrees}
-use Rattle.node_invariant.specs.Keeps.{reading}
+use Rattle.node_state.specs.declared.handlers.Held.{Held}
+use Rattle.node_state.specs.Programs.{HeldPrograms, held_at}
+use Rattle.node_state.proofs.AskLemmas.{writes-what_it_asks}
+use Rattle.node_state.specs.declared.parts.Parts.{Parts}
+use Rattle.node_state.specs.Meaning.{machine_in}
+use Rattle.node_state.specs.Fits.{AreInstalled, ContextsMatch}
+use Rattle.node_state.specs.Agrees.{Agrees}
+use Rattle.node_state.specs.Keeps.{reading}
 use Rattle.mate_journal.specs.Pace.{Pace}
-use Rattle.node_invariant.specs.Pace.{IsPace}
-use Rattle.node_invariant.specs.Starting.{Rests}
+use Rattle.node_state.specs.Pace.{IsPace}
+use Rattle.node_state.specs.Starting.{Rests}
 use Rattle.open_node.specs.Journal.{KeepsJournal}
 
 grants-of : (d : Description) (s : Parts) → Rests d s → GrantsInOrder (machine_in d) (first_state (machine_in d)) 0 (journal_of s.log.all)

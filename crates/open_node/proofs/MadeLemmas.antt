@@ -7,14 +7,14 @@ use Rattle.mate_num.specs.declared.id.ContextId.{ContextId}
 use Rattle.vm_desc.specs.declared.description.Description.{Description}
 use Rattle.mate_journal.specs.Journal.{NodeState}
 use Rattle.mate_journal.specs.Pace.{no_pace}
-use Rattle.node_contexts.specs.declared.contexts.Contexts.{Contexts}
-use Rattle.node_contexts.specs.At.{At, at, AreIdle}
-use Rattle.node_invariant.specs.declared.parts.Parts.{Parts}
-use Rattle.node_invariant.specs.Meaning.{machine_in}
-use Rattle.node_invariant.specs.Keeps.{reading}
-use Rattle.node_invariant.specs.Queue.{number_at, invocation_in}
-use Rattle.node_invariant.specs.Pace.{IsPace}
-use Rattle.node_invariant.specs.Starting.{Rests}
+use Rattle.node_state.specs.declared.contexts.Contexts.{Contexts}
+use Rattle.node_state.specs.At.{At, at, AreIdle}
+use Rattle.node_state.specs.declared.parts.Parts.{Parts}
+use Rattle.node_state.specs.Meaning.{machine_in}
+use Rattle.node_state.specs.Keeps.{reading}
+use Rattle.node_state.specs.Queue.{number_at, invocation_in}
+use Rattle.node_state.specs.Pace.{IsPace}
+use Rattle.node_state.specs.Starting.{Rests}
 use Rattle.node_calls.specs.Pacing.{TakesTurn, SettlesWithin, SettlesAll}
 use Rattle.node_calls.proofs.RunningLemmas.{one}
 use Rattle.open_node.specs.View.{Tells}

@@ -7,12 +7,12 @@ use Rattle.vm_desc.specs.declared.description.Description.{Description}
 use Rattle.mate_journal.specs.Journal.{JournalEntry, is_started}
 use Rattle.mate_journal.specs.Pace.{Pace}
 use Rattle.journal_laws.proofs.Moves.{started_live}
-use Rattle.node_contexts.specs.declared.seat.Seat.{Seat}
-use Rattle.node_contexts.specs.At.{at}
-use Rattle.node_invariant.specs.declared.parts.Parts.{Parts}
-use Rattle.node_invariant.specs.Keeps.{reading, Keeps, Grows}
-use Rattle.node_invariant.specs.Pace.{IsPace}
-use Rattle.node_invariant.proofs.OrderLemmas.{live-above}
+use Rattle.node_state.specs.declared.seat.Seat.{Seat}
+use Rattle.node_state.specs.At.{at}
+use Rattle.node_state.specs.declared.parts.Parts.{Parts}
+use Rattle.node_state.specs.Keeps.{reading, Keeps, Grows}
+use Rattle.node_state.specs.Pace.{IsPace}
+use Rattle.node_state.proofs.OrderLemmas.{live-above}
 use Rattle.open_node.specs.View.{NodeView, count_at, HasPace, Tells}
 use Rattle.open_node.specs.Inside.{entry_of, view_of}
 

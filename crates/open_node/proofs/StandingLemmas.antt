@@ -10,19 +10,19 @@ use Rattle.vm_desc.specs.declared.description.Description.{Description}
 use Rattle.mate_journal.specs.Journal.{NodeState, held, is_live}
 use Rattle.mate_journal.specs.NodeScript.{IsReadyIn}
 use Rattle.journal_laws.specs.Progress.{IsNoneLive, IsSomeReady, GoesForward}
-use Rattle.node_contexts.specs.declared.handlers.Held.{Held}
-use Rattle.node_contexts.specs.declared.seat.Seat.{Seat}
-use Rattle.node_contexts.specs.At.{at, IsAsking, IsNoneAsking}
-use Rattle.node_contexts.specs.Programs.{Programs, held_at, held_version_in}
-use Rattle.node_invariant.specs.declared.parts.Parts.{Parts}
-use Rattle.node_invariant.specs.Meaning.{machine_in}
-use Rattle.node_invariant.specs.Fits.{program_of}
-use Rattle.node_invariant.specs.Keeps.{reading, Keeps}
-use Rattle.node_invariant.proofs.MoveLemmas.{none_ready, none_waits, answering, was_waiting}
-use Rattle.node_invariant.specs.Starting.{Rests}
+use Rattle.node_state.specs.declared.handlers.Held.{Held}
+use Rattle.node_state.specs.declared.seat.Seat.{Seat}
+use Rattle.node_state.specs.At.{at, IsAsking, IsNoneAsking}
+use Rattle.node_state.specs.Programs.{Programs, held_at, held_version_in}
+use Rattle.node_state.specs.declared.parts.Parts.{Parts}
+use Rattle.node_state.specs.Meaning.{machine_in}
+use Rattle.node_state.specs.Fits.{program_of}
+use Rattle.node_state.specs.Keeps.{reading, Keeps}
+use Rattle.node_state.proofs.MoveLemmas.{none_ready, none_waits, answering, was_waiting}
+use Rattle.node_state.specs.Starting.{Rests}
 use Rattle.node_calls.proofs.RunningLemmas.{one, one-ready}
 use Rattle.node_calls.proofs.SettleLemmas.{first-ready, none-first}
-use Rattle.node_invariant.specs.Queue.{invocation_in}
+use Rattle.node_state.specs.Queue.{invocation_in}
 use Rattle.node_calls.specs.Calls.{NobodyWaits}
 use Rattle.open_node.specs.Calls.{IsNoneReady, IsWaitingIn, IsAsked, IsImageOf}
 use Rattle.open_node.proofs.JournalLemmas.{Forward}

@@ -1,9 +1,9 @@
 -- How a node's fields are seen.
 use Rattle.std.specs.Prelude.{ℕ, Option, map}
-use Rattle.node_contexts.specs.declared.seat.Seat.{Seat}
-use Rattle.node_invariant.specs.Queue.{number_at, invocation_in}
-use Rattle.node_invariant.specs.Starting.{Rests}
-use Rattle.node_invariant.specs.Totals.{seat_count}
+use Rattle.node_state.specs.declared.seat.Seat.{Seat}
+use Rattle.node_state.specs.Queue.{number_at, invocation_in}
+use Rattle.node_state.specs.Starting.{Rests}
+use Rattle.node_state.specs.Totals.{seat_count}
 use Rattle.open_node.specs.declared.open_node.OpenNode.TheInside.{Inside}
 use Rattle.open_node.specs.View.{NodeView}
 

@@ -3,9 +3,9 @@ use Rattle.std.specs.Prelude.{◌≡◌}
 use Rattle.vm_desc.specs.declared.description.Description.{Description}
 use Rattle.mate_journal.specs.Log.{IsEmpty}
 use Rattle.mate_journal.specs.OpenLog.{nothing_gone}
-use Rattle.node_contexts.specs.At.{AreIdle}
-use Rattle.node_invariant.specs.Starting.{Rests}
-use Rattle.node_invariant.specs.declared.parts.Parts.{Parts}
+use Rattle.node_state.specs.At.{AreIdle}
+use Rattle.node_state.specs.Starting.{Rests}
+use Rattle.node_state.specs.declared.parts.Parts.{Parts}
 
 -- they rest, and nothing was recorded
 pub record AreNewParts (d : Description) (s : Parts) : Type 0 where

@@ -8,7 +8,7 @@ use Rattle.mate_journal.specs.Log.{Log, IsSameLog}
 use Rattle.mate_journal.specs.Journal.{JournalEntry, is_started, NodeState}
 use Rattle.mate_journal.specs.Pace.{Pace}
 use Rattle.mate_journal.specs.OpenLog.{Gone}
-use Rattle.node_invariant.specs.Keeps.{reading, Grows}
+use Rattle.node_state.specs.Keeps.{reading, Grows}
 
 -- `log` is the whole log, of which `gone` may be forgotten. `line` has the ready invocations, the one that has the next
 -- turn first. `counts` has for each context the number of its invocation and how many instructions this one executed, or 0

@@ -4,8 +4,8 @@ ghost use Rattle.std.specs.Prelude.{◌≡◌, ◌<◌, ◌≤◌, ◌∷◌, []
 ghost use Rattle.mate_num.specs.declared.bounds.TheConstants.{CONTEXTS_MAX};
 ghost use Rattle.mate_journal.specs.Journal.{Void};
 ghost use Rattle.mate_journal.specs.NodeScript.{AnswersCall, ShowsOnce, Resets};
-ghost use Rattle.node_invariant.specs.Meaning.{machine_in};
-ghost use Rattle.node_invariant.specs.Keeps.{IsTimely};
+ghost use Rattle.node_state.specs.Meaning.{machine_in};
+ghost use Rattle.node_state.specs.Keeps.{IsTimely};
 ghost use Rattle.node_calls.specs.Calls.{NobodyWaits};
 ghost use Rattle.node_calls.specs.Posting.{PostGives};
 

@@ -18,14 +18,14 @@ use Rattle.mate_journal.specs.Machine.{HeldProgram}
 use Rattle.mate_journal.specs.Journal.{JournalEntry, Void, NodeState}
 use Rattle.mate_journal.specs.Pace.{Pace, paced_all}
 use Rattle.mate_journal.specs.NodeScript.{Install, Makes, Installs, IsNotNewer}
-use Rattle.node_invariant.specs.Meaning.{machine_in}
+use Rattle.node_state.specs.Meaning.{machine_in}
 use Rattle.node_calls.specs.Installing.{IsRightCapsule, IsUnverified, program_by, InstallsBytes, IsNoNewer, Refuses}
 use Rattle.node_calls.specs.declared.installing.InstallFault.{InstallFault}
 use Rattle.node_calls.specs.declared.installing.InstallFault.TheVariants.{Capsule as BadCapsule, Code as BadCode}
 use Rattle.open_node.specs.View.{NodeView, Tells}
 use Rattle.open_node.proofs.CallLemmas.{Tells-by}
 use Rattle.open_node.specs.Calls.{Pacing}
-use Rattle.node_invariant.specs.Keeps.{IsTimely}
+use Rattle.node_state.specs.Keeps.{IsTimely}
 use Rattle.node_programs.specs.Right.{IsRightProgram, AreRightPrograms}
 use Rattle.node_programs.specs.ScriptSteps.{held_or_none, program_at}
 use Rattle.node_programs.specs.Sources.{held_as}

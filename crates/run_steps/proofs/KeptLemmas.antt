@@ -6,8 +6,8 @@ use Rattle.mate_journal.specs.Pace.{Pace}
 use Rattle.mate_num.specs.declared.call.Stamp.{Stamp}
 use Rattle.mate_journal.specs.OpenLog.{Gone, gone_of, IsKept}
 use Rattle.journal_laws.proofs.GoesOnLemmas.{GoesOn-journal}
-use Rattle.node_invariant.specs.Meaning.{machine_in}
-use Rattle.node_invariant.specs.Keeps.{event_at}
+use Rattle.node_state.specs.Meaning.{machine_in}
+use Rattle.node_state.specs.Keeps.{event_at}
 use Rattle.open_node.specs.Journal.{KeepsJournal}
 use Rattle.open_node.specs.View.{NodeView, IsSameNode, Tells}
 use Rattle.journal_laws.specs.InRange.{IsSizeOf, IsInRangeFrom, IsInRange}

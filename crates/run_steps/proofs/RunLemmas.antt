@@ -28,8 +28,8 @@ use Rattle.journal_laws.proofs.FewLemmas.{run-few}
 use Rattle.journal_laws.proofs.ScriptRuns.{HaveMade-on, HaveMade-push}
 use Rattle.vm_desc.specs.Shapes.{shape_of}
 use Rattle.vm_desc.specs.Whole.{context_count}
-use Rattle.node_invariant.specs.Meaning.{machine_in, meaning_of}
-use Rattle.node_invariant.specs.Keeps.{reading, IsTimely}
+use Rattle.node_state.specs.Meaning.{machine_in, meaning_of}
+use Rattle.node_state.specs.Keeps.{reading, IsTimely}
 use Rattle.open_node.specs.View.{NodeView, heard_of, HasPace, Tells}
 use Rattle.open_node.specs.Calls.{Pacing}
 use Rattle.open_node.specs.Journal.{KeepsJournal}

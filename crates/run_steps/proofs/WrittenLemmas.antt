@@ -29,8 +29,8 @@ use Rattle.report_text.specs.Pieces.{IsNamed, AddsPiece}
 use Rattle.report_text.specs.Text.{lines, event_lines, event_piece, end_line, records}
 use Rattle.report_text.proofs.EventLemmas.{All-of_map}
 use Rattle.report_text.proofs.PieceLemmas.{lines-piece, lines-earlier, lines-upto, events_end-le}
-use Rattle.node_invariant.specs.Meaning.{machine_in}
-use Rattle.node_invariant.specs.Keeps.{event_at, IsTimely, Grows}
+use Rattle.node_state.specs.Meaning.{machine_in}
+use Rattle.node_state.specs.Keeps.{event_at, IsTimely, Grows}
 use Rattle.open_node.specs.Journal.{KeepsJournal}
 use Rattle.std.specs.Prelude.{Result, Err}
 use Rattle.mate_files.specs.declared.sink.SinkFault.{SinkFault}

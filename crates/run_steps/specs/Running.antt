@@ -17,8 +17,8 @@ use Rattle.mate_journal.specs.declared.report.RunFault.{RunFault}
 use Rattle.mate_journal.specs.declared.report.RunFault.TheVariants.{LogFull, NoMemory}
 use Rattle.mate_journal.specs.declared.report.TheConstants.{RECORDS_MAX}
 use Rattle.journal_laws.specs.Growth.{EndsWithPace}
-use Rattle.node_invariant.specs.Meaning.{machine_in}
-use Rattle.node_invariant.specs.Keeps.{IsTimely}
+use Rattle.node_state.specs.Meaning.{machine_in}
+use Rattle.node_state.specs.Keeps.{IsTimely}
 use Rattle.open_node.specs.declared.open_node.TheConstants.{SETTLING_ENTRIES}
 use Rattle.open_node.specs.View.{NodeView, heard_of, HasPace}
 use Rattle.journal_laws.specs.InRange.{IsInRange}

@@ -2,7 +2,7 @@
 
 ghost use Rattle.std.specs.Prelude.{◌≡◌, length, nat_le};
 ghost use Rattle.mate_journal.specs.declared.report.TheConstants.{RECORDS_MAX as records_max};
-ghost use Rattle.node_invariant.specs.Meaning.{machine_in};
+ghost use Rattle.node_state.specs.Meaning.{machine_in};
 ghost use Rattle.open_node.specs.Journal.{KeepsJournal};
 
 use crate::heap_node::HeapNode;

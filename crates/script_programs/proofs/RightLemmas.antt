@@ -28,7 +28,7 @@ use Rattle.mate_steps.proofs.CodeLemmas.{means-accepted}
 use Rattle.vm_desc.specs.Shapes.{shape_of}
 use Rattle.vm_desc.specs.declared.description.Description.{Description}
 use Rattle.mate_journal.specs.declared.program.Program.{Program}
-use Rattle.node_invariant.specs.Meaning.{image_code}
+use Rattle.node_state.specs.Meaning.{image_code}
 use Rattle.node_programs.specs.Right.{IsSourceOf, IsRightProgram}
 
 -- verified bytes spell the code

@@ -5,7 +5,7 @@ use Rattle.mate_num.specs.declared.call.Stamp.{Stamp}
 use Rattle.mate_journal.specs.Log.{Log, GoesOn}
 use Rattle.mate_journal.specs.Journal.{TimedEntry as Entered, journal_of}
 use Rattle.journal_laws.proofs.GoesOnLemmas.{GoesOn-journal}
-use Rattle.node_invariant.specs.Keeps.{event_at}
+use Rattle.node_state.specs.Keeps.{event_at}
 use Rattle.world_laws.proofs.Journals.{journal-here}
 use Rattle.world_laws.proofs.Bounds.{airs-more}
 use Rattle.mate_journal.specs.Tidy.{NumbersInOrder}

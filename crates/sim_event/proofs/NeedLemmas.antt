@@ -11,8 +11,8 @@ use Rattle.mate_journal.specs.declared.entry.Stamped.{Stamped}
 use Rattle.journal_laws.specs.Growth.{FollowsLast}
 use Rattle.mate_journal.specs.declared.air.Aired.{Aired}
 use Rattle.mate_journal.specs.declared.program.Program.{Program}
-use Rattle.node_invariant.specs.Meaning.{machine_in}
-use Rattle.node_invariant.specs.Keeps.{IsTimely}
+use Rattle.node_state.specs.Meaning.{machine_in}
+use Rattle.node_state.specs.Keeps.{IsTimely}
 use Rattle.node_programs.specs.ScriptSteps.{program_at}
 use Rattle.capsule_exchange.specs.Happenings.{Happening}
 use Rattle.capsule_exchange.specs.Knowledge.{Knowledge, knowledge, state_after}

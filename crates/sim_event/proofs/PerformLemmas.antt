@@ -6,8 +6,8 @@ use Rattle.mate_journal.specs.Pace.{Pace, paced_all}
 use Rattle.mate_journal.specs.Turns.{Settles}
 use Rattle.mate_journal.specs.declared.air.Aired.{Aired}
 use Rattle.mate_journal.specs.declared.program.Program.{Program}
-use Rattle.node_invariant.specs.Meaning.{machine_in}
-use Rattle.node_invariant.specs.Keeps.{event_at}
+use Rattle.node_state.specs.Meaning.{machine_in}
+use Rattle.node_state.specs.Keeps.{event_at}
 use Rattle.open_node.specs.View.{NodeView, heard_of, HasPace, Tells}
 use Rattle.world_script.specs.declared.world.World.{World as Script}
 use Rattle.vm_desc.specs.declared.description.Description.{Description}

@@ -18,8 +18,8 @@ use Rattle.mate_journal.specs.declared.entry.Stamped.{Stamped}
 use Rattle.mate_journal.specs.declared.air.Aired.{Aired}
 use Rattle.mate_journal.specs.declared.program.Program.{Program}
 use Rattle.node_programs.specs.ScriptSteps.{program_at}
-use Rattle.node_invariant.specs.Keeps.{event_at}
-use Rattle.node_invariant.specs.Meaning.{machine_in}
+use Rattle.node_state.specs.Keeps.{event_at}
+use Rattle.node_state.specs.Meaning.{machine_in}
 use Rattle.open_node.specs.View.{NodeView}
 use Rattle.open_node.specs.Journal.{KeepsJournal}
 use Rattle.radio_sim.specs.declared.event.Event.{Event}

@@ -7,8 +7,8 @@ use Rattle.mate_journal.specs.Log.{Log}
 use Rattle.mate_journal.specs.Journal.{JournalEntry, TimedEntry, NodeState, state_after_entries, journal_of, journal_entry}
 use Rattle.mate_journal.specs.Pace.{Pace}
 use Rattle.mate_journal.specs.declared.entry.Stamped.{Stamped}
-use Rattle.node_invariant.specs.Meaning.{machine_in}
-use Rattle.node_invariant.specs.Keeps.{reading, event_at, Grows}
+use Rattle.node_state.specs.Meaning.{machine_in}
+use Rattle.node_state.specs.Keeps.{reading, event_at, Grows}
 use Rattle.open_node.specs.View.{NodeView, heard_of, Tells}
 use Rattle.node_calls.proofs.SettleLemmas.{heard_told-append, reading-grows}
 use Rattle.vm_desc.specs.declared.description.Description.{Description}

@@ -9,9 +9,9 @@ use Rattle.mate_journal.specs.Turns.{Settles}
 use Rattle.mate_journal.specs.declared.entry.Stamped.{Stamped}
 use Rattle.journal_laws.proofs.Append.{AtEachEntry-back, journal_of-same}
 use Rattle.journal_laws.specs.Growth.{FollowsLast}
-use Rattle.node_invariant.specs.Meaning.{machine_in}
-use Rattle.node_invariant.specs.Keeps.{reading, event_at, Grows, IsTimely}
-use Rattle.node_invariant.proofs.PostLemmas.{in-machine}
+use Rattle.node_state.specs.Meaning.{machine_in}
+use Rattle.node_state.specs.Keeps.{reading, event_at, Grows, IsTimely}
+use Rattle.node_state.proofs.PostLemmas.{in-machine}
 use Rattle.node_calls.specs.Pacing.{SettlesWithin}
 use Rattle.open_node.specs.View.{NodeView, heard_of, HasPace, Tells, IsSameNode}
 use Rattle.vm_desc.specs.declared.description.Description.{Description}

@@ -15,7 +15,7 @@ use Rattle.mate_journal.specs.NodeScript.{AnswersCall}
 use Rattle.node_calls.specs.Calls.{NobodyWaits}
 use Rattle.open_node.specs.Calls.{Pacing}
 use Rattle.open_node.specs.View.{heard_of, Tells}
-use Rattle.node_invariant.specs.Keeps.{IsTimely}
+use Rattle.node_state.specs.Keeps.{IsTimely}
 use Rattle.node_programs.specs.ScriptSteps.{program_at}
 use Rattle.packet_codec.specs.Bytes.{packet_bytes}
 use Rattle.packet_codec.specs.Packet.{IsRightPacket, HasPacketRanges}

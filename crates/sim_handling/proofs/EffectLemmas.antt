@@ -11,9 +11,9 @@ use Rattle.mate_journal.specs.Pace.{Pace}
 use Rattle.capsule_codec.specs.Image.{CapsuleParts}
 use Rattle.capsule_codec.specs.Reading.{capsule_in}
 use Rattle.mate_code.specs.BytesVerification.{bytes_verification}
-use Rattle.node_invariant.specs.Meaning.{machine_in}
-use Rattle.node_invariant.specs.Keeps.{IsTimely}
-use Rattle.node_invariant.proofs.KeepLemmas.{Grows-none}
+use Rattle.node_state.specs.Meaning.{machine_in}
+use Rattle.node_state.specs.Keeps.{IsTimely}
+use Rattle.node_state.proofs.KeepLemmas.{Grows-none}
 use Rattle.node_calls.specs.Installing.{InstallsBytes, Refuses, IsRightCapsule, program_by, capsule_handler}
 use Rattle.node_calls.specs.declared.installing.InstallFault.{InstallFault}
 use Rattle.node_calls.specs.declared.installing.InstallFault.TheVariants.{Capsule, Code, NotNewer}

@@ -16,13 +16,13 @@ use Rattle.mate_journal.specs.WellFormed.{MayFollow}
 use Rattle.journal_laws.proofs.Moves.{Moves, Joins, started-Moves, asked-Moves, answered-Moves, ended-Moves, posted-Joins}
 use Rattle.journal_laws.proofs.Apart.{IsNumbered, live_posted, numbered-step, queued_live, nothing_heard-orderly}
 use Rattle.mate_journal.proofs.JournalLemmas.{told_by-append, told_by-at}
-use Rattle.node_invariant.specs.Totals.{total}
-use Rattle.node_invariant.proofs.TotalLemmas.{total-less}
+use Rattle.node_state.specs.Totals.{total}
+use Rattle.node_state.proofs.TotalLemmas.{total-less}
 use Rattle.open_node.specs.Calls.{Pacing}
 use Rattle.open_node.specs.Journal.{KeepsJournal}
 use Rattle.open_node.specs.View.{NodeView, heard_of, Tells}
-use Rattle.node_invariant.specs.Keeps.{event_at}
-use Rattle.node_invariant.specs.Meaning.{machine_in}
+use Rattle.node_state.specs.Keeps.{event_at}
+use Rattle.node_state.specs.Meaning.{machine_in}
 use Rattle.vm_desc.specs.declared.description.Description.{Description}
 use Rattle.world_rules.specs.World.{is_receiver}
 use Rattle.world_rules.specs.Run.{Occasions}

@@ -6,8 +6,8 @@ use Rattle.mate_num.specs.declared.call.Stamp.{Stamp}
 use Rattle.mate_num.specs.declared.id.HandlerId.{HandlerId}
 use Rattle.mate_journal.specs.declared.air.Air.{Air}
 use Rattle.mate_journal.specs.Machine.{HeldProgram}
-use Rattle.node_invariant.specs.Keeps.{IsTimely}
-use Rattle.node_invariant.specs.Meaning.{machine_in}
+use Rattle.node_state.specs.Keeps.{IsTimely}
+use Rattle.node_state.specs.Meaning.{machine_in}
 use Rattle.open_node.specs.Calls.{Pacing}
 use Rattle.open_node.specs.View.{heard_of, Tells}
 use Rattle.packet_codec.specs.Packet.{IsRightPacket}

@@ -11,7 +11,7 @@ use Rattle.mate_journal.specs.NodeScript.{Occasion, AnswersCall, ShowsOnce}
 use Rattle.node_calls.specs.Calls.{NobodyWaits}
 use Rattle.open_node.specs.Calls.{Pacing}
 use Rattle.open_node.specs.View.{heard_of}
-use Rattle.node_invariant.specs.Meaning.{machine_in}
+use Rattle.node_state.specs.Meaning.{machine_in}
 use Rattle.node_programs.specs.ScriptSteps.{program_at}
 use Rattle.world_script.specs.declared.world.What.{What}
 use Rattle.world_rules.specs.World.{Want, Post, Show, ResetNode, want_of}

@@ -14,10 +14,10 @@ use Rattle.mate_journal.specs.NodeScript.{Occasion}
 use Rattle.mate_journal.specs.Pace.{Pace, paced_all}
 use Rattle.open_node.specs.Calls.{Pacing}
 use Rattle.open_node.specs.View.{NodeView, heard_of, Tells}
-use Rattle.node_invariant.proofs.StartingLemmas.{paced_all-append}
-use Rattle.node_invariant.specs.Keeps.{reading}
-use Rattle.node_invariant.specs.Meaning.{machine_in}
-use Rattle.node_invariant.proofs.KeepLemmas.{Grows-then}
+use Rattle.node_state.proofs.StartingLemmas.{paced_all-append}
+use Rattle.node_state.specs.Keeps.{reading}
+use Rattle.node_state.specs.Meaning.{machine_in}
+use Rattle.node_state.proofs.KeepLemmas.{Grows-then}
 use Rattle.node_calls.proofs.SettleLemmas.{heard_told-append, reading-grows}
 use Rattle.vm_desc.specs.declared.description.Description.{Description}
 use Rattle.world_rules.specs.World.{World, handlers, is_receiver, receivers}

@@ -3,7 +3,7 @@
 ghost use Rattle.std.specs.Prelude.{◌≡◌, ◌<◌, ◌≤◌, ℕ, [], ◌∷◌, length, slice_get, All, OnOk};
 ghost use Rattle.mate_num.specs.declared.bounds.TheConstants.{HOUR};
 ghost use Rattle.mate_journal.specs.declared.air.Air.TheVariants.{Got};
-ghost use Rattle.node_invariant.specs.Meaning.{machine_in};
+ghost use Rattle.node_state.specs.Meaning.{machine_in};
 ghost use Rattle.open_node.specs.View.{heard_of};
 ghost use Rattle.open_node.specs.Calls.{Pacing};
 ghost use Rattle.node_programs.specs.Right.{AreRightPrograms};

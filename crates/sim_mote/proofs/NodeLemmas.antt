@@ -8,8 +8,8 @@ use Rattle.mate_journal.specs.declared.entry.Stamped.{Stamped}
 use Rattle.journal_laws.specs.Growth.{FollowsLast}
 use Rattle.journal_laws.proofs.Append.{journal_of-same}
 use Rattle.vm_desc.specs.declared.description.Description.{Description}
-use Rattle.node_invariant.specs.Meaning.{machine_in}
-use Rattle.node_invariant.specs.Keeps.{reading, event_at, Grows}
+use Rattle.node_state.specs.Meaning.{machine_in}
+use Rattle.node_state.specs.Keeps.{reading, event_at, Grows}
 use Rattle.open_node.specs.View.{NodeView, heard_of, HasPace, Tells, IsSameNode}
 use Rattle.sim_mote.specs.Motes.{IsTellable}
 

@@ -9,8 +9,8 @@ use Rattle.mate_journal.specs.NodeScript.{Resets}
 use Rattle.mate_journal.specs.OpenLog.{nothing_gone}
 use Rattle.mate_journal.specs.declared.air.Air.{Air}
 use Rattle.mate_journal.specs.declared.air.Air.TheVariants as air
-use Rattle.node_invariant.specs.Meaning.{machine_in}
-use Rattle.node_invariant.specs.Keeps.{IsTimely}
+use Rattle.node_state.specs.Meaning.{machine_in}
+use Rattle.node_state.specs.Keeps.{IsTimely}
 use Rattle.node_calls.specs.Installing.{InstallsBytes, Refuses}
 use Rattle.node_calls.specs.declared.installing.InstallFault.{InstallFault}
 use Rattle.open_node.specs.View.{NodeView, heard_of, HasPace, Tells, IsSameNode}

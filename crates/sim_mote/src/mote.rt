@@ -3,7 +3,7 @@
 ghost use Rattle.std.specs.Prelude.{◌≡◌, ◌+◌, ◌<◌, ◌≤◌, ℕ, true, List, length, All, OnOk, IfOk, ◌⊎◌};
 ghost use Rattle.mate_num.specs.declared.bounds.TheConstants.{CONTEXTS_MAX, HOUR, NODES_MAX};
 ghost use Rattle.mate_journal.specs.NodeScript.{Occasion, AnswersCall, ShowsOnce};
-ghost use Rattle.node_invariant.specs.Meaning.{machine_in};
+ghost use Rattle.node_state.specs.Meaning.{machine_in};
 ghost use Rattle.node_calls.specs.Calls.{NobodyWaits};
 ghost use Rattle.open_node.specs.View.{heard_of};
 ghost use Rattle.open_node.specs.Calls.{Pacing};

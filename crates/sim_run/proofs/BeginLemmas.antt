@@ -21,8 +21,8 @@ use Rattle.mate_journal.specs.Log.{Log, IsEmpty}
 use Rattle.mate_journal.specs.OpenLog.{nothing_gone}
 use Rattle.mate_journal.specs.Journal.{journal_of, first_state, state_after_all, journal_entry, TimedEntry as Entered}
 use Rattle.mate_journal.specs.declared.entry.Stamped.{Stamped}
-use Rattle.node_invariant.specs.Meaning.{machine_in}
-use Rattle.node_invariant.specs.Keeps.{reading}
+use Rattle.node_state.specs.Meaning.{machine_in}
+use Rattle.node_state.specs.Keeps.{reading}
 use Rattle.mate_journal.specs.declared.air.Air.TheVariants as air
 use Rattle.mate_journal.specs.declared.air.Aired.{Aired}
 use Rattle.mate_journal.specs.declared.program.Program.{Program}

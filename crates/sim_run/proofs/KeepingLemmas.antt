@@ -14,8 +14,8 @@ use Rattle.mate_journal.specs.NodeScript.{records_max}
 use Rattle.mate_journal.specs.OpenLog.{nothing_gone, gone_of}
 use Rattle.mate_journal.specs.Tidy.{IsTidyLog}
 use Rattle.mate_journal.specs.declared.entry.Stamped.{Stamped}
-use Rattle.node_invariant.specs.Meaning.{machine_in}
-use Rattle.node_invariant.specs.Keeps.{reading}
+use Rattle.node_state.specs.Meaning.{machine_in}
+use Rattle.node_state.specs.Keeps.{reading}
 use Rattle.open_node.specs.Journal.{KeepsJournal}
 use Rattle.open_node.specs.View.{heard_of}
 use Rattle.radio_sim.specs.Radio.{Ether}

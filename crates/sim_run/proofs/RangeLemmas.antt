@@ -11,8 +11,8 @@ use Rattle.mate_journal.specs.NodeScript.{ShowsOnce}
 use Rattle.mate_journal.specs.Ranges.{HasLogRanges, HasAiredRanges, HasReportRanges}
 use Rattle.mate_journal.specs.declared.air.Aired.{Aired}
 use Rattle.journal_laws.proofs.GoesOnLemmas.{GoesOn-journal}
-use Rattle.node_invariant.specs.Meaning.{machine_in}
-use Rattle.node_invariant.specs.Keeps.{event_at}
+use Rattle.node_state.specs.Meaning.{machine_in}
+use Rattle.node_state.specs.Keeps.{event_at}
 use Rattle.open_node.specs.View.{heard_of}
 use Rattle.open_node.specs.Calls.{Pacing}
 use Rattle.open_node.specs.Journal.{KeepsJournal}

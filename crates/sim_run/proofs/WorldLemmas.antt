@@ -11,8 +11,8 @@ use Rattle.mate_journal.specs.Journal.{NodeState, journal_of, TimedEntry as Ente
 use Rattle.mate_journal.specs.NodeScript.{RunEnd, Whole, Full, ShowsOnce}
 use Rattle.mate_journal.specs.declared.program.Program.{Program}
 use Rattle.mate_journal.specs.declared.report.Report.{Report}
-use Rattle.node_invariant.specs.Meaning.{machine_in}
-use Rattle.node_invariant.specs.Keeps.{event_at, IsTimely}
+use Rattle.node_state.specs.Meaning.{machine_in}
+use Rattle.node_state.specs.Keeps.{event_at, IsTimely}
 use Rattle.journal_laws.specs.Growth.{FollowsLast}
 use Rattle.world_laws.specs.Times.{last_time}
 use Rattle.sim_run.proofs.RoomLemmas.{next-timely}

@@ -5,7 +5,7 @@ use Rattle.vm_desc.specs.declared.description.Description.{Description}
 use Rattle.mate_journal.specs.Log.{Log}
 use Rattle.mate_journal.specs.NodeScript.{ShowsOnce}
 use Rattle.mate_journal.specs.declared.report.Report.{Report}
-use Rattle.node_invariant.specs.Meaning.{machine_in}
+use Rattle.node_state.specs.Meaning.{machine_in}
 use Rattle.open_node.specs.View.{heard_of, Tells}
 use Rattle.open_node.specs.Calls.{Pacing}
 use Rattle.journal_laws.specs.InRange.{IsInRange}

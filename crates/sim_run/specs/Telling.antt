@@ -2,7 +2,7 @@
 use Rattle.std.specs.Prelude.{◌≡◌, ℕ, ◌<◌, List, ◌++◌, length, drop, slice_get, slice_set, Some, All}
 use Rattle.mate_journal.specs.Log.{GoesOn}
 use Rattle.mate_journal.specs.declared.report.Report.{Report}
-use Rattle.node_invariant.specs.Meaning.{machine_in}
+use Rattle.node_state.specs.Meaning.{machine_in}
 use Rattle.open_node.specs.Journal.{KeepsJournal}
 use Rattle.sim_mote.specs.declared.mote.Mote.{Mote}
 use Rattle.world_laws.specs.EventText.{so_far, AddsLines}

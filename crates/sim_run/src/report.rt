@@ -3,9 +3,9 @@
 ghost use Rattle.std.specs.Prelude.{◌≡◌, ◌≤◌, length, All, OnOk};
 ghost use Rattle.mate_num.specs.declared.bounds.TheConstants.{NODES_MAX};
 ghost use Rattle.vm_desc.specs.declared.description.Description.{Description};
-ghost use Rattle.node_invariant.specs.Meaning.{machine_in};
+ghost use Rattle.node_state.specs.Meaning.{machine_in};
 ghost use Rattle.open_node.specs.Journal.{KeepsJournal};
-ghost use Rattle.node_invariant.specs.Keeps.{IsTimely};
+ghost use Rattle.node_state.specs.Keeps.{IsTimely};
 ghost use Rattle.sim_mote.specs.declared.mote.Mote.{Mote as MoteState};
 ghost use Rattle.mate_journal.specs.OpenLog.{nothing_gone};
 ghost use Rattle.mate_journal.specs.Ranges.{HasReportRanges};

@@ -1,7 +1,7 @@
 //! The contexts of a new node.
 
 use mate_num::{CONTEXTS_MAX, ContextId};
-use node_contexts::Contexts;
+use node_state::Contexts;
 use std::test::Fail;
 
 #[test]

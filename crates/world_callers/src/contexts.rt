@@ -5,13 +5,13 @@ ghost use Rattle.mate_num.specs.declared.bounds.TheConstants.{CONTEXTS_MAX};
 ghost use Rattle.mate_num.specs.Locks.{lock_uses};
 ghost use Rattle.mate_num.specs.declared.resource.Resource.TheVariants.{Shared};
 ghost use Rattle.mate_code.specs.Effect.{push};
-ghost use Rattle.node_contexts.specs.At.{at};
-ghost use Rattle.node_contexts.specs.Executing.{CanAnswer};
-ghost use Rattle.node_contexts.specs.Programs.{held_at};
-ghost use Rattle.node_contexts.specs.declared.seat.Seat.{Seat as Sitting};
+ghost use Rattle.node_state.specs.At.{at};
+ghost use Rattle.node_state.specs.Executing.{CanAnswer};
+ghost use Rattle.node_state.specs.Programs.{held_at};
+ghost use Rattle.node_state.specs.declared.seat.Seat.{Seat as Sitting};
 
 use mate_num::{CONTEXTS_MAX, ContextId, LockSet, NoMemory, Resource, VarId};
-use node_contexts::{Contexts, Handlers, Seat, answer};
+use node_state::{Contexts, Handlers, Seat, answer};
 use std::alloc::Global;
 
 /// The value that comes is the one that is pushed.

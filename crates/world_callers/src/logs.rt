@@ -5,7 +5,7 @@ ghost use Rattle.mate_journal.specs.declared.entry.Entry.TheVariants.{Reset};
 
 use mate_journal::{Entry, OpenLog};
 use mate_num::Stamp;
-use node_invariant::tell;
+use node_state::tell;
 
 pub fn a_told_entry_stands_in_the_log(log: &mut OpenLog, at: Stamp)
     requires room { 1 ≤ log.old.all.spare }

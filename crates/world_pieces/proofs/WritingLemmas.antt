@@ -19,7 +19,7 @@ use Rattle.world_laws.proofs.EventLemmas.{all_stand, store_lines-next, store_lin
 use Rattle.mate_journal.specs.declared.air.Aired.{Aired}
 use Rattle.mate_journal.specs.declared.program.Program.{Program}
 use Rattle.mate_journal.specs.declared.report.Report.{Report}
-use Rattle.node_invariant.specs.Meaning.{machine_in}
+use Rattle.node_state.specs.Meaning.{machine_in}
 use Rattle.open_node.specs.Journal.{KeepsJournal}
 use Rattle.report_text.specs.Text.{lines, event_lines, event_piece}
 use Rattle.vm_desc.specs.declared.description.Description.{Description}

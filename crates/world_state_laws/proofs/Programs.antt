@@ -13,7 +13,7 @@ use Rattle.mate_code.specs.declared.fault.VerifyFault.{VerifyFault}
 use Rattle.mate_code.specs.Verification.{Marks}
 use Rattle.mate_journal.specs.Machine.{HeldProgram}
 use Rattle.mate_journal.specs.declared.program.Program.{Program}
-use Rattle.node_invariant.specs.Meaning.{meaning_of}
+use Rattle.node_state.specs.Meaning.{meaning_of}
 use Rattle.node_calls.specs.Installing.{IsRightCapsule, program_by}
 use Rattle.node_programs.specs.Right.{IsRightProgram, AreRightPrograms}
 use Rattle.node_programs.specs.Sources.{held_as}

@@ -8,7 +8,7 @@ use Rattle.vm_desc.specs.Shapes.{shape_of}
 use Rattle.mate_journal.specs.Machine.{HeldProgram}
 use Rattle.mate_journal.specs.Pace.{no_pace}
 use Rattle.mate_journal.specs.declared.program.Program.{Program}
-use Rattle.node_invariant.specs.Meaning.{meaning_of}
+use Rattle.node_state.specs.Meaning.{meaning_of}
 use Rattle.node_programs.specs.ScriptSteps.{program_at}
 use Rattle.world_script.specs.declared.world.World.{World as Script}
 use Rattle.journal_laws.specs.Waiting.{HasFewContexts}

@@ -6,7 +6,7 @@ use Rattle.mate_journal.specs.Machine.{HeldProgram}
 use Rattle.mate_journal.specs.Journal.{NodeState, held}
 use Rattle.mate_journal.specs.WellFormed.{IsWaiting}
 use Rattle.mate_journal.specs.declared.program.Program.{Program}
-use Rattle.node_invariant.specs.Meaning.{meaning_of}
+use Rattle.node_state.specs.Meaning.{meaning_of}
 use Rattle.node_calls.specs.Installing.{IsRightCapsule, program_by}
 use Rattle.capsule_codec.specs.Image.{CapsuleParts}
 use Rattle.node_programs.specs.ScriptSteps.{program_at}

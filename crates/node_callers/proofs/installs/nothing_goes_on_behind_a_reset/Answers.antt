@@ -1,4 +1,4 @@
-use Rattle.node_invariant.specs.Meaning.{machine_in}
+use Rattle.node_state.specs.Meaning.{machine_in}
 use Rattle.open_node.specs.View.{heard_of}
 use Rattle.node_callers.proofs.EraLemmas.{none_behind, reset_cuts, stands_idle}
 use Rattle.node_callers.proofs.installs.nothing_goes_on_behind_a_reset.Goals as goal

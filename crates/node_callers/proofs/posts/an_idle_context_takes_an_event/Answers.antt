@@ -1,4 +1,4 @@
-use Rattle.node_invariant.specs.Meaning.{machine_in}
+use Rattle.node_state.specs.Meaning.{machine_in}
 use Rattle.open_node.specs.View.{heard_of}
 use Rattle.node_callers.proofs.NodeLemmas.{not_all_busy}
 use Rattle.node_callers.proofs.posts.an_idle_context_takes_an_event.Goals as goal

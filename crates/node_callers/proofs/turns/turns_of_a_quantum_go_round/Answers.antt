@@ -1,4 +1,4 @@
-use Rattle.node_invariant.specs.Meaning.{machine_in}
+use Rattle.node_state.specs.Meaning.{machine_in}
 use Rattle.open_node.proofs.CallLemmas.{Tells-by}
 use Rattle.open_node.specs.View.{heard_of}
 use Rattle.node_callers.proofs.TurnLemmas.{by_turns}

@@ -2,7 +2,7 @@
 use Rattle.std.proofs.Common.{sym, w16, subst, refl}
 use Rattle.std.proofs.lemmas.Int.{to_z-of_z}
 use Rattle.std.specs.Prelude.{IsSome}
-use Rattle.node_contexts.specs.At.{At}
+use Rattle.node_state.specs.At.{At}
 use Rattle.node_calls.proofs.AnswerLemmas.{nobody-waits, CanAnswer-waiting, RestsAgain-answer}
 use Rattle.node_calls.proofs.answering.answer_in.Goals as goal
 

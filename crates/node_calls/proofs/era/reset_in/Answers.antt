@@ -1,6 +1,6 @@
 -- The store and the reset are told.
 use Rattle.std.proofs.Common.{ap, ◌∙◌}
-use Rattle.node_invariant.specs.declared.parts.Parts.{Parts}
+use Rattle.node_state.specs.declared.parts.Parts.{Parts}
 use Rattle.node_calls.proofs.EraLemmas.{RestsAgain-resets}
 use Rattle.node_calls.proofs.era.reset_in.Goals as goal
 

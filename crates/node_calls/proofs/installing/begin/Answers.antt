@@ -1,8 +1,8 @@
 -- The era begins, and a handler that runs once is posted.
 use Rattle.std.proofs.Common.{◌∙◌, ap, sym, subst, refl, arith, Bool, ◌≡◌}
 use Rattle.std.specs.Prelude.{MatchBool}
-use Rattle.node_contexts.specs.Programs.{HeldPrograms}
-use Rattle.node_invariant.specs.declared.parts.Parts.{Parts}
+use Rattle.node_state.specs.Programs.{HeldPrograms}
+use Rattle.node_state.specs.declared.parts.Parts.{Parts}
 use Rattle.node_calls.specs.Arrivals.{IsPosted}
 use Rattle.node_calls.proofs.EraLemmas.{told-one}
 use Rattle.node_calls.proofs.installing.begin.Goals as goal

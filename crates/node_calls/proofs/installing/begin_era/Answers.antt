@@ -1,7 +1,7 @@
 -- The image is told, and all is cleared.
 use Rattle.std.proofs.Common.{length, ap, arith}
 use Rattle.journal_laws.proofs.TidyLemmas.{images-few}
-use Rattle.node_invariant.specs.declared.parts.Parts.{Parts}
+use Rattle.node_state.specs.declared.parts.Parts.{Parts}
 use Rattle.node_calls.proofs.InstallLemmas.{RestsAgain-begun, arrived-some}
 use Rattle.node_calls.proofs.installing.begin_era.Goals as goal
 

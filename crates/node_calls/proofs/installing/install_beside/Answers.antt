@@ -1,7 +1,7 @@
 -- The capsule that is ready is the same one, or has the same code, or another.
 use Rattle.std.proofs.Common.{sym, subst}
-use Rattle.node_contexts.specs.declared.handlers.Held.{Held}
-use Rattle.node_invariant.specs.Fits.{IsHeld}
+use Rattle.node_state.specs.declared.handlers.Held.{Held}
+use Rattle.node_state.specs.Fits.{IsHeld}
 use Rattle.node_calls.proofs.installing.install_beside.Goals as goal
 
 pub install_alike-requires-clause-right : goal.install_alike-requires-clause-right

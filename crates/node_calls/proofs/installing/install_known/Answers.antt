@@ -1,9 +1,9 @@
 -- What was held has another version and another image.
 use Rattle.std.proofs.Common.{◌∙◌, List, Option, set, refl, ap}
 use Rattle.std.proofs.lemmas.Result.{err_from_is_err_and}
-use Rattle.node_contexts.specs.declared.handlers.Held.{Held}
-use Rattle.node_contexts.specs.Programs.{HeldPrograms, held_at, renewed}
-use Rattle.node_invariant.specs.declared.parts.Parts.{Parts}
+use Rattle.node_state.specs.declared.handlers.Held.{Held}
+use Rattle.node_state.specs.Programs.{HeldPrograms, held_at, renewed}
+use Rattle.node_state.specs.declared.parts.Parts.{Parts}
 use Rattle.node_calls.proofs.InstallLemmas.{Refuses-older, shown-places, shown-room, Arrives-shown, InstallGives-begun}
 use Rattle.node_calls.proofs.installing.install_known.Goals as goal
 

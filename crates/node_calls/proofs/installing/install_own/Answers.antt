@@ -1,9 +1,9 @@
 -- The program takes the place of what was held.
 use Rattle.std.proofs.Common.{◌∙◌, List, Option, refl, ap}
 use Rattle.std.proofs.lemmas.Result.{err_from_is_err_and}
-use Rattle.node_contexts.specs.declared.handlers.Held.{Held}
-use Rattle.node_contexts.specs.Programs.{HeldPrograms}
-use Rattle.node_invariant.specs.declared.parts.Parts.{Parts}
+use Rattle.node_state.specs.declared.handlers.Held.{Held}
+use Rattle.node_state.specs.Programs.{HeldPrograms}
+use Rattle.node_state.specs.declared.parts.Parts.{Parts}
 use Rattle.node_calls.proofs.InstallLemmas.{Refuses-older, shown-places, shown-room, Arrives-shown, InstallGives-begun}
 use Rattle.node_calls.proofs.installing.install_own.Goals as goal
 

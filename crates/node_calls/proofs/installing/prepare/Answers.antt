@@ -1,6 +1,6 @@
 -- The version is not newer, or the store is told.
 use Rattle.std.proofs.Common.{refl, ap, arith}
-use Rattle.node_contexts.specs.Programs.{HeldPrograms}
+use Rattle.node_state.specs.Programs.{HeldPrograms}
 use Rattle.node_calls.proofs.installing.prepare.Goals as goal
 
 pub returns-then-version-held-clause-prepares : goal.returns-then-version-held-clause-prepares

@@ -1,5 +1,5 @@
 -- The contexts of the handler are asked one by one.
-use Rattle.node_invariant.specs.Meaning.{machine_in}
+use Rattle.node_state.specs.Meaning.{machine_in}
 use Rattle.node_calls.proofs.PostingLemmas.{taken-none, taken-more, first-free, all-taken}
 use Rattle.node_calls.proofs.posting.first_free.Goals as goal
 

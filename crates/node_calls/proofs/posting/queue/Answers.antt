@@ -1,6 +1,6 @@
 -- The invocation is queued, and that is told.
 use Rattle.std.proofs.Common.{arith}
-use Rattle.node_invariant.proofs.PostLemmas.{in-machine}
+use Rattle.node_state.proofs.PostLemmas.{in-machine}
 use Rattle.node_calls.proofs.PostingLemmas.{idle-first, IsQueued-made}
 use Rattle.node_calls.proofs.posting.queue.Goals as goal
 

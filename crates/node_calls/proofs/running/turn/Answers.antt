@@ -1,8 +1,8 @@
 -- The seat has its machine as the run leaves it.
 use Rattle.std.proofs.Common.{◌≡◌, ℕ, ◌+◌, Some, refl, sym, ap}
-use Rattle.node_contexts.specs.declared.seat.Seat.{Seat}
-use Rattle.node_contexts.specs.At.{seat_at}
-use Rattle.node_contexts.proofs.ContextLemmas.{HasTurn-from}
+use Rattle.node_state.specs.declared.seat.Seat.{Seat}
+use Rattle.node_state.specs.At.{seat_at}
+use Rattle.node_state.proofs.ContextLemmas.{HasTurn-from}
 use Rattle.node_calls.proofs.running.turn.Goals as goal
 
 pub returns : goal.returns

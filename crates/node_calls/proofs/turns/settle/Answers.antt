@@ -1,8 +1,8 @@
 -- The first of the ring goes last, and has a turn.
 use Rattle.std.proofs.Common.{ℕ, refl, ap, ◌∙◌, subst, ◌<◌, arith}
-use Rattle.node_contexts.specs.At.{At}
+use Rattle.node_state.specs.At.{At}
 use Rattle.node_calls.specs.Pacing.{most, AreQuanta}
-use Rattle.node_invariant.specs.Totals.{falls}
+use Rattle.node_state.specs.Totals.{falls}
 use Rattle.node_calls.proofs.SettleLemmas.{first-ready, Rests-way, owes-way, falls-way, SettlesSome-none, SettlesSome-then, SettlesAll-from, room-turn}
 use Rattle.node_calls.proofs.turns.settle.Goals as goal
 

@@ -1,5 +1,5 @@
 use Rattle.std.specs.Prelude.{◌≡◌}
-use Rattle.node_invariant.specs.Totals.{falls}
+use Rattle.node_state.specs.Totals.{falls}
 use Rattle.node_calls.specs.Pacing.{most, SettlesSome}
 use Rattle.node_calls.proofs.turns.settle.Given as goal
 

@@ -3,7 +3,7 @@ use Rattle.std.proofs.Common.{inl, refl, ◌∙◌, ap}
 use Rattle.mate_journal.specs.OpenLog.{OpenView}
 use Rattle.mate_num.specs.declared.call.End.TheVariants as end
 use Rattle.mate_journal.specs.declared.entry.Entry.TheVariants as entry
-use Rattle.node_invariant.proofs.EntryLemmas.{IsClosing-halt, IsClosing-fault}
+use Rattle.node_state.proofs.EntryLemmas.{IsClosing-halt, IsClosing-fault}
 use Rattle.node_calls.proofs.RunningLemmas.{RunsTo-at}
 use Rattle.node_calls.proofs.ActLemmas.{TakesTurn-short}
 use Rattle.node_calls.proofs.ActedLemmas.{room-tell, ready-seated, stopped-holds, stopped-silent, TakesTurn-ask, IsStarting-end, room-end, timely-end, TakesTurn-end}

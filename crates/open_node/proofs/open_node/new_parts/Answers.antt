@@ -3,8 +3,8 @@ use Rattle.std.proofs.Common.{◌≡◌, length, refl, ◌∙◌, arith}
 use Rattle.std.proofs.lemmas.Grind.{common_steps}
 use Rattle.mate_num.specs.Store.{zero_store}
 use Rattle.vm_desc.specs.declared.description.Description.{Description}
-use Rattle.node_invariant.specs.declared.parts.Parts.{Parts}
-use Rattle.node_invariant.proofs.NewLemmas.{Rests-new}
+use Rattle.node_state.specs.declared.parts.Parts.{Parts}
+use Rattle.node_state.proofs.NewLemmas.{Rests-new}
 use Rattle.open_node.proofs.open_node.new_parts.Goals as goal
 
 pub returns : goal.returns

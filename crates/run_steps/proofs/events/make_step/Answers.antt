@@ -3,7 +3,7 @@ use Rattle.mate_num.specs.declared.bounds.TheConstants.{CODE_MAX}
 use Rattle.std.specs.Prelude.{◌+◌, ◌*◌}
 use Rattle.script_reader.specs.declared.steps.Step.{Step}
 use Rattle.mate_journal.specs.NodeScript.{Run, Show, ResetNode, ShowsOnce, Resets}
-use Rattle.node_invariant.specs.Meaning.{machine_in}
+use Rattle.node_state.specs.Meaning.{machine_in}
 use Rattle.node_calls.specs.Pacing.{SettlesWithin}
 use Rattle.open_node.specs.View.{heard_of, Tells}
 use Rattle.open_node.specs.Calls.{Pacing}

@@ -1,7 +1,7 @@
 use Rattle.std.proofs.Common.{ℤ, subst, arith}
 use Rattle.arrayvec.specs.ArrayVec.{ArrayVec}
 use Rattle.mate_journal.specs.NodeScript.{Post}
-use Rattle.node_invariant.specs.Meaning.{machine_in}
+use Rattle.node_state.specs.Meaning.{machine_in}
 use Rattle.node_calls.specs.Posting.{PostGives}
 use Rattle.open_node.specs.View.{heard_of, Tells}
 use Rattle.open_node.specs.Calls.{Pacing}

@@ -1,7 +1,7 @@
 use Rattle.std.proofs.Common.{refl, inl, inr}
 use Rattle.mate_journal.specs.declared.entry.VoidCause.TheVariants as void
 use Rattle.mate_journal.specs.NodeScript.{StepIn}
-use Rattle.node_invariant.specs.Meaning.{machine_in}
+use Rattle.node_state.specs.Meaning.{machine_in}
 use Rattle.open_node.specs.View.{heard_of}
 use Rattle.open_node.specs.Calls.{HasStepped}
 use Rattle.run_steps.specs.Running.{MakesOn}

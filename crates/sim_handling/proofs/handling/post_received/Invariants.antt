@@ -1,7 +1,7 @@
 use Rattle.std.proofs.Common.{◌≡◌}
 use Rattle.open_node.specs.View.{heard_of, Tells}
 use Rattle.open_node.specs.Calls.{Pacing}
-use Rattle.node_invariant.specs.Meaning.{machine_in}
+use Rattle.node_state.specs.Meaning.{machine_in}
 use Rattle.world_rules.specs.Run.{Occasions}
 use Rattle.sim_handling.specs.Handling.{receivers_below}
 use Rattle.sim_handling.proofs.handling.post_received.Given as goal

@@ -4,7 +4,7 @@ use Rattle.std.proofs.lemmas.Iterator.Consumers.{YieldsList-end, YieldsList-turn
 use Rattle.std.proofs.lemmas.Iterator.Adapters.{YieldsList-from_vec}
 use Rattle.mate_journal.specs.Log.{Log}
 use Rattle.mate_journal.specs.OpenLog.{nothing_gone}
-use Rattle.node_invariant.specs.Meaning.{machine_in}
+use Rattle.node_state.specs.Meaning.{machine_in}
 use Rattle.open_node.specs.Journal.{KeepsJournal}
 use Rattle.sim_mote.specs.declared.mote.Mote.{Mote}
 use Rattle.sim_run.specs.Reporting.{mote_logs, AreOfMachine}

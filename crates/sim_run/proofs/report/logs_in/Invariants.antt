@@ -1,6 +1,6 @@
 use Rattle.std.proofs.Common.{◌≡◌, ◌++◌, length, drop, All}
 use Rattle.vm_desc.specs.declared.description.Description.{Description}
-use Rattle.node_invariant.specs.Meaning.{machine_in}
+use Rattle.node_state.specs.Meaning.{machine_in}
 use Rattle.open_node.specs.Journal.{KeepsJournal}
 use Rattle.sim_run.specs.Reporting.{mote_logs, AreOfMachine}
 use Rattle.sim_run.proofs.report.logs_in.Given as goal

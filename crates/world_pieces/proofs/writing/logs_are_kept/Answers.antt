@@ -1,7 +1,7 @@
 use Rattle.std.proofs.Common.{subst}
 use Rattle.std.proofs.lemmas.List.{take_all}
 use Rattle.std.proofs.lemmas.List.Elements.{All-more}
-use Rattle.node_invariant.specs.Meaning.{machine_in}
+use Rattle.node_state.specs.Meaning.{machine_in}
 use Rattle.open_node.specs.Journal.{KeepsJournal}
 use Rattle.sim_mote.specs.declared.mote.Mote.{Mote}
 use Rattle.sim_run.specs.Telling.{LogsAreKept}

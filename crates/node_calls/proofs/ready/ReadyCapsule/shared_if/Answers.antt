@@ -1,6 +1,6 @@
 -- The bytes are the image, and a copy is the same program.
 use Rattle.std.proofs.Common.{ℕ, List, sym, subst}
-use Rattle.node_contexts.specs.declared.handlers.Held.{Held}
+use Rattle.node_state.specs.declared.handlers.Held.{Held}
 use Rattle.node_calls.specs.Installing.{IsInstallable, IsReady}
 use Rattle.node_calls.proofs.ready.ReadyCapsule.shared_if.Goals as goal
 

@@ -2,11 +2,11 @@
 use Rattle.std.proofs.Common.{◌≡◌, ℤ, to_z, of_z, w16, rules, subst, sym, ap}
 use Rattle.std.specs.Prelude.{MatchResult}
 use Rattle.mate_journal.specs.NodeScript.{AnswersCall}
-use Rattle.node_invariant.specs.Keeps.{reading}
+use Rattle.node_state.specs.Keeps.{reading}
 use Rattle.node_calls.specs.Calls.{RestsAgain, NobodyWaits}
 use Rattle.vm_desc.specs.declared.description.Description.{Description}
-use Rattle.node_invariant.specs.Starting.{Rests}
-use Rattle.node_contexts.specs.Programs.{HeldPrograms}
+use Rattle.node_state.specs.Starting.{Rests}
+use Rattle.node_state.specs.Programs.{HeldPrograms}
 use Rattle.open_node.specs.View.{heard_of, Tells}
 use Rattle.open_node.specs.Calls.{Pacing}
 use Rattle.open_node.proofs.PaceLemmas.{seen_as}

@@ -5,8 +5,8 @@ use Rattle.vm_desc.specs.declared.description.Description.{Description}
 use Rattle.node_calls.specs.Installing.{InstallsBytes, InstallGives, IsReadyOn, Refuses}
 use Rattle.node_calls.specs.declared.installing.InstallFault.{InstallFault}
 use Rattle.mate_journal.specs.declared.report.TheConstants.{ENTRIES_MAX}
-use Rattle.node_invariant.specs.Keeps.{IsTimely}
-use Rattle.node_invariant.specs.Starting.{Rests}
+use Rattle.node_state.specs.Keeps.{IsTimely}
+use Rattle.node_state.specs.Starting.{Rests}
 use Rattle.open_node.specs.View.{NodeView, heard_of, Tells}
 use Rattle.open_node.specs.Calls.{InstallsOn, Pacing}
 use Rattle.open_node.proofs.PaceLemmas.{seen_as}

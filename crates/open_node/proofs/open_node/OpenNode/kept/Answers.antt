@@ -1,8 +1,8 @@
 -- What a node that rests keeps.
 use Rattle.std.proofs.Common.{subst, sym}
 use Rattle.vm_desc.specs.declared.description.Description.{Description}
-use Rattle.node_invariant.specs.Meaning.{machine_in}
-use Rattle.node_invariant.specs.Starting.{Rests}
+use Rattle.node_state.specs.Meaning.{machine_in}
+use Rattle.node_state.specs.Starting.{Rests}
 use Rattle.open_node.specs.View.{NodeView}
 use Rattle.open_node.specs.Journal.{KeepsJournal}
 use Rattle.open_node.proofs.open_node.OpenNode.kept.Goals as goal

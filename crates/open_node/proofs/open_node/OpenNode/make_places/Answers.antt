@@ -1,7 +1,7 @@
 -- The programs stay, and what rests of them.
 use Rattle.std.proofs.Common.{◌≤◌, List, Option, length, sym, ap, subst, arith}
-use Rattle.node_contexts.specs.declared.handlers.Held.{Held}
-use Rattle.node_contexts.specs.Programs.{HasOwnRoom}
+use Rattle.node_state.specs.declared.handlers.Held.{Held}
+use Rattle.node_state.specs.Programs.{HasOwnRoom}
 use Rattle.open_node.specs.View.{NodeView, HasPace}
 use Rattle.open_node.proofs.PaceLemmas.{IsPace-seen, HasPace-from}
 use Rattle.open_node.proofs.JournalLemmas.{Rests-programs}

@@ -1,7 +1,7 @@
 -- A new node rests.
 use Rattle.std.proofs.Common.{refl, subst}
 use Rattle.vm_desc.specs.declared.description.Description.{Description}
-use Rattle.node_invariant.specs.Keeps.{reading}
+use Rattle.node_state.specs.Keeps.{reading}
 use Rattle.mate_journal.specs.Pace.{no_pace}
 use Rattle.open_node.specs.Start.{AreNewParts}
 use Rattle.open_node.proofs.PaceLemmas.{HasPace-from}

@@ -1,10 +1,10 @@
 -- The reset, as it is seen.
 use Rattle.std.proofs.Common.{subst, sym, ap}
 use Rattle.mate_journal.specs.NodeScript.{Resets}
-use Rattle.node_invariant.specs.Meaning.{machine_in}
+use Rattle.node_state.specs.Meaning.{machine_in}
 use Rattle.vm_desc.specs.declared.description.Description.{Description}
-use Rattle.node_invariant.specs.Starting.{Rests}
-use Rattle.node_contexts.specs.Programs.{HeldPrograms}
+use Rattle.node_state.specs.Starting.{Rests}
+use Rattle.node_state.specs.Programs.{HeldPrograms}
 use Rattle.open_node.specs.View.{NodeView, heard_of, Tells}
 use Rattle.open_node.specs.Calls.{Pacing}
 use Rattle.open_node.proofs.PaceLemmas.{seen_as}

@@ -2,13 +2,13 @@
 use Rattle.std.proofs.Common.{◌+◌, ◌*◌, ap, subst, arith, sym}
 use Rattle.mate_num.specs.declared.bounds.TheConstants.{CODE_MAX}
 use Rattle.vm_desc.proofs.DescriptionLemmas.{bounds_of}
-use Rattle.node_contexts.specs.Programs.{HeldPrograms, held_at}
-use Rattle.node_invariant.specs.Meaning.{machine_in}
-use Rattle.node_invariant.specs.Keeps.{reading}
-use Rattle.node_invariant.proofs.RoomLemmas.{owes-most}
+use Rattle.node_state.specs.Programs.{HeldPrograms, held_at}
+use Rattle.node_state.specs.Meaning.{machine_in}
+use Rattle.node_state.specs.Keeps.{reading}
+use Rattle.node_state.proofs.RoomLemmas.{owes-most}
 use Rattle.node_calls.specs.Pacing.{SettlesWithin}
 use Rattle.vm_desc.specs.declared.description.Description.{Description}
-use Rattle.node_invariant.specs.Starting.{Rests}
+use Rattle.node_state.specs.Starting.{Rests}
 use Rattle.open_node.specs.View.{NodeView, heard_of, Tells}
 use Rattle.open_node.proofs.PaceLemmas.{seen_as}
 use Rattle.open_node.proofs.MadeLemmas.{Tells-settled}

@@ -1,14 +1,14 @@
 -- Where one is ready, at most 15 may start.
 use Rattle.std.proofs.Common.{◌≡◌, true, refl, sym, ◌∙◌, ap, subst, arith}
 use Rattle.mate_journal.specs.NodeScript.{IsReadyIn}
-use Rattle.node_contexts.specs.At.{at}
-use Rattle.node_contexts.specs.Programs.{HeldPrograms, held_at}
-use Rattle.node_invariant.specs.Meaning.{machine_in}
-use Rattle.node_invariant.specs.Keeps.{reading}
-use Rattle.node_invariant.proofs.MoveLemmas.{none_ready}
-use Rattle.node_invariant.proofs.RoomLemmas.{starts-most}
+use Rattle.node_state.specs.At.{at}
+use Rattle.node_state.specs.Programs.{HeldPrograms, held_at}
+use Rattle.node_state.specs.Meaning.{machine_in}
+use Rattle.node_state.specs.Keeps.{reading}
+use Rattle.node_state.proofs.MoveLemmas.{none_ready}
+use Rattle.node_state.proofs.RoomLemmas.{starts-most}
 use Rattle.vm_desc.specs.declared.description.Description.{Description}
-use Rattle.node_invariant.specs.Starting.{Rests}
+use Rattle.node_state.specs.Starting.{Rests}
 use Rattle.open_node.specs.View.{NodeView, heard_of, Tells}
 use Rattle.open_node.specs.Calls.{HasStepped}
 use Rattle.open_node.proofs.PaceLemmas.{seen_as}

@@ -2,8 +2,8 @@
 use Rattle.std.proofs.Common.{◌≡◌, ◌∷◌, [], subst, sym, ap}
 use Rattle.mate_journal.specs.Journal.{Void}
 use Rattle.vm_desc.specs.declared.description.Description.{Description}
-use Rattle.node_invariant.specs.Starting.{Rests}
-use Rattle.node_contexts.specs.Programs.{HeldPrograms}
+use Rattle.node_state.specs.Starting.{Rests}
+use Rattle.node_state.specs.Programs.{HeldPrograms}
 use Rattle.open_node.specs.View.{NodeView, Tells}
 use Rattle.open_node.specs.Calls.{Pacing}
 use Rattle.open_node.proofs.PaceLemmas.{seen_as}

@@ -1,6 +1,6 @@
 use Rattle.std.proofs.Common.{refl}
 use Rattle.mate_journal.specs.NodeScript.{Occasion}
-use Rattle.node_invariant.specs.Meaning.{machine_in}
+use Rattle.node_state.specs.Meaning.{machine_in}
 use Rattle.node_calls.specs.Posting.{PostGives}
 use Rattle.open_node.specs.View.{heard_of}
 use Rattle.open_node.specs.Calls.{Pacing}

@@ -1,6 +1,6 @@
 use Rattle.std.proofs.Common.{true, refl, ap}
 use Rattle.mate_journal.specs.NodeScript.{Resets}
-use Rattle.node_invariant.specs.Meaning.{machine_in}
+use Rattle.node_state.specs.Meaning.{machine_in}
 use Rattle.open_node.specs.Calls.{Pacing}
 use Rattle.sim_mote.specs.declared.effect.Effect.{Effect}
 use Rattle.sim_mote.proofs.NodeLemmas.{tellable-same, tells-behind}

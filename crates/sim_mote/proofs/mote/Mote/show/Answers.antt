@@ -1,6 +1,6 @@
 use Rattle.std.proofs.Common.{refl}
 use Rattle.mate_journal.specs.NodeScript.{ShowsOnce}
-use Rattle.node_invariant.specs.Meaning.{machine_in}
+use Rattle.node_state.specs.Meaning.{machine_in}
 use Rattle.open_node.specs.Calls.{Pacing}
 use Rattle.sim_mote.proofs.NodeLemmas.{tellable-same, tells-behind}
 use Rattle.sim_mote.proofs.mote.Mote.show.Goals as goal

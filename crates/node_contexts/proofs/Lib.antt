@@ -1,3 +1,0 @@
-pub mod ContextLemmas
-mod SeatLemmas
-mod HandlerLemmas

@@ -1,5 +1,0 @@
-pub mod At
-pub mod Seats
-pub mod Programs
-pub mod Executing
-pub mod Lending

@@ -1,0 +1,15 @@
+pub mod At
+pub mod Seats
+pub mod Programs
+pub mod Executing
+pub mod Lending
+pub mod Meaning
+pub mod Standing
+pub mod Fits
+pub mod Keeps
+pub mod Continues
+pub mod Agrees
+pub mod Queue
+pub mod Totals
+pub mod Pace
+pub mod Starting
