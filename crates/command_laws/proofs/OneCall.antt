@@ -26,7 +26,7 @@ use Rattle.mate_steps.specs.OneAnswer.{AnswersAgree, steady}
 use Rattle.mate_steps.specs.Parts.{Folder}
 use Rattle.mate_steps.proofs.OneAnswer.{then_agrees}
 use Rattle.run_steps.specs.Running.{IsReportOf}
-use Rattle.report_summary.specs.Writing.{OfRun}
+use Rattle.report_text.specs.Writing.{OfRun}
 use Rattle.vm_desc.specs.declared.description.Description.{Description}
 use Rattle.world_run_laws.specs.Promise.{IsReportOfWorld}
 

@@ -10,7 +10,7 @@ use Rattle.mate_journal.specs.declared.report.Report.{Report}
 use Rattle.mate_steps.specs.OneAnswer.{AnswersAgree}
 use Rattle.mate_steps.proofs.OneAnswer.{then_agrees}
 use Rattle.report_text.specs.Brief.{brief}
-use Rattle.report_summary.specs.Writing.{OfRun, IsEnded}
+use Rattle.report_text.specs.Writing.{OfRun, IsEnded}
 use Rattle.script_programs.proofs.OnePrograms.{obtained_agrees}
 use Rattle.vm_desc.specs.declared.description.Description.{Description}
 

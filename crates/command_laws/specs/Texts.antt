@@ -7,7 +7,7 @@ use Rattle.mate_journal.specs.NodeScript.{RunEnd, Whole, Full}
 use Rattle.mate_journal.specs.declared.report.Report.{Report}
 use Rattle.report_text.specs.Text.{text}
 use Rattle.run_steps.specs.Running.{IsReportOf}
-use Rattle.report_summary.specs.Writing.{OfRun}
+use Rattle.report_text.specs.Writing.{OfRun}
 use Rattle.vm_desc.specs.declared.description.Description.{Description}
 use Rattle.world_run_laws.specs.Promise.{IsReportOfWorld}
 

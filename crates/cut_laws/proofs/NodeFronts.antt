@@ -23,7 +23,7 @@ use Rattle.mate_journal.specs.declared.air.Aired.{Aired}
 use Rattle.mate_journal.specs.declared.entry.Stamped.{Stamped}
 use Rattle.mate_journal.specs.declared.report.Report.{Report}
 use Rattle.report_text.specs.Text.{lines, text}
-use Rattle.report_summary.specs.Writing.{IsWrittenPart, written_text}
+use Rattle.report_text.specs.Writing.{IsWrittenPart, written_text}
 use Rattle.vm_desc.specs.declared.description.Description.{Description}
 use Rattle.world_laws.proofs.Bounds.{entries-of, entries-new, all-named}
 

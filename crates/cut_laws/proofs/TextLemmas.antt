@@ -15,7 +15,7 @@ use Rattle.report_text.specs.Progress.{air_event, at_event}
 use Rattle.report_text.specs.Text.{air_line, entry_line, entry_lines, event_lines, events_end, lines, text}
 use Rattle.report_text.proofs.EventLemmas.{at_event-none, flat_map-skip, flat_map-below_next}
 use Rattle.report_text.proofs.PieceLemmas.{events_end-le, event_lines-past, agree-below, lines-same}
-use Rattle.report_summary.specs.Writing.{last_line}
+use Rattle.report_text.specs.Writing.{last_line}
 use Rattle.vm_desc.specs.declared.description.Description.{Description}
 
 -- the log goes on, by entries of events behind this one

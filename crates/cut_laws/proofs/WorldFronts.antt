@@ -17,7 +17,7 @@ use Rattle.mate_journal.specs.declared.air.Aired.{Aired}
 use Rattle.mate_journal.specs.declared.entry.Stamped.{Stamped}
 use Rattle.mate_journal.specs.declared.report.Report.{Report}
 use Rattle.report_text.specs.Text.{lines, text}
-use Rattle.report_summary.specs.Writing.{IsWrittenPart, written_text}
+use Rattle.report_text.specs.Writing.{IsWrittenPart, written_text}
 use Rattle.world_once_laws.specs.OneReport.{EventsAreOfNodes}
 use Rattle.world_once_laws.proofs.OneReport.{one-report, report-kept, both-some, zip-places}
 use Rattle.world_once_laws.proofs.OneRun.{AreKept, kept-before, moments-once, not-shorter}

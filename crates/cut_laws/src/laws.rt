@@ -10,7 +10,7 @@ ghost use Rattle.mate_journal.specs.NodeRun.{IsNodeRun};
 ghost use Rattle.mate_journal.specs.NodeScript.{RunEnd, Step, Whole, Cut};
 ghost use Rattle.mate_journal.specs.declared.report.Report.{Report};
 ghost use Rattle.report_text.specs.Text.{text};
-ghost use Rattle.report_summary.specs.Writing.{IsWrittenPart};
+ghost use Rattle.report_text.specs.Writing.{IsWrittenPart};
 ghost use Rattle.world_rules.specs.Report.{IsWorldReport};
 ghost use Rattle.world_rules.specs.World.{world_of};
 ghost use Rattle.world_script.specs.declared.world.World.{World as Script};

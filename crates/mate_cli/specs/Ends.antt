@@ -25,9 +25,9 @@ use Rattle.mate_journal.specs.NodeScript.{Whole, Full}
 use Rattle.mate_journal.specs.declared.report.Report.{Report}
 use Rattle.report_text.specs.Text.{text}
 use Rattle.run_steps.specs.Running.{IsReportOf}
-use Rattle.report_summary.specs.Writing.{OfRun, IsWrittenPart, IsWrittenShort, IsNothingRun}
-use Rattle.report_summary.specs.declared.write_fault.WriteFault.{WriteFault}
-use Rattle.report_summary.specs.declared.write_fault.WriteFault.TheVariants as fault
+use Rattle.report_text.specs.Writing.{OfRun, IsWrittenPart, IsWrittenShort, IsNothingRun}
+use Rattle.report_text.specs.declared.write_fault.WriteFault.{WriteFault}
+use Rattle.report_text.specs.declared.write_fault.WriteFault.TheVariants as fault
 use Rattle.vm_desc.specs.declared.description.Description.{Description}
 use Rattle.world_run_laws.specs.Promise.{IsReportOfWorld}
 

@@ -7,7 +7,7 @@ use Rattle.report_text.specs.Brief.{brief}
 use Rattle.mate_journal.specs.declared.report.Report.{Report}
 use Rattle.mate_refusals.specs.declared.refusal.Refusal.{Refusal}
 use Rattle.mate_steps.specs.Steps.{obtained, ◌▸◌}
-use Rattle.report_summary.specs.Writing.{OfRun, IsEnded}
+use Rattle.report_text.specs.Writing.{OfRun, IsEnded}
 use Rattle.run_steps.specs.Running.{IsScriptReport}
 use Rattle.vm_desc.specs.declared.description.Description.{Description}
 use Rattle.world_run_laws.specs.Promise.{IsReportOfWorld}

@@ -4,12 +4,12 @@ ghost use Rattle.std.specs.Prelude.{true};
 ghost use Rattle.mate_cli.specs.Ends.{IsTextWritten, IsOwedWritten, IsReportWritten, TellsEnd};
 ghost use Rattle.mate_documents.specs.Outputs.{CanBeWritten, HasPrograms, owed_of};
 ghost use Rattle.mate_documents.specs.Documents.{document_text, HasText};
-ghost use Rattle.report_summary.specs.Summary.{summary_text, IsSmall};
+ghost use Rattle.report_text.specs.Summary.{summary_text, IsSmall};
 
 use mate_documents::{Document, Output, Run};
 use mate_files::Sink;
 use mate_refusals::{Refusal, Status};
-use report_summary::{Summary, WriteFault, ended};
+use report_text::{Summary, WriteFault, ended};
 use run_steps::write_steps;
 use std::alloc::Global;
 use vm_desc::Description;

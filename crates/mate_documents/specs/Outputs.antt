@@ -8,7 +8,7 @@ use Rattle.mate_documents.specs.declared.output.Output.{Output}
 use Rattle.mate_documents.specs.declared.output.Output.TheVariants as output
 use Rattle.mate_documents.specs.declared.output.Run.{Run}
 use Rattle.mate_documents.specs.declared.output.Run.TheVariants as run_of
-use Rattle.report_summary.specs.Summary.{IsSmall, summary_text}
+use Rattle.report_text.specs.Summary.{IsSmall, summary_text}
 use Rattle.mate_refusals.specs.declared.refusal.Refusal.{Refusal}
 
 -- what is owed, of which this is the output

@@ -3,7 +3,7 @@
 use crate::boxed_machine::BoxedMachine;
 use crate::document::Document;
 use mate_journal::Programs;
-use report_summary::Summary;
+use report_text::Summary;
 use script_reader::Steps;
 use std::mem;
 use world_script::World;

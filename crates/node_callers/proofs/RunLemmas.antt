@@ -22,7 +22,7 @@ use Rattle.node_programs.specs.ScriptSteps.{steps_of}
 use Rattle.node_programs.specs.Sources.{meaning_by}
 use Rattle.report_text.specs.Text.{lines, text}
 use Rattle.run_steps.specs.Running.{RunGives, IsReportOf}
-use Rattle.report_summary.specs.Writing.{RunsInto, IsWrittenPart, written_text}
+use Rattle.report_text.specs.Writing.{RunsInto, IsWrittenPart, written_text}
 use Rattle.node_callers.specs.Runs.{IsStepIn, MakesThere, IsSeenLast}
 
 -- how a run ends

@@ -3,12 +3,12 @@
 ghost use Rattle.std.specs.Prelude.{◌≤◌};
 ghost use Rattle.node_programs.specs.ScriptSteps.{AreProgramsOf};
 ghost use Rattle.run_steps.specs.Running.{IsReportOf};
-ghost use Rattle.report_summary.specs.Writing.{RunsInto};
+ghost use Rattle.report_text.specs.Writing.{RunsInto};
 
 use crate::running::report_of;
 use mate_files::Sink;
 use mate_journal::{IntoFault, NodeLogs, Programs, Report};
-use report_summary::nothing_run;
+use report_text::nothing_run;
 use run_steps::heap_node::{HeapNode, Written};
 use run_steps::writing::write_run;
 use script_reader::Steps;

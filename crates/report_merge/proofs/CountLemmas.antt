@@ -11,8 +11,8 @@ use Rattle.report_text.specs.Brief.{is_entry, entries_of, one_if, versions, newe
 use Rattle.report_merge.specs.Counts.{holders_after}
 use Rattle.report_text.specs.declared.kinds.EntryKind.{EntryKind}
 use Rattle.report_text.proofs.EventLemmas.{fold-max_start}
-use Rattle.report_summary.proofs.CountLemmas.{count-next}
-use Rattle.report_summary.proofs.TallyLemmas.{one_if-most}
+use Rattle.report_text.proofs.CountLemmas.{count-next}
+use Rattle.report_text.proofs.TallyLemmas.{one_if-most}
 
 -- ---- counts of entries
 

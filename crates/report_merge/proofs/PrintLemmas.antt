@@ -13,9 +13,9 @@ use Rattle.report_text.specs.declared.kinds.EntryKind.{EntryKind}
 use Rattle.report_text.specs.declared.kinds.EntryKind.TheVariants as entry_kind
 use Rattle.report_text.specs.declared.kinds.AirKind.{AirKind}
 use Rattle.report_text.specs.declared.kinds.AirKind.TheVariants as air_kind
-use Rattle.report_summary.specs.Tally.{entries_counted, air_counted}
-use Rattle.report_summary.specs.declared.tally.EntryCounts.{EntryCounts}
-use Rattle.report_summary.specs.declared.tally.AirTally.{AirTally}
+use Rattle.report_text.specs.Tally.{entries_counted, air_counted}
+use Rattle.report_text.specs.declared.tally.EntryCounts.{EntryCounts}
+use Rattle.report_text.specs.declared.tally.AirTally.{AirTally}
 
 -- the piece of one more item
 pub Prints-push : {w0 w1 w2 : Option (List ℕ)} {f0 f1 f2 : ℕ} {r0 r1 r2 : Result (Unit {0}) SinkFault} {A : Type 0} (piece : A → List ℕ) (xs ys : List A) (x : A)

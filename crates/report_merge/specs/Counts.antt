@@ -3,8 +3,8 @@ use Rattle.std.specs.Prelude.{◌≡◌, ℕ, ◌+◌, ◌==◌, if◌then◌els
 use Rattle.mate_journal.specs.declared.entry.Stamped.{Stamped}
 use Rattle.report_text.specs.Brief.{is_entry, one_if}
 use Rattle.report_text.specs.declared.kinds.EntryKind.{EntryKind}
-use Rattle.report_summary.specs.Tally.{entries_counted}
-use Rattle.report_summary.specs.declared.tally.EntryCounts.{EntryCounts}
+use Rattle.report_text.specs.Tally.{entries_counted}
+use Rattle.report_text.specs.declared.tally.EntryCounts.{EntryCounts}
 
 -- entries are added to the counts, each to that of its kind
 abbrev pub CountsEntries : EntryCounts → EntryCounts → List Stamped → Type 0

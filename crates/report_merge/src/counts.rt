@@ -5,11 +5,11 @@ ghost use Rattle.mate_num.specs.declared.bounds.TheConstants.{NODES_MAX};
 ghost use Rattle.report_text.specs.Text.{records};
 ghost use Rattle.report_text.specs.Brief.{entries_of};
 ghost use Rattle.report_text.specs.declared.kinds.EntryKind.{EntryKind as Kind};
-ghost use Rattle.report_summary.specs.Tally.{entries_counted, CountsUpTo};
+ghost use Rattle.report_text.specs.Tally.{entries_counted, CountsUpTo};
 ghost use Rattle.report_merge.specs.Counts.{CountsEntries};
 
 use mate_journal::{NodeLog, Report, Stamped};
-use report_summary::EntryCounts;
+use report_text::EntryCounts;
 
 /// The counts of the logs' entries.
 pub fn entry_counts(logs: &[NodeLog]) -> EntryCounts

@@ -13,10 +13,10 @@ use crate::counts::{count_records, entry_counts};
 use mate_files::{Pen, Sink, SinkFault};
 use mate_journal::{Entry, NodeLog, Report};
 use mate_num::HandlerId;
-use report_summary::{AirTally, Versions, text_of_counts};
 use report_text::entry_line::handler_name;
 use report_text::text::end_word;
 use report_text::words::{number, word};
+use report_text::{AirTally, Versions, text_of_counts};
 use vm_desc::Description;
 
 /// Writes the summary of a tidy report: how many nodes, events and records it has, and how many records of each

@@ -6,3 +6,8 @@ pub mod QuietReport
 pub mod PieceLemmas
 pub mod NodeLemmas
 pub mod BriefLemmas
+pub mod CountLemmas
+pub mod TallyLemmas
+pub mod SummaryLemmas
+pub mod WritingLemmas
+pub mod KeptLines

@@ -5,3 +5,7 @@ pub mod Progress
 pub mod Pieces
 pub mod Chunk
 pub mod Brief
+pub mod Tally
+pub mod Summary
+pub mod Runs
+pub mod Writing

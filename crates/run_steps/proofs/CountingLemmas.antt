@@ -5,9 +5,9 @@ use Rattle.mate_journal.specs.Log.{Log, GoesOn}
 use Rattle.mate_journal.specs.OpenLog.{Gone, IsKept, nothing_gone, gone_of}
 use Rattle.mate_journal.specs.declared.entry.Stamped.{Stamped}
 use Rattle.open_node.specs.View.{NodeView, IsSameNode}
-use Rattle.report_summary.specs.Tally.{IsUpTo, IsLogTally}
-use Rattle.report_summary.specs.declared.tally.LogTally.{LogTally}
-use Rattle.report_summary.proofs.TallyLemmas.{tally-same, tally-few, counted-kept}
+use Rattle.report_text.specs.Tally.{IsUpTo, IsLogTally}
+use Rattle.report_text.specs.declared.tally.LogTally.{LogTally}
+use Rattle.report_text.proofs.TallyLemmas.{tally-same, tally-few, counted-kept}
 
 -- ---- what is at hand
 

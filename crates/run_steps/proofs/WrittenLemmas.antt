@@ -40,11 +40,11 @@ use Rattle.mate_journal.specs.NodeReport.{is_whole}
 use Rattle.mate_journal.specs.declared.program.Program.{Program}
 use Rattle.run_steps.specs.Running.{report_with, stamp_at, HasRun, IsReportOf}
 use Rattle.run_steps.specs.Writing.{PassWrites}
-use Rattle.report_summary.specs.declared.pass.Pass.{Pass}
-use Rattle.report_summary.specs.Writing.{last_event, lines_before, last_line, write_fault_of, WritesReport, write_ended, HasWritten}
-use Rattle.report_summary.specs.declared.write_fault.WriteFault.{WriteFault}
-use Rattle.report_summary.specs.declared.write_fault.WriteFault.TheVariants.{NoMemory}
-use Rattle.report_summary.proofs.WritingLemmas.{behind-lines, stopped-within, cut-short}
+use Rattle.report_text.specs.declared.pass.Pass.{Pass}
+use Rattle.report_text.specs.Writing.{last_event, lines_before, last_line, write_fault_of, WritesReport, write_ended, HasWritten}
+use Rattle.report_text.specs.declared.write_fault.WriteFault.{WriteFault}
+use Rattle.report_text.specs.declared.write_fault.WriteFault.TheVariants.{NoMemory}
+use Rattle.report_text.proofs.WritingLemmas.{behind-lines, stopped-within, cut-short}
 
 -- the report of one log
 abbrev pub one : Log → Report

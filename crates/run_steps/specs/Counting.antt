@@ -2,10 +2,10 @@
 use Rattle.std.specs.Prelude.{ℕ, Bool, length, take}
 use Rattle.vm_desc.specs.declared.description.Description.{Description}
 use Rattle.open_node.specs.View.{NodeView}
-use Rattle.report_summary.specs.Tally.{IsLogTally}
-use Rattle.report_summary.specs.Summary.{IsSmall, SumsReport}
-use Rattle.report_summary.specs.declared.tally.LogTally.{LogTally}
-use Rattle.report_summary.specs.declared.summary.Summary.{Summary}
+use Rattle.report_text.specs.Tally.{IsLogTally}
+use Rattle.report_text.specs.Summary.{IsSmall, SumsReport}
+use Rattle.report_text.specs.declared.tally.LogTally.{LogTally}
+use Rattle.report_text.specs.declared.summary.Summary.{Summary}
 use Rattle.run_steps.specs.Running.{report_with}
 
 -- it is the summary of the node's report, if the tally counts all but what is at hand

@@ -5,8 +5,8 @@ use Rattle.script_reader.specs.Steps.{NodeScript}
 use Rattle.mate_journal.specs.Log.{Log}
 use Rattle.mate_journal.specs.declared.program.Program.{Program}
 use Rattle.run_steps.specs.Running.{IsReportOf, report_with}
-use Rattle.report_summary.specs.Writing.{WritesReport}
-use Rattle.report_summary.specs.declared.pass.Pass.{Pass}
+use Rattle.report_text.specs.Writing.{WritesReport}
+use Rattle.report_text.specs.declared.pass.Pass.{Pass}
 
 -- the node's log is that of the report of a run that was written so
 abbrev pub PassWrites : Description → NodeScript → List Program → Option (List ℕ) → Option (List ℕ) → ℕ → ℕ → Log → Pass → Type 0

@@ -3,8 +3,8 @@
 ghost use Rattle.std.specs.Prelude.{◌^◌, length, take, IfOk};
 ghost use Rattle.vm_desc.specs.declared.description.Description.{Description};
 ghost use Rattle.node_programs.specs.ScriptSteps.{AreProgramsOf};
-ghost use Rattle.report_summary.specs.Runs.{IsRunSummary};
-ghost use Rattle.report_summary.specs.Tally.{IsLogTally, IsUpTo};
+ghost use Rattle.report_text.specs.Runs.{IsRunSummary};
+ghost use Rattle.report_text.specs.Tally.{IsLogTally, IsUpTo};
 ghost use Rattle.run_steps.specs.Counting.{Sums};
 ghost use Rattle.run_steps.specs.Running.{IsReportOf};
 
@@ -13,7 +13,7 @@ use crate::running::is_full;
 use mate_journal::Programs;
 use mate_num::{NoMemory, Stamp};
 use open_node::SETTLING_ENTRIES;
-use report_summary::{LogTally, Summary};
+use report_text::{LogTally, Summary};
 use script_reader::Steps;
 use std::alloc::Global;
 use vm_desc::Description;

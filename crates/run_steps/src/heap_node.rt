@@ -18,7 +18,7 @@ ghost use Rattle.node_programs.specs.Right.{AreRightPrograms};
 ghost use Rattle.node_programs.specs.ScriptSteps.{step_of};
 ghost use Rattle.run_steps.specs.Running.{IsReadyFor, MakesOn};
 ghost use Rattle.mate_journal.specs.OpenLog.{gone_of, nothing_gone, IsKept};
-ghost use Rattle.report_summary.specs.Tally.{IsLogTally, IsUpTo};
+ghost use Rattle.report_text.specs.Tally.{IsLogTally, IsUpTo};
 ghost use Rattle.run_steps.specs.Keeping.{IsNewNode, StaysAsToldTo};
 
 use crate::events::make_step;
@@ -26,7 +26,7 @@ use journal_laws::{LogSize, log_is_in_range_from, stamp_is_in_range};
 use mate_journal::{NodeLog, Programs};
 use mate_num::{NoMemory, Stamp};
 use open_node::{OpenNode, SharedMachine};
-use report_summary::LogTally;
+use report_text::LogTally;
 use script_reader::Step;
 use std::alloc::Global;
 use std::marker::Model;

@@ -16,10 +16,10 @@ use Rattle.mate_journal.specs.Tidy.{NumbersInOrder, below}
 use Rattle.mate_files.specs.Sink.{Puts}
 use Rattle.mate_files.specs.declared.sink.SinkFault.{SinkFault}
 use Rattle.world_pieces.specs.declared.record.Record.{Record}
-use Rattle.report_summary.specs.Writing.{HasWritten, PutsLastLine, WritesReport, lines_before, last_line, write_fault_of}
-use Rattle.report_summary.specs.declared.pass.Pass.{Pass}
-use Rattle.report_summary.specs.declared.write_fault.WriteFault.{WriteFault}
-use Rattle.report_summary.proofs.WritingLemmas.{written-nothing, written-more, stopped-within, ended-whole}
+use Rattle.report_text.specs.Writing.{HasWritten, PutsLastLine, WritesReport, lines_before, last_line, write_fault_of}
+use Rattle.report_text.specs.declared.pass.Pass.{Pass}
+use Rattle.report_text.specs.declared.write_fault.WriteFault.{WriteFault}
+use Rattle.report_text.proofs.WritingLemmas.{written-nothing, written-more, stopped-within, ended-whole}
 use Rattle.mate_journal.specs.declared.air.Aired.{Aired}
 use Rattle.mate_journal.specs.declared.report.Report.{Report}
 use Rattle.mate_journal.specs.declared.program.Program.{Program}

@@ -13,8 +13,8 @@ use Rattle.open_node.proofs.KeptLemmas.{count-kept}
 use Rattle.radio_sim.specs.Radio.{Ether}
 use Rattle.report_reading.proofs.BackLemmas.{all_lines_same}
 use Rattle.report_text.specs.Text.{event_piece, lines}
-use Rattle.report_summary.proofs.KeptLines.{piece-kept}
-use Rattle.report_summary.proofs.WritingLemmas.{written-as}
+use Rattle.report_text.proofs.KeptLines.{piece-kept}
+use Rattle.report_text.proofs.WritingLemmas.{written-as}
 use Rattle.sim_mote.specs.declared.mote.Mote.{Mote}
 use Rattle.sim_run.specs.Keeping.{LetsGo}
 use Rattle.sim_run.specs.Reporting.{mote_logs}

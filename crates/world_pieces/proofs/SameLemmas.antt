@@ -15,9 +15,9 @@ use Rattle.report_reading.specs.Parts.{IsSameReport}
 use Rattle.report_reading.proofs.BackLemmas.{all_lines_same, text_same}
 use Rattle.report_text.specs.Text.{air_line, entry_lines, event_lines}
 use Rattle.world_pieces.proofs.RecordLemmas.{all-long}
-use Rattle.report_summary.specs.Writing.{OfRun, IsWrittenPart, IsWrittenShort, IsNothingRun, WritesReport, last_event, lines_before, written_text}
-use Rattle.report_summary.specs.declared.write_fault.WriteFault.{WriteFault}
-use Rattle.report_summary.specs.declared.write_fault.WriteFault.TheVariants.{LogFull, NoMemory, Sink}
+use Rattle.report_text.specs.Writing.{OfRun, IsWrittenPart, IsWrittenShort, IsNothingRun, WritesReport, last_event, lines_before, written_text}
+use Rattle.report_text.specs.declared.write_fault.WriteFault.{WriteFault}
+use Rattle.report_text.specs.declared.write_fault.WriteFault.TheVariants.{LogFull, NoMemory, Sink}
 use Rattle.report_reading.proofs.BackLemmas.{node_lines-same}
 use Rattle.vm_desc.specs.declared.description.Description.{Description}
 use Rattle.world_rules.specs.World.{World}

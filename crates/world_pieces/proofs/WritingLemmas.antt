@@ -10,11 +10,11 @@ use Rattle.mate_journal.specs.Tidy.{below}
 use Rattle.mate_files.specs.Sink.{Puts}
 use Rattle.mate_files.specs.declared.sink.SinkFault.{SinkFault}
 use Rattle.world_pieces.specs.declared.record.Record.{Record}
-use Rattle.report_summary.specs.Writing.{OfRun, PutsLastLine, lines_before, write_fault_of}
-use Rattle.report_summary.specs.declared.pass.Pass.{Pass}
-use Rattle.report_summary.specs.declared.write_fault.WriteFault.{WriteFault}
-use Rattle.report_summary.specs.declared.write_fault.WriteFault.TheVariants.{NoMemory}
-use Rattle.report_summary.proofs.WritingLemmas.{written-more, stopped-within, cut-short, ended-full}
+use Rattle.report_text.specs.Writing.{OfRun, PutsLastLine, lines_before, write_fault_of}
+use Rattle.report_text.specs.declared.pass.Pass.{Pass}
+use Rattle.report_text.specs.declared.write_fault.WriteFault.{WriteFault}
+use Rattle.report_text.specs.declared.write_fault.WriteFault.TheVariants.{NoMemory}
+use Rattle.report_text.proofs.WritingLemmas.{written-more, stopped-within, cut-short, ended-full}
 use Rattle.world_laws.proofs.EventLemmas.{all_stand, store_lines-next, store_lines-both}
 use Rattle.mate_journal.specs.declared.air.Aired.{Aired}
 use Rattle.mate_journal.specs.declared.program.Program.{Program}

@@ -6,9 +6,9 @@ use Rattle.mate_journal.specs.declared.air.Aired.{Aired}
 use Rattle.mate_journal.specs.declared.report.Report.{Report}
 use Rattle.report_text.specs.Text.{lines}
 use Rattle.world_pieces.specs.declared.record.Record.{Record}
-use Rattle.report_summary.specs.Writing.{OfRun, HasWritten, WritesReport}
-use Rattle.report_summary.specs.declared.pass.Pass.{Pass}
-use Rattle.report_summary.specs.declared.write_fault.WriteFault.{WriteFault}
+use Rattle.report_text.specs.Writing.{OfRun, HasWritten, WritesReport}
+use Rattle.report_text.specs.declared.pass.Pass.{Pass}
+use Rattle.report_text.specs.declared.write_fault.WriteFault.{WriteFault}
 use Rattle.vm_desc.specs.declared.description.Description.{Description}
 use Rattle.world_rules.specs.World.{World}
 use Rattle.world_rules.specs.State.{Moment, state}

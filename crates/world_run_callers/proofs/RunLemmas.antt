@@ -20,7 +20,7 @@ use Rattle.world_rules.specs.State.{Moment}
 use Rattle.world_rules.specs.World.{World}
 use Rattle.mate_files.specs.Sink.{Sent, SentPart, SentShort}
 use Rattle.report_text.specs.Text.{lines, text}
-use Rattle.report_summary.specs.Writing.{RunsInto, written_text}
+use Rattle.report_text.specs.Writing.{RunsInto, written_text}
 use Rattle.world_sim.specs.Promise.{IsReportOfWorld, WorldRunGives}
 use Rattle.world_state_laws.specs.SourceWorld.{source_world}
 use Rattle.world_run_callers.specs.Runs.{CameWithRoom, EndsSeen, HaveOwnEvents, IsFullBehind}

@@ -7,13 +7,13 @@ use Rattle.report_reading.specs.Parts.{IsSameReport}
 use Rattle.mate_journal.specs.declared.program.Program.{Program}
 use Rattle.node_programs.specs.WorldPrograms.{AreProgramsOfWorld}
 use Rattle.world_pieces.specs.declared.record.Record.{Record}
-use Rattle.report_summary.specs.declared.pass.Pass.{Pass}
+use Rattle.report_text.specs.declared.pass.Pass.{Pass}
 use Rattle.world_run_laws.specs.Promise.{IsReportOfWorld}
 use Rattle.world_script.specs.declared.world.World.{World as Script}
 use Rattle.sim_run.specs.Reporting.{told_report}
 use Rattle.world_state_laws.specs.Coming.{code_world}
 use Rattle.world_pieces.specs.Writing.{WritesRecorded}
-use Rattle.report_summary.specs.Writing.{WritesReport}
+use Rattle.report_text.specs.Writing.{WritesReport}
 use Rattle.vm_desc.specs.declared.description.Description.{Description}
 use Rattle.world_rules.specs.Report.{IsWorldReport}
 use Rattle.world_pieces.proofs.SameLemmas.{gives-as, report-as, ranges-as}

@@ -1,7 +1,7 @@
 //! The run of a world whose lines are written as its events end, and whose report may be handed out.
 
 ghost use Rattle.std.specs.Prelude.{◌≤◌, ◌<◌, Some, IfOk, Err};
-ghost use Rattle.report_summary.specs.Writing.{RunsInto};
+ghost use Rattle.report_text.specs.Writing.{RunsInto};
 ghost use Rattle.node_programs.specs.WorldPrograms.{AreProgramsOfWorld};
 ghost use Rattle.world_pieces.specs.Writing.{StartsRecorded};
 ghost use Rattle.world_run_laws.specs.Promise.{IsReportOfWorld};
@@ -10,7 +10,7 @@ ghost use Rattle.world_state_laws.specs.Coming.{code_world};
 use mate_files::Sink;
 use mate_journal::{IntoFault, Programs, Report};
 use mate_num::NoMemory;
-use report_summary::nothing_run;
+use report_text::nothing_run;
 use sim_run::Simulation;
 use std::alloc::Global;
 use vm_desc::Description;

@@ -12,14 +12,14 @@ use Rattle.mate_journal.specs.Log.{IsEmpty}
 use Rattle.mate_journal.specs.OpenLog.{Gone}
 use Rattle.mate_journal.specs.declared.entry.Stamped.{Stamped}
 use Rattle.radio_sim.specs.Radio.{Ether}
-use Rattle.report_summary.specs.Runs.{IsRunSummary}
-use Rattle.report_summary.specs.Summary.{IsNewTally}
-use Rattle.report_summary.specs.Tally.{IsLogTally, AreLogTallies, IsAirTally, IsUpTo, IsAirTallyUpTo}
-use Rattle.report_summary.specs.declared.summary.RunTally.{RunTally}
-use Rattle.report_summary.specs.declared.summary.Summary.{Summary}
-use Rattle.report_summary.specs.declared.tally.LogTally.{LogTally}
-use Rattle.report_summary.proofs.TallyLemmas.{tally-same, tally-few, up-to, air-same, air-few}
-use Rattle.report_summary.specs.Writing.{OfRun, IsEnded}
+use Rattle.report_text.specs.Runs.{IsRunSummary}
+use Rattle.report_text.specs.Summary.{IsNewTally}
+use Rattle.report_text.specs.Tally.{IsLogTally, AreLogTallies, IsAirTally, IsUpTo, IsAirTallyUpTo}
+use Rattle.report_text.specs.declared.summary.RunTally.{RunTally}
+use Rattle.report_text.specs.declared.summary.Summary.{Summary}
+use Rattle.report_text.specs.declared.tally.LogTally.{LogTally}
+use Rattle.report_text.proofs.TallyLemmas.{tally-same, tally-few, up-to, air-same, air-few}
+use Rattle.report_text.specs.Writing.{OfRun, IsEnded}
 use Rattle.mate_num.proofs.ListLemmas.{all-at}
 use Rattle.world_rules.specs.World.{World}
 use Rattle.world_rules.specs.State.{Moment}

@@ -1,8 +1,8 @@
 -- The run of a world that is counted as its events end.
 use Rattle.std.specs.Prelude.{◌≡◌, ◌≢◌, ◌+◌, ◌*◌, ◌^◌, ℕ, List, length, take, slice_get, Some, All}
-use Rattle.report_summary.specs.Tally.{IsLogTally, IsAirTally, IsUpTo, IsAirTallyUpTo}
-use Rattle.report_summary.specs.declared.summary.RunTally.{RunTally}
-use Rattle.report_summary.specs.declared.tally.LogTally.{LogTally}
+use Rattle.report_text.specs.Tally.{IsLogTally, IsAirTally, IsUpTo, IsAirTallyUpTo}
+use Rattle.report_text.specs.declared.summary.RunTally.{RunTally}
+use Rattle.report_text.specs.declared.tally.LogTally.{LogTally}
 use Rattle.world_rules.specs.World.{World}
 use Rattle.sim_mote.specs.declared.mote.Mote.{Mote}
 use Rattle.sim_run.specs.Ranging.{AreInRange}

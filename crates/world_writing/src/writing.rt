@@ -2,7 +2,7 @@
 
 ghost use Rattle.std.specs.Prelude.{◌≡◌, ◌≤◌, ◌<◌, ◌+◌, Some, OnOk, Err, false};
 ghost use Rattle.mate_journal.specs.Log.{IsEmpty};
-ghost use Rattle.report_summary.specs.Writing.{WritesRun};
+ghost use Rattle.report_text.specs.Writing.{WritesRun};
 ghost use Rattle.world_rules.specs.Report.{IsWorldReport};
 ghost use Rattle.world_state_laws.specs.Coming.{code_world};
 ghost use Rattle.node_programs.specs.WorldPrograms.{AreProgramsOfWorld};
@@ -20,7 +20,7 @@ use mate_files::Sink;
 use mate_journal::{NodeLog, Programs, RECORDS_MAX};
 use mate_num::Stamp;
 use radio_sim::Event;
-use report_summary::{Pass, WriteFault, stopped};
+use report_text::{Pass, WriteFault, stopped};
 use sim_event::step;
 use sim_mote::Effect;
 use sim_run::{Simulation, Written};

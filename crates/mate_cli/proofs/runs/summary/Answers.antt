@@ -2,17 +2,17 @@
 use Rattle.std.proofs.Common.{ℕ, Bool, true, List, Ok, Err, sym, inl, inr, refl, ◌∙◌, ap, subst}
 use Rattle.vm_desc.specs.declared.description.Description.{Description}
 use Rattle.mate_documents.specs.Owed.{a_text}
-use Rattle.report_summary.specs.Summary.{summary_text}
-use Rattle.report_summary.specs.declared.summary.Summary.{Summary}
+use Rattle.report_text.specs.Summary.{summary_text}
+use Rattle.report_text.specs.declared.summary.Summary.{Summary}
 use Rattle.mate_steps.specs.Steps.{goes_on, stops}
 use Rattle.mate_refusals.specs.declared.refusal.Refusal.TheVariants.{NoMemory}
-use Rattle.report_summary.specs.Runs.{IsRunSummary}
-use Rattle.report_summary.proofs.SummaryLemmas.{text-same}
+use Rattle.report_text.specs.Runs.{IsRunSummary}
+use Rattle.report_text.proofs.SummaryLemmas.{text-same}
 use Rattle.mate_journal.specs.declared.program.Program.{Program}
 use Rattle.mate_journal.specs.declared.report.Report.{Report}
 use Rattle.mate_documents.specs.declared.output.Run.{Run}
 use Rattle.mate_documents.specs.declared.output.Run.TheVariants as run
-use Rattle.report_summary.specs.Writing.{OfRun, IsEnded}
+use Rattle.report_text.specs.Writing.{OfRun, IsEnded}
 use Rattle.run_steps.specs.Running.{IsScriptReport, IsReportOf}
 use Rattle.script_reader.specs.Steps.{NodeScript}
 use Rattle.world_run_laws.specs.Promise.{IsReportOfWorld}

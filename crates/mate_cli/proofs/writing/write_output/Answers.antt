@@ -3,7 +3,7 @@ use Rattle.mate_cli.specs.Ends.{Sinks, IsTextWritten, IsOwedWritten}
 use Rattle.vm_desc.specs.declared.description.Description.{Description}
 use Rattle.mate_documents.specs.Outputs.{CanBeWritten, owed_of}
 use Rattle.mate_documents.specs.declared.output.Output.{Output}
-use Rattle.report_summary.specs.Summary.{summary_text}
+use Rattle.report_text.specs.Summary.{summary_text}
 use Rattle.mate_cli.proofs.writing.write_output.Goals as goal
 
 pub returns-in-Document : goal.returns-in-Document

@@ -1,6 +1,6 @@
 use Rattle.std.proofs.Common.{refl, ◌∙◌, inl}
 use Rattle.run_steps.specs.Running.{IsReportOf, report_with}
-use Rattle.report_summary.proofs.WritingLemmas.{given-whole, given-fault}
+use Rattle.report_text.proofs.WritingLemmas.{given-whole, given-fault}
 use Rattle.node_runs.proofs.writing.run_steps_into.Goals as goal
 
 pub returns-in_default-clause-gives : goal.returns-in_default-clause-gives

@@ -3,8 +3,8 @@ use Rattle.std.specs.Prelude.{count_by, ◌+◌, List}
 use Rattle.std.proofs.lemmas.List.{take_all}
 use Rattle.mate_journal.specs.declared.entry.Stamped.{Stamped}
 use Rattle.report_text.specs.Brief.{is_entry}
-use Rattle.report_summary.specs.Tally.{entries_counted}
-use Rattle.report_summary.proofs.TallyLemmas.{one-entry}
+use Rattle.report_text.specs.Tally.{entries_counted}
+use Rattle.report_text.proofs.TallyLemmas.{one-entry}
 use Rattle.report_merge.proofs.CountLemmas.{counted-start, counted-next}
 use Rattle.report_merge.proofs.counts.add_entries.Goals as goal
 

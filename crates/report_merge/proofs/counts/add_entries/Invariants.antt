@@ -1,5 +1,5 @@
 use Rattle.report_text.specs.Brief.{is_entry}
-use Rattle.report_summary.specs.Tally.{entries_counted}
+use Rattle.report_text.specs.Tally.{entries_counted}
 use Rattle.report_text.specs.declared.kinds.EntryKind.{EntryKind}
 use Rattle.report_merge.proofs.CountLemmas.{AreCounted}
 use Rattle.report_merge.proofs.counts.add_entries.Given as goal

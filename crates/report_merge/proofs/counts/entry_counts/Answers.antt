@@ -3,8 +3,8 @@ use Rattle.std.specs.Prelude.{count_by}
 use Rattle.std.proofs.lemmas.List.{take_all}
 use Rattle.mate_journal.specs.declared.entry.Stamped.{Stamped}
 use Rattle.report_text.specs.Brief.{is_entry, entries_of}
-use Rattle.report_summary.specs.Tally.{entries_counted}
-use Rattle.report_summary.proofs.TallyLemmas.{no-entries}
+use Rattle.report_text.specs.Tally.{entries_counted}
+use Rattle.report_text.proofs.TallyLemmas.{no-entries}
 use Rattle.report_merge.proofs.CountLemmas.{entries-next, entries-most}
 use Rattle.report_merge.proofs.counts.entry_counts.Goals as goal
 

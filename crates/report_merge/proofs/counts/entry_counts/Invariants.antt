@@ -1,6 +1,6 @@
 use Rattle.std.proofs.Common.{◌≡◌, ◌*◌, ◌^◌, take}
 use Rattle.report_text.specs.Brief.{entries_of}
-use Rattle.report_summary.specs.Tally.{entries_counted, CountsUpTo}
+use Rattle.report_text.specs.Tally.{entries_counted, CountsUpTo}
 use Rattle.report_text.specs.declared.kinds.EntryKind.{EntryKind}
 use Rattle.report_merge.proofs.counts.entry_counts.Given as goal
 

@@ -2,7 +2,7 @@ use Rattle.std.proofs.Common.{◌^◌, List, ◌≤◌, [], length, ap, sym, sub
 use Rattle.mate_files.proofs.PenLemmas.{Prints-by}
 use Rattle.mate_journal.specs.Log.{Log}
 use Rattle.report_text.specs.Brief.{entries_of, air_of}
-use Rattle.report_summary.proofs.TallyLemmas.{air-few}
+use Rattle.report_text.proofs.TallyLemmas.{air-few}
 use Rattle.report_merge.proofs.PrintLemmas.{same-counts}
 use Rattle.report_merge.proofs.summary.count_lines.Goals as goal
 

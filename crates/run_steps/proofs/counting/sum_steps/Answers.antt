@@ -5,9 +5,9 @@ use Rattle.mate_journal.specs.NodeScript.{Whole, Full}
 use Rattle.mate_journal.specs.declared.entry.Stamped.{Stamped}
 use Rattle.mate_journal.specs.declared.report.TheConstants.{RECORDS_MAX}
 use Rattle.node_programs.specs.Right.{AreRightPrograms}
-use Rattle.report_summary.specs.Runs.{IsRunSummary}
-use Rattle.report_summary.specs.Tally.{IsLogTally}
-use Rattle.report_summary.proofs.TallyLemmas.{tally-few}
+use Rattle.report_text.specs.Runs.{IsRunSummary}
+use Rattle.report_text.specs.Tally.{IsLogTally}
+use Rattle.report_text.proofs.TallyLemmas.{tally-few}
 use Rattle.run_steps.specs.Counting.{Sums}
 use Rattle.run_steps.specs.Running.{IsReportOf, report_with}
 use Rattle.run_steps.proofs.CountingLemmas.{tally-fresh, tally-before, tally-most, if_ok}

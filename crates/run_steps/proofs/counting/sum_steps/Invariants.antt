@@ -1,5 +1,5 @@
 use Rattle.std.proofs.Common.{◌≡◌, take, length}
-use Rattle.report_summary.specs.Tally.{IsLogTally}
+use Rattle.report_text.specs.Tally.{IsLogTally}
 use Rattle.run_steps.specs.Running.{HasRun}
 use Rattle.run_steps.proofs.counting.sum_steps.Given as goal
 

@@ -1,8 +1,8 @@
 use Rattle.std.proofs.Common.{◌+◌, ◌*◌, ◌^◌, length, arith}
-use Rattle.report_summary.proofs.SummaryLemmas.{node-summary, node-small}
-use Rattle.report_summary.specs.Summary.{IsOfNode}
+use Rattle.report_text.proofs.SummaryLemmas.{node-summary, node-small}
+use Rattle.report_text.specs.Summary.{IsOfNode}
 use Rattle.run_steps.specs.Counting.{Sums}
-use Rattle.report_summary.proofs.TallyLemmas.{up-to}
+use Rattle.report_text.proofs.TallyLemmas.{up-to}
 use Rattle.run_steps.proofs.CountingLemmas.{if_ok}
 use Rattle.run_steps.proofs.counting.summary_of.Goals as goal
 

@@ -5,7 +5,7 @@ use Rattle.mate_files.specs.Sink.{Puts}
 use Rattle.mate_files.proofs.SinkLemmas.{Puts-nil}
 use Rattle.mate_journal.specs.declared.entry.Stamped.{Stamped}
 use Rattle.open_node.proofs.KeptLemmas.{count-kept}
-use Rattle.report_summary.proofs.KeptLines.{piece-kept}
+use Rattle.report_text.proofs.KeptLines.{piece-kept}
 use Rattle.report_text.specs.Text.{event_piece, entry_line}
 use Rattle.run_steps.proofs.writing.write_new.Goals as goal
 

@@ -11,8 +11,8 @@ use Rattle.mate_journal.specs.OpenLog.{Gone}
 use Rattle.report_text.specs.Text.{lines, event_lines}
 use Rattle.run_steps.specs.Running.{IsReportOf, report_with}
 use Rattle.run_steps.specs.Writing.{PassWrites}
-use Rattle.report_summary.specs.declared.pass.Pass.{Pass}
-use Rattle.report_summary.proofs.WritingLemmas.{written-nothing, written-more, written-as, ended-whole, ended-full}
+use Rattle.report_text.specs.declared.pass.Pass.{Pass}
+use Rattle.report_text.proofs.WritingLemmas.{written-nothing, written-more, written-as, ended-whole, ended-full}
 use Rattle.run_steps.proofs.KeptLemmas.{stays-first, stays-then, stays-back}
 use Rattle.run_steps.proofs.RunLemmas.{HasRun-new, HasRun-same, HasRun-step, timely-at, timely-next, few-entries, few-events, run-whole, run-full, run-cut, reported, keeps-by, ok-room, right-step, few-contexts}
 use Rattle.run_steps.proofs.WrittenLemmas.{one, lines-none, lines-room, lines-last, event-written, stops-within, stops-before, last-put}

@@ -1,5 +1,5 @@
 use Rattle.std.proofs.Common.{◌≡◌, take}
-use Rattle.report_summary.specs.Writing.{HasWritten}
+use Rattle.report_text.specs.Writing.{HasWritten}
 use Rattle.report_text.specs.Text.{lines}
 use Rattle.run_steps.specs.Running.{HasRun}
 use Rattle.run_steps.specs.Keeping.{StaysAsToldTo}

@@ -1,6 +1,6 @@
 use Rattle.std.proofs.Common.{Result, ap}
-use Rattle.report_summary.specs.declared.pass.Pass.{Pass}
-use Rattle.report_summary.specs.declared.write_fault.WriteFault.{WriteFault}
+use Rattle.report_text.specs.declared.pass.Pass.{Pass}
+use Rattle.report_text.specs.declared.write_fault.WriteFault.{WriteFault}
 use Rattle.world_pieces.proofs.writing.end_with.Goals as goal
 
 pub returns : goal.returns

@@ -1,7 +1,7 @@
 use Rattle.std.proofs.Common.{◌≡◌, ◌<◌, ℕ, suc, ◌+◌, List, length, Ok, Err, refl, sym, ap, subst, arith, All, true}
 use Rattle.mate_files.specs.Sink.{Puts}
 use Rattle.mate_journal.specs.NodeScript.{Whole}
-use Rattle.report_summary.specs.declared.pass.Pass.{Pass}
+use Rattle.report_text.specs.declared.pass.Pass.{Pass}
 use Rattle.sim_mote.specs.declared.mote.Mote.{Mote}
 use Rattle.world_laws.specs.EventText.{store_lines}
 use Rattle.sim_run.specs.Reporting.{mote_logs}
@@ -10,7 +10,7 @@ use Rattle.sim_run.specs.declared.simulation.Simulation.{Simulation}
 use Rattle.world_state_laws.specs.Coming.{code_world}
 use Rattle.sim_run.proofs.RangeLemmas.{report-ranges, few-of}
 use Rattle.sim_run.proofs.WorldLemmas.{all-timely}
-use Rattle.report_summary.specs.Writing.{PutsLastLine}
+use Rattle.report_text.specs.Writing.{PutsLastLine}
 use Rattle.world_pieces.specs.Recording.{AreStoresBefore, AreStoresRecorded}
 use Rattle.world_pieces.specs.Writing.{EndsSo, report_of}
 use Rattle.world_pieces.proofs.HandLemmas.{still-written}

@@ -1,5 +1,5 @@
 use Rattle.std.proofs.Common.{take}
-use Rattle.report_summary.proofs.TallyLemmas.{counted-kept}
+use Rattle.report_text.proofs.TallyLemmas.{counted-kept}
 use Rattle.world_summary.proofs.counting.count_kept.Goals as goal
 
 pub returns : goal.returns

@@ -1,7 +1,7 @@
 use Rattle.std.proofs.Common.{◌≡◌, ◌+◌, ℕ, suc, true, List, length, refl, sym, ap, subst, arith, inl}
 use Rattle.mate_num.specs.declared.call.Stamp.{Stamp}
 use Rattle.mate_journal.specs.NodeScript.{Whole}
-use Rattle.report_summary.specs.declared.summary.RunTally.{RunTally}
+use Rattle.report_text.specs.declared.summary.RunTally.{RunTally}
 use Rattle.world_run_laws.specs.Promise.{IsReportOfWorld}
 use Rattle.sim_run.specs.Reporting.{told_report}
 use Rattle.sim_run.specs.Telling.{LogsAreKept}

@@ -2,7 +2,7 @@ use Rattle.std.proofs.Common.{◌≡◌, ℕ, ◌≤◌, lit<, false, length, re
 use Rattle.mate_journal.specs.NodeScript.{Whole, Full}
 use Rattle.radio_sim.specs.Radio.{Ether}
 use Rattle.world_pieces.proofs.RecordLemmas.{all-self}
-use Rattle.report_summary.specs.declared.pass.Pass.{Pass}
+use Rattle.report_text.specs.declared.pass.Pass.{Pass}
 use Rattle.world_rules.specs.Report.{IsWorldReport}
 use Rattle.world_state_laws.specs.Coming.{code_world}
 use Rattle.sim_run.specs.Reporting.{mote_logs}

@@ -1,5 +1,5 @@
 use Rattle.std.proofs.Common.{◌≡◌, ◌-◌, length, sym, subst, arith}
-use Rattle.report_summary.specs.declared.pass.Pass.{Pass}
+use Rattle.report_text.specs.declared.pass.Pass.{Pass}
 use Rattle.world_state_laws.specs.Coming.{code_world}
 use Rattle.sim_run.proofs.RangeLemmas.{left-ranges, few-before}
 use Rattle.sim_run.proofs.KeepingLemmas.{few-after, left-stands}

@@ -1,5 +1,5 @@
 use Rattle.std.proofs.Common.{◌^◌, arith}
-use Rattle.report_summary.proofs.TallyLemmas.{up-to}
+use Rattle.report_text.proofs.TallyLemmas.{up-to}
 use Rattle.open_node.proofs.CallLemmas.{same-on}
 use Rattle.run_steps.proofs.heap_node.HeapNode.count.Goals as goal
 

@@ -1,4 +1,0 @@
-pub mod Tally
-pub mod Summary
-pub mod Runs
-pub mod Writing
