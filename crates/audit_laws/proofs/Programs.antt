@@ -23,8 +23,8 @@ use Rattle.mate_num.proofs.ListLemmas.{all-at}
 use Rattle.world_laws.specs.Versions.{WasInjected}
 use Rattle.world_laws.proofs.Versions.{installs_injected}
 use Rattle.world_laws.proofs.Premises.{SaysInject, says-inject, plans_rightly}
-use Rattle.world_state_laws.proofs.Programs.{right-script}
-use Rattle.world_state_laws.specs.SourceWorld.{source_world}
+use Rattle.world_run_laws.proofs.Programs.{right-script}
+use Rattle.world_run_laws.specs.SourceWorld.{source_world}
 use Rattle.audit_rules.specs.Laws.{IsOneOf}
 use Rattle.audit_laws.specs.NodeInstalls.{IsInstallOf, InstallPrograms}
 

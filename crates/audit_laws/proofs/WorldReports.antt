@@ -16,7 +16,7 @@ use Rattle.world_rules.specs.State.{Moment, effect_at, state}
 use Rattle.world_rules.specs.Run.{HaveCome, IsJournalOf, journal}
 use Rattle.world_rules.specs.Report.{IsLogOf, IsWorldReport}
 use Rattle.world_laws.proofs.JournalRules.{journal-along}
-use Rattle.world_state_laws.specs.SourceWorld.{source_world}
+use Rattle.world_run_laws.specs.SourceWorld.{source_world}
 use Rattle.audit_rules.specs.Laws.{IsOneOf, InstallsProgram}
 use Rattle.audit_rules.specs.Verdicts.{LogKeepsAll, IsVerdict}
 use Rattle.mate_journal.specs.declared.law.Verdict.TheVariants.{Serial}

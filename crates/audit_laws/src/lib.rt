@@ -19,7 +19,7 @@ ghost use Rattle.report_reading.specs.Parts.{IsSameReport};
 ghost use Rattle.report_reading.specs.Reads.{ReadsReport};
 ghost use Rattle.report_reading.specs.declared.fault.TextFault.{TextFault};
 ghost use Rattle.world_rules.specs.Report.{IsWorldReport};
-ghost use Rattle.world_state_laws.specs.SourceWorld.{source_world};
+ghost use Rattle.world_run_laws.specs.SourceWorld.{source_world};
 ghost use Rattle.audit_rules.specs.Verdicts.{IsVerdict};
 ghost use Rattle.mate_journal.specs.declared.law.Verdict.{Verdict};
 ghost use Rattle.mate_journal.specs.declared.law.Verdict.TheVariants.{Serial};

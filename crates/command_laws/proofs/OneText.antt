@@ -23,7 +23,7 @@ use Rattle.world_rules.specs.Report.{IsWorldReport}
 use Rattle.world_rules.specs.World.{World as Rules}
 use Rattle.world_script.specs.World.{IsRightWorld}
 use Rattle.world_script.specs.declared.world.World.{World}
-use Rattle.world_state_laws.specs.SourceWorld.{source_world}
+use Rattle.world_run_laws.specs.SourceWorld.{source_world}
 use Rattle.world_run_laws.specs.Promise.{IsReportOfWorld}
 
 pub itself : (full : Bool) → EndsByItself (run_end full)

@@ -9,7 +9,7 @@ use Rattle.node_programs.specs.Sources.{meaning_by}
 use Rattle.script_reader.specs.Steps.{NodeScript}
 use Rattle.vm_desc.specs.declared.description.Description.{Description}
 use Rattle.world_script.specs.declared.world.World.{World}
-use Rattle.world_state_laws.specs.SourceWorld.{source_world}
+use Rattle.world_run_laws.specs.SourceWorld.{source_world}
 
 -- the same steps, on the same machine, with programs that mean the same
 pub record IsSameNodeRun (d d' : Description) (script script' : NodeScript) (ps ps' : List Program) : Type 0 where

@@ -31,8 +31,8 @@ use Rattle.world_rules.specs.State.{Moment, state, timer_after, is_some_length}
 use Rattle.world_laws.specs.Times.{last_time}
 use Rattle.world_laws.proofs.Timers.{timer_begun}
 use Rattle.sim_air.specs.Air.{radio_event}
-use Rattle.world_state_laws.specs.Coming.{code_world, IsExpected, MayComeTo}
-use Rattle.world_state_laws.specs.Sound.{IsSoundNode, HasWellFormed, NextMayCome, NodesAreSound}
+use Rattle.world_run_laws.specs.Coming.{code_world, IsExpected, MayComeTo}
+use Rattle.world_run_laws.specs.Sound.{IsSoundNode, HasWellFormed, NextMayCome, NodesAreSound}
 use Rattle.sim_mote.specs.Standing.{IsMoteOf}
 use Rattle.sim_handling.specs.Handling.{IsFitEvent, IsOpenExchange, IsPaced, Handled}
 use Rattle.sim_mote.specs.Motes.{IsTellable}

@@ -22,7 +22,7 @@ use Rattle.world_rules.specs.Run.{MayCome, DeedMakes, stamp_of, airs, journal}
 use Rattle.world_laws.proofs.Points.{nodes-here}
 use Rattle.world_laws.proofs.Journals.{journal-here}
 use Rattle.sim_air.specs.Air.{aired_at}
-use Rattle.world_state_laws.specs.Coming.{code_world}
+use Rattle.world_run_laws.specs.Coming.{code_world}
 use Rattle.sim_mote.specs.Standing.{IsMoteOf, IsTakenFrom}
 use Rattle.sim_handling.specs.Handling.{Handled}
 use Rattle.sim_mote.specs.declared.effect.Effect.{Effect}

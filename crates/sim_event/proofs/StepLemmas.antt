@@ -33,8 +33,8 @@ use Rattle.world_rules.specs.Run.{stamp_of, airs, journal}
 use Rattle.world_laws.proofs.Points.{nodes-other}
 use Rattle.world_laws.proofs.Journals.{journal-here, journal-other}
 use Rattle.sim_air.specs.Air.{radio_event, aired_at}
-use Rattle.world_state_laws.specs.Coming.{code_world, IsExpected}
-use Rattle.world_state_laws.specs.Sound.{HasWellFormed, NextMayCome, AreOfNodes, DuesAreOfNodes}
+use Rattle.world_run_laws.specs.Coming.{code_world, IsExpected}
+use Rattle.world_run_laws.specs.Sound.{HasWellFormed, NextMayCome, AreOfNodes, DuesAreOfNodes}
 use Rattle.sim_mote.specs.Standing.{IsMoteOf}
 use Rattle.sim_mote.specs.declared.mote.Mote.{Mote}
 use Rattle.sim_run.specs.Standing.{IsMoteAfter}

@@ -10,7 +10,7 @@ use Rattle.world_rules.specs.Effect.{event_node}
 use Rattle.world_rules.specs.State.{Moment, state}
 use Rattle.world_rules.specs.Run.{IsNext, MayCome, HaveCome, airs}
 use Rattle.sim_air.specs.Air.{radio_event}
-use Rattle.world_state_laws.specs.Sound.{HaveFitMessages}
+use Rattle.world_run_laws.specs.Sound.{HaveFitMessages}
 use Rattle.sim_mote.specs.Standing.{IsTakenFrom}
 use Rattle.sim_mote.specs.declared.mote.Mote.{Mote}
 use Rattle.sim_run.specs.Standing.{IsRadioAfter, IsMoteAfter, coming}

@@ -3,7 +3,7 @@
 ghost use Rattle.std.specs.Prelude.{◌≡◌, List, OnOk};
 ghost use Rattle.world_rules.specs.Cause.{Cause};
 ghost use Rattle.world_rules.specs.State.{Moment};
-ghost use Rattle.world_state_laws.specs.Coming.{code_world};
+ghost use Rattle.world_run_laws.specs.Coming.{code_world};
 ghost use Rattle.node_programs.specs.WorldPrograms.{AreProgramsOfWorld};
 ghost use Rattle.sim_event.specs.Performing.{MayPerform, Performed};
 ghost use Rattle.sim_mote.specs.Motes.{plain_effect};
@@ -16,8 +16,8 @@ use sim_finish::finish::finish;
 use sim_handling::handle;
 use sim_mote::{Effect, Mote};
 use vm_desc::Description;
+use world_run_laws::states_are_sound;
 use world_script::World;
-use world_state_laws::states_are_sound;
 
 /// An event that was due comes to its node, which then has turns until nobody is ready there. The effect is nothing before
 /// it, and again after it; after `NoMemory` nothing is said.

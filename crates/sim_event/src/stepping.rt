@@ -3,7 +3,7 @@
 ghost use Rattle.std.specs.Prelude.{◌≡◌, ◌+◌, IfOk, OnOk};
 ghost use Rattle.mate_journal.specs.Log.{IsEmpty};
 ghost use Rattle.sim_mote.specs.Motes.{plain_effect};
-ghost use Rattle.world_state_laws.specs.Coming.{code_world};
+ghost use Rattle.world_run_laws.specs.Coming.{code_world};
 ghost use Rattle.node_programs.specs.WorldPrograms.{AreProgramsOfWorld};
 ghost use Rattle.sim_run.specs.Running.{StandsAfter, StandsAtNext};
 ghost use Rattle.sim_run.specs.Ranging.{AreInRange};
@@ -19,8 +19,8 @@ use sim_mote::Effect;
 use sim_run::{Simulation, Written};
 use vm_desc::Description;
 use world_laws::text_grows_by_events;
+use world_run_laws::states_are_sound;
 use world_script::World;
-use world_state_laws::states_are_sound;
 
 /// The event comes, with this stamp. What its node and the radio recorded before it is forgotten, if that is to be forgotten, and
 /// the node then has the spare room, if it may record something. It answers its node. The effect is nothing before it and after it. It is

@@ -10,7 +10,7 @@ ghost use Rattle.radio_sim.specs.Radio.{wires_of};
 ghost use Rattle.world_rules.specs.Effect.{event_node};
 ghost use Rattle.world_rules.specs.State.{Moment, WorldState};
 ghost use Rattle.sim_air.specs.Air.{radio_event};
-ghost use Rattle.world_state_laws.specs.Coming.{code_world};
+ghost use Rattle.world_run_laws.specs.Coming.{code_world};
 ghost use Rattle.sim_mote.specs.Standing.{IsTakenFrom};
 ghost use Rattle.sim_finish.specs.Finishing.{HasSettled, IsFinished};
 

@@ -40,7 +40,7 @@ use Rattle.world_rules.specs.Run.{DeedMakes}
 use Rattle.world_rules.specs.State.{timer_after, is_pump}
 use Rattle.sim_air.specs.Air.{radio_event}
 use Rattle.sim_air.specs.Calls.{AreCallsOf}
-use Rattle.world_state_laws.specs.Coming.{code_world, MayComeTo, AwaitsAlone}
+use Rattle.world_run_laws.specs.Coming.{code_world, MayComeTo, AwaitsAlone}
 use Rattle.sim_mote.specs.declared.effect.Effect.{Effect}
 use Rattle.sim_mote.specs.declared.mote.Mote.{Mote}
 use Rattle.sim_mote.specs.Motes.{TellsAlone, PumpsMote, plain_effect, at_fire, of_owed, timed}

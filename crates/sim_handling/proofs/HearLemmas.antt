@@ -22,7 +22,7 @@ use Rattle.vm_desc.specs.declared.description.Description.{Description}
 use Rattle.world_rules.specs.World.{World, Inject, receivers}
 use Rattle.world_rules.specs.Effect.{NodeEffect, Posting, no_effect, of_line, of_packet}
 use Rattle.world_rules.specs.Run.{Occasions}
-use Rattle.world_state_laws.specs.Coming.{code_world, IsTaken}
+use Rattle.world_run_laws.specs.Coming.{code_world, IsTaken}
 use Rattle.sim_mote.specs.declared.effect.Effect.{Effect}
 use Rattle.sim_mote.specs.declared.mote.Mote.{Mote}
 use Rattle.sim_mote.specs.Motes.{TellsAlone, InstallsImage, LeavesImage, HearsVector, plain_effect}

@@ -16,7 +16,7 @@ use Rattle.node_programs.specs.ScriptSteps.{program_at}
 use Rattle.world_script.specs.declared.world.What.{What}
 use Rattle.world_rules.specs.World.{Want, Post, Show, ResetNode, want_of}
 use Rattle.world_rules.specs.Effect.{NodeEffect, Posting, Answering, Showing, no_effect, of_line}
-use Rattle.world_state_laws.specs.Coming.{code_world, AwaitsAlone}
+use Rattle.world_run_laws.specs.Coming.{code_world, AwaitsAlone}
 use Rattle.sim_mote.specs.declared.effect.Effect.{Effect}
 use Rattle.sim_mote.specs.declared.mote.Mote.{Mote}
 use Rattle.sim_mote.specs.Motes.{TellsAlone, ResetsMote, plain_effect}

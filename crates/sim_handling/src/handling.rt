@@ -18,7 +18,7 @@ ghost use Rattle.world_rules.specs.Run.{Occasions};
 ghost use Rattle.world_rules.specs.World.{want_of, is_receiver as receives};
 ghost use Rattle.sim_air.specs.Air.{radio_event};
 ghost use Rattle.sim_mote.specs.Motes.{IsTellable, TellsAlone, plain_effect};
-ghost use Rattle.world_state_laws.specs.Coming.{code_world, MayComeTo};
+ghost use Rattle.world_run_laws.specs.Coming.{code_world, MayComeTo};
 ghost use Rattle.sim_mote.specs.Standing.{IsMoteOf};
 ghost use Rattle.sim_handling.specs.Handling.{IsFitEvent, IsOpenExchange, IsPaced, Handled, DoesBy, IsFragmentOf, receivers_below};
 

@@ -33,7 +33,7 @@ use Rattle.world_rules.specs.State.{Scheduled, first_of, lines_from, of_interval
 use Rattle.sim_air.specs.Air.{timed_event, timed_events, aired_at}
 use Rattle.sim_air.specs.Changes.{AddsToAir}
 use Rattle.sim_air.proofs.ChangeLemmas.{adds-both}
-use Rattle.world_state_laws.specs.Coming.{code_world}
+use Rattle.world_run_laws.specs.Coming.{code_world}
 use Rattle.sim_mote.specs.Motes.{BeginsMote}
 use Rattle.sim_mote.specs.declared.mote.Mote.{Mote}
 use Rattle.sim_run.specs.Standing.{IsRadioAfter, IsMoteAfter}

@@ -13,7 +13,7 @@ use Rattle.world_rules.specs.State.{Moment, state}
 use Rattle.world_rules.specs.Run.{HaveCome, IsNext, IsDone}
 use Rattle.sim_air.specs.Air.{radio_event}
 use Rattle.sim_air.specs.Changes.{AreNear, IsNear}
-use Rattle.world_state_laws.specs.Sound.{AreOfNodes, DuesAreOfNodes}
+use Rattle.world_run_laws.specs.Sound.{AreOfNodes, DuesAreOfNodes}
 use Rattle.sim_mote.specs.Standing.{IsTakenFrom}
 use Rattle.sim_run.specs.Standing.{IsRadioAfter, coming}
 

@@ -22,7 +22,7 @@ use Rattle.world_rules.specs.World.{World}
 use Rattle.world_rules.specs.State.{Moment, state}
 use Rattle.world_rules.specs.Run.{HaveCome, IsAtEnd, IsDone, airs, journal, IsJournalOf}
 use Rattle.world_rules.specs.Report.{IsLogOf, IsWorldReport}
-use Rattle.world_state_laws.specs.Coming.{code_world}
+use Rattle.world_run_laws.specs.Coming.{code_world}
 use Rattle.sim_mote.specs.declared.mote.Mote.{Mote}
 use Rattle.sim_run.specs.Standing.{IsMoteAfter}
 use Rattle.sim_run.specs.Reporting.{ShowsOneStore, ShowStores, told_report, mote_logs, AreOfMachine}

@@ -8,7 +8,7 @@ use Rattle.world_rules.specs.World.{World}
 use Rattle.world_rules.specs.State.{Moment, state}
 use Rattle.world_rules.specs.Cause.{Cause}
 use Rattle.world_rules.specs.Run.{HaveCome, IsNext, airs}
-use Rattle.world_state_laws.specs.Sound.{HaveFitMessages, HasWellFormed}
+use Rattle.world_run_laws.specs.Sound.{HaveFitMessages, HasWellFormed}
 use Rattle.sim_air.specs.Air.{radio_event}
 use Rattle.sim_mote.specs.Standing.{IsTakenFrom}
 use Rattle.sim_run.specs.Standing.{IsRadioAfter, IsMoteAfter, coming}

@@ -10,7 +10,7 @@ use Rattle.world_rules.specs.State.{Moment, state}
 use Rattle.world_rules.specs.Run.{airs, journal}
 use Rattle.world_laws.specs.Times.{last_time}
 use Rattle.sim_air.specs.Air.{radio_event, IsAirOf}
-use Rattle.world_state_laws.specs.Sound.{HaveFitMessages}
+use Rattle.world_run_laws.specs.Sound.{HaveFitMessages}
 use Rattle.sim_mote.specs.Standing.{IsMoteOf}
 use Rattle.sim_mote.specs.declared.mote.Mote.{Mote}
 

@@ -14,7 +14,7 @@ ghost use Rattle.sim_air.specs.Changes.{AddsToAir};
 ghost use Rattle.sim_air.specs.Starting.{beginning, first_items};
 ghost use Rattle.sim_mote.specs.Motes.{BeginsMote};
 ghost use Rattle.sim_mote.specs.declared.mote.Mote.{Mote as MoteState};
-ghost use Rattle.world_state_laws.specs.Coming.{code_world};
+ghost use Rattle.world_run_laws.specs.Coming.{code_world};
 ghost use Rattle.sim_run.specs.Starting.{HaveBegun};
 ghost use Rattle.sim_run.specs.Running.{StandsAfter};
 ghost use Rattle.sim_run.specs.Ranging.{AreInRange};

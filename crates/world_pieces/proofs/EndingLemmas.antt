@@ -33,7 +33,7 @@ use Rattle.world_rules.specs.Report.{IsWorldReport}
 use Rattle.world_laws.specs.EventText.{so_far, TellJournals, ShowTheirStores, StartsWithIntervals, StoresAddTheirLines, store_lines}
 use Rattle.sim_run.specs.Reporting.{mote_logs, told_report, ShowStores}
 use Rattle.world_script.specs.declared.world.World.{World as Script}
-use Rattle.world_state_laws.specs.Coming.{code_world}
+use Rattle.world_run_laws.specs.Coming.{code_world}
 use Rattle.sim_run.specs.Standing.{IsMoteAfter}
 use Rattle.sim_mote.specs.declared.mote.Mote.{Mote}
 use Rattle.sim_run.specs.Running.{StandsAfter}

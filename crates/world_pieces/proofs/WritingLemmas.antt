@@ -28,7 +28,7 @@ use Rattle.world_rules.specs.State.{Moment, state}
 use Rattle.world_rules.specs.Run.{HaveCome, IsAtEnd, airs, journal}
 use Rattle.world_rules.specs.Report.{IsLogOf, IsWorldReport}
 use Rattle.world_script.specs.declared.world.World.{World as Script}
-use Rattle.world_state_laws.specs.Coming.{code_world}
+use Rattle.world_run_laws.specs.Coming.{code_world}
 use Rattle.sim_run.specs.Standing.{IsMoteAfter}
 use Rattle.sim_mote.specs.declared.mote.Mote.{Mote}
 use Rattle.world_laws.specs.EventText.{so_far, TellJournals, store_lines}

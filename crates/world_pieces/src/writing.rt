@@ -7,7 +7,7 @@ ghost use Rattle.mate_journal.specs.NodeScript.{Whole};
 ghost use Rattle.mate_journal.specs.declared.air.Aired.{Aired as Happened};
 ghost use Rattle.report_text.specs.Text.{event_piece};
 ghost use Rattle.report_text.specs.Writing.{PutsLastLine, last_line};
-ghost use Rattle.world_state_laws.specs.Coming.{code_world};
+ghost use Rattle.world_run_laws.specs.Coming.{code_world};
 ghost use Rattle.node_programs.specs.WorldPrograms.{AreProgramsOfWorld};
 ghost use Rattle.sim_mote.specs.declared.mote.Mote.{Mote as MoteState};
 ghost use Rattle.sim_run.specs.Keeping.{IsWhole};

@@ -22,7 +22,7 @@ use Rattle.mate_files.specs.Sink.{Sent, SentPart, SentShort}
 use Rattle.report_text.specs.Text.{lines, text}
 use Rattle.report_text.specs.Writing.{RunsInto, written_text}
 use Rattle.world_sim.specs.Promise.{IsReportOfWorld, WorldRunGives}
-use Rattle.world_state_laws.specs.SourceWorld.{source_world}
+use Rattle.world_run_laws.specs.SourceWorld.{source_world}
 use Rattle.world_run_callers.specs.Runs.{CameWithRoom, EndsSeen, HaveOwnEvents, IsFullBehind}
 
 of_report : (w : World) (r report : Report) → LogFull r ≡ LogFull report → IsWorldReport w Full r → IsFullBehind w report.events

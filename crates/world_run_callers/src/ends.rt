@@ -12,7 +12,7 @@ ghost use Rattle.world_rules.specs.Cause.{Period, Expire};
 ghost use Rattle.world_rules.specs.State.{Moment, WorldState, sent_bytes, schedules, of_time};
 ghost use Rattle.world_rules.specs.World.{period_of};
 ghost use Rattle.sim_air.specs.Air.{aired_at};
-ghost use Rattle.world_state_laws.specs.Coming.{code_world};
+ghost use Rattle.world_run_laws.specs.Coming.{code_world};
 ghost use Rattle.world_run_callers.specs.Ends.{MayFinish, IsMoment, IsMomentBefore, IsPumpFirst, SendsAlone};
 
 use mate_num::{NoMemory, Stamp};

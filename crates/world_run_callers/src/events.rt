@@ -16,7 +16,7 @@ ghost use Rattle.world_rules.specs.Effect.{Node as NodeState};
 ghost use Rattle.world_rules.specs.State.{sent_bytes};
 ghost use Rattle.world_rules.specs.World.{Inject, handlers};
 ghost use Rattle.sim_mote.specs.Motes.{IsTellable};
-ghost use Rattle.world_state_laws.specs.Coming.{code_world, MayComeTo};
+ghost use Rattle.world_run_laws.specs.Coming.{code_world, MayComeTo};
 ghost use Rattle.sim_mote.specs.Standing.{IsMoteOf};
 ghost use Rattle.sim_handling.specs.Handling.{IsOpenExchange, IsPaced};
 

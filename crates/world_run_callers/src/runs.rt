@@ -7,7 +7,7 @@ ghost use Rattle.mate_journal.specs.declared.report.IntoFault.TheVariants.{Sink 
 ghost use Rattle.mate_journal.specs.declared.report.RunFault.TheVariants.{LogFull};
 ghost use Rattle.node_programs.specs.WorldPrograms.{AreProgramsOfWorld};
 ghost use Rattle.report_text.specs.Text.{lines, text};
-ghost use Rattle.world_state_laws.specs.SourceWorld.{source_world};
+ghost use Rattle.world_run_laws.specs.SourceWorld.{source_world};
 ghost use Rattle.world_run_callers.specs.Runs.{CameWithRoom, EndsSeen, HaveOwnEvents, IsFullBehind};
 
 use mate_files::Sink;

@@ -40,7 +40,7 @@ use Rattle.world_laws.specs.HopBound.{IsUndisturbed}
 use Rattle.world_laws.specs.Premises.{IsInjectedProgram, IsOpenScript, IsRightScript, InstalledBy}
 use Rattle.world_laws.proofs.HopBound.{times-rise}
 use Rattle.world_laws.proofs.Premises.{IsPlannedAt, planned-at, SaysInject, says-inject, open_scripts, plans_rightly, injected_is_installed}
-use Rattle.world_state_laws.proofs.Programs.{right-script}
+use Rattle.world_run_laws.proofs.Programs.{right-script}
 use Rattle.world_run_laws.specs.Bound.{InjectsOn, IsLeftAlone, TellsInstallBy, ReportsKeepTheBound, ReportsShowTheBound}
 use Rattle.world_run_laws.proofs.Journals.{NoFall, HasEntry, holds-installed, journal-climbs, entries-behind, holds-on, entry-before, install-entry}
 use Rattle.world_run_laws.proofs.Reached.{shown_is_reached}

@@ -1,3 +1,14 @@
+pub mod Waits
+pub mod Follows
+pub mod Counts
+pub mod Answering
+pub mod Awaited
+pub mod Open
+pub mod Installed
+pub mod Heard
+pub mod Fit
+pub mod Programs
+pub mod Sound
 pub mod PromiseLemmas
 pub mod Journals
 pub mod Lines

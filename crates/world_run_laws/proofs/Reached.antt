@@ -25,7 +25,7 @@ use Rattle.mate_num.proofs.ListLemmas.{among-append}
 use Rattle.world_laws.proofs.Points.{run-past, last-before}
 use Rattle.world_laws.proofs.Journals.{journal-here, journal-other}
 use Rattle.world_laws.specs.PacketRecords.{HasReached}
-use Rattle.world_state_laws.specs.SourceWorld.{source_world}
+use Rattle.world_run_laws.specs.SourceWorld.{source_world}
 use Rattle.world_run_laws.specs.Bound.{ShowsTime, whole, aired, told, ShownIsReached}
 
 among-at : {X : Type 0} (xs : List X) (x : X) (k : ℕ) → k < length xs → slice_index_or xs k x ≡ x → Among x xs

@@ -19,7 +19,7 @@ use Rattle.world_laws.specs.PacketRecords.{HasReached}
 use Rattle.world_laws.specs.Hops.{IsAway}
 use Rattle.world_laws.specs.Premises.{IsOpenScript}
 use Rattle.node_programs.specs.WorldPrograms.{AreProgramsOfWorld}
-use Rattle.world_state_laws.specs.SourceWorld.{source_world}
+use Rattle.world_run_laws.specs.SourceWorld.{source_world}
 
 -- line i injects this version for the handler, on this node, at this time
 pub record InjectsOn (script : Script) (i time node : ℕ) (h : HandlerId) (version : ℕ) : Type 0 where

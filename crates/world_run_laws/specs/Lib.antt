@@ -1,2 +1,5 @@
+pub mod Coming
+pub mod Sound
+pub mod SourceWorld
 pub mod Promise
 pub mod Bound

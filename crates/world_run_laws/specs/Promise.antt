@@ -15,7 +15,7 @@ use Rattle.node_programs.specs.WorldPrograms.{AreProgramsOfWorld}
 use Rattle.report_text.specs.Tidy.{IsTidy}
 use Rattle.world_script.specs.declared.world.World.{World as Script}
 use Rattle.world_rules.specs.Report.{IsWorldReport}
-use Rattle.world_state_laws.specs.SourceWorld.{source_world}
+use Rattle.world_run_laws.specs.SourceWorld.{source_world}
 use Rattle.world_run_laws.specs.Bound.{KeepsTheBound}
 
 -- It is a report of a run, that ends so, of the world whose programs, which are right, mean their sources. It is tidy, and

@@ -9,12 +9,12 @@ ghost use Rattle.mate_journal.specs.declared.report.Report.{Report};
 ghost use Rattle.node_programs.specs.WorldPrograms.{AreProgramsOfWorld};
 ghost use Rattle.world_script.specs.declared.world.World.{World as Script};
 ghost use Rattle.world_rules.specs.Report.{IsWorldReport};
-ghost use Rattle.world_state_laws.specs.Coming.{code_world};
+ghost use Rattle.world_run_laws.specs.Coming.{code_world};
 ghost use Rattle.world_run_laws.specs.Promise.{IsReportOfWorld};
 
 use crate::laws::{reports_keep_the_bound, world_report_is_tidy};
+use crate::states::worlds_hold_by_their_sources;
 use journal_laws::{ends_as_posted, is_never_stuck};
-use world_state_laws::worlds_hold_by_their_sources;
 
 /// A report of the world whose nodes run their code keeps all that is promised of one, where its numbers are in the ranges of their types.
 pub fn reports_keep_the_promise()

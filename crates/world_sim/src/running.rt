@@ -10,9 +10,8 @@ use sim_mote::Effect;
 use sim_run::{Simulation, Written, report_of, see_stores};
 use std::alloc::Global;
 use vm_desc::Description;
-use world_run_laws::reports_keep_the_promise;
+use world_run_laws::{reports_keep_the_promise, states_are_sound};
 use world_script::World;
-use world_state_laws::states_are_sound;
 
 /// Runs a world on nodes of this machine, with the programs of its files: each event is the next that is due, and at the end
 /// each node's store is seen. `LogFull` comes exactly if there are 1,000,000 records or more and an event is left, with the

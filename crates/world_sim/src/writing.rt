@@ -5,7 +5,7 @@ ghost use Rattle.report_text.specs.Writing.{RunsInto};
 ghost use Rattle.node_programs.specs.WorldPrograms.{AreProgramsOfWorld};
 ghost use Rattle.world_pieces.specs.Writing.{StartsRecorded};
 ghost use Rattle.world_run_laws.specs.Promise.{IsReportOfWorld};
-ghost use Rattle.world_state_laws.specs.Coming.{code_world};
+ghost use Rattle.world_run_laws.specs.Coming.{code_world};
 
 use mate_files::Sink;
 use mate_journal::{IntoFault, Programs, Report};

@@ -10,7 +10,7 @@ ghost use Rattle.world_run_laws.specs.Promise.{IsReportOfWorld};
 ghost use Rattle.sim_run.specs.Ranging.{AreInRange};
 ghost use Rattle.sim_run.specs.Running.{StandsAfter, StandsAtNext};
 ghost use Rattle.sim_run.specs.Telling.{LogsAreKept};
-ghost use Rattle.world_state_laws.specs.Coming.{code_world};
+ghost use Rattle.world_run_laws.specs.Coming.{code_world};
 ghost use Rattle.sim_mote.specs.Motes.{plain_effect};
 ghost use Rattle.world_summary.specs.Counting.{IsCounted, IsCountedBehind, AreCounted, CountsHand, IsTallied, IsTalliedBefore, IsSmallTally};
 ghost use Rattle.world_summary.specs.Counting.{MayCount, StartsCounted};
@@ -27,9 +27,8 @@ use std::alloc::Global;
 use std::mem;
 use vm_desc::Description;
 use world_pieces::logs_are_kept;
-use world_run_laws::reports_keep_the_promise;
+use world_run_laws::{reports_keep_the_promise, states_are_sound};
 use world_script::World;
-use world_state_laws::states_are_sound;
 
 /// Runs a world as `run` does, and gives the summary of its report. What a node recorded in an event, and what happened on the air in it,
 /// is counted and then forgotten before the next one, so that a long run takes no more memory than its nodes and its longest event. The

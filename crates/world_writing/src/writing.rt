@@ -4,7 +4,7 @@ ghost use Rattle.std.specs.Prelude.{◌≡◌, ◌≤◌, ◌<◌, ◌+◌, Some
 ghost use Rattle.mate_journal.specs.Log.{IsEmpty};
 ghost use Rattle.report_text.specs.Writing.{WritesRun};
 ghost use Rattle.world_rules.specs.Report.{IsWorldReport};
-ghost use Rattle.world_state_laws.specs.Coming.{code_world};
+ghost use Rattle.world_run_laws.specs.Coming.{code_world};
 ghost use Rattle.node_programs.specs.WorldPrograms.{AreProgramsOfWorld};
 ghost use Rattle.sim_mote.specs.Motes.{plain_effect};
 ghost use Rattle.world_run_laws.specs.Promise.{IsReportOfWorld};
@@ -29,9 +29,8 @@ use vm_desc::Description;
 use world_pieces::{
     Record, record_event, stopped_at, write_ending, write_last, write_piece, write_start,
 };
-use world_run_laws::reports_keep_the_promise;
+use world_run_laws::{reports_keep_the_promise, states_are_sound};
 use world_script::World;
-use world_state_laws::states_are_sound;
 
 /// Runs a world on nodes of this machine, with the programs of its files, and writes each event's lines when it ends, and then the last
 /// line. After a fault of the sink no further event is begun. No report is kept: what a node recorded in an event, and what happened on

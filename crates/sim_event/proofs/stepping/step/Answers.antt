@@ -4,7 +4,7 @@ use Rattle.std.proofs.lemmas.Option.{slice_get-get_or}
 use Rattle.mate_journal.specs.Ranges.{HasAiredRanges}
 use Rattle.mate_journal.specs.declared.air.Aired.{Aired}
 use Rattle.sim_mote.specs.declared.mote.Mote.{Mote}
-use Rattle.world_state_laws.specs.Coming.{code_world}
+use Rattle.world_run_laws.specs.Coming.{code_world}
 use Rattle.sim_run.proofs.KeepingLemmas.{few-stand, stands-still, kept-still}
 use Rattle.sim_event.proofs.AddingLemmas.{piece-adds}
 use Rattle.sim_run.proofs.MoteLemmas.{kept-set, first-mote, at-mote}

@@ -1,6 +1,6 @@
 use Rattle.std.proofs.Common.{◌≡◌, ℕ, ◌+◌, List, sym, ◌∙◌, subst, arith}
 use Rattle.sim_mote.specs.declared.mote.Mote.{Mote}
-use Rattle.world_state_laws.specs.Coming.{code_world}
+use Rattle.world_run_laws.specs.Coming.{code_world}
 use Rattle.sim_run.specs.Starting.{HaveBegun}
 use Rattle.sim_run.proofs.BeginLemmas.{begun-more}
 use Rattle.sim_run.proofs.simulation.begin_motes.Goals as goal

@@ -1,6 +1,6 @@
 use Rattle.std.proofs.Common.{◌≡◌, List}
 use Rattle.mate_journal.specs.declared.program.Program.{Program}
-use Rattle.world_state_laws.specs.Coming.{code_world}
+use Rattle.world_run_laws.specs.Coming.{code_world}
 use Rattle.sim_run.specs.Starting.{HaveBegun}
 use Rattle.sim_run.proofs.simulation.begin_motes.Given as goal
 

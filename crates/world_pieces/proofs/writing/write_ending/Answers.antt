@@ -7,7 +7,7 @@ use Rattle.world_laws.specs.EventText.{store_lines}
 use Rattle.sim_run.specs.Reporting.{mote_logs}
 use Rattle.sim_run.specs.Telling.{LogsAreKept}
 use Rattle.sim_run.specs.declared.simulation.Simulation.{Simulation}
-use Rattle.world_state_laws.specs.Coming.{code_world}
+use Rattle.world_run_laws.specs.Coming.{code_world}
 use Rattle.sim_run.proofs.RangeLemmas.{report-ranges, few-of}
 use Rattle.sim_run.proofs.WorldLemmas.{all-timely}
 use Rattle.report_text.specs.Writing.{PutsLastLine}

@@ -1,5 +1,5 @@
 use Rattle.std.proofs.Common.{◌<◌, length, subst, arith}
-use Rattle.world_state_laws.specs.Coming.{code_world}
+use Rattle.world_run_laws.specs.Coming.{code_world}
 use Rattle.sim_run.specs.Telling.{LogsAreKept}
 use Rattle.sim_run.proofs.MoteLemmas.{first-mote, at-mote}
 use Rattle.world_pieces.proofs.EndingLemmas.{start-goes, start-fails}

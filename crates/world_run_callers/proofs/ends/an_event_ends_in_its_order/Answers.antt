@@ -6,7 +6,7 @@ use Rattle.world_rules.specs.Effect.{begun_length, event_node}
 use Rattle.world_rules.specs.State.{node_at, effect_at, is_some_length, schedules, of_time, left_due, next_period, new_interval, node_after, messages, sent_bytes}
 use Rattle.world_rules.specs.World.{World}
 use Rattle.sim_air.specs.Air.{radio_event, aired_at}
-use Rattle.world_state_laws.specs.Coming.{code_world}
+use Rattle.world_run_laws.specs.Coming.{code_world}
 use Rattle.world_run_callers.proofs.EndLemmas.{end_is_gone, by_first, a_period, by_fourth, a_pump, no_interval, after_first, sent_first}
 use Rattle.radio_sim.specs.declared.event.Event.{Event}
 use Rattle.radio_sim.specs.declared.event.Event.TheVariants as radio_kind

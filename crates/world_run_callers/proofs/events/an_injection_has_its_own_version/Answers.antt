@@ -4,7 +4,7 @@ use Rattle.capsule_exchange.specs.Knowledge.{knowledge}
 use Rattle.world_rules.specs.Cause.{Planned}
 use Rattle.world_rules.specs.Effect.{no_effect, of_line}
 use Rattle.world_rules.specs.World.{World, PlannedLine, handlers}
-use Rattle.world_state_laws.specs.Coming.{code_world}
+use Rattle.world_run_laws.specs.Coming.{code_world}
 use Rattle.world_run_callers.proofs.events.an_injection_has_its_own_version.Goals as goal
 
 pub returns : goal.returns

@@ -4,7 +4,7 @@ use Rattle.std.proofs.Common.{List}
 use Rattle.journal_laws.specs.Apart.{EndAsPosted}
 use Rattle.journal_laws.specs.Progress.{IsNeverStuck}
 use Rattle.node_programs.specs.ScriptSteps.{program_at}
-use Rattle.world_state_laws.specs.SourceWorld.{source_world}
+use Rattle.world_run_laws.specs.SourceWorld.{source_world}
 use Rattle.world_run_laws.proofs.PromiseLemmas.{each-journal}
 use Rattle.world_run_laws.proofs.promise.reports_keep_the_promise.Goals as goal
 

@@ -1,7 +1,7 @@
 use Rattle.std.proofs.Common.{◌≡◌, ℕ, suc, ◌+◌, ◌≤◌, length, refl, sym, ◌∙◌, ap, subst, arith}
 use Rattle.mate_journal.specs.NodeScript.{Whole, Full}
 use Rattle.radio_sim.specs.Radio.{Ether}
-use Rattle.world_state_laws.specs.Coming.{code_world}
+use Rattle.world_run_laws.specs.Coming.{code_world}
 use Rattle.sim_run.proofs.KeepingLemmas.{whole-still, whole-shown}
 use Rattle.sim_run.proofs.RunLemmas.{behind, is-done}
 use Rattle.sim_run.proofs.WorldLemmas.{all-timely, of-machine, shown-machine, full-report, whole-report}

@@ -1,6 +1,6 @@
 use Rattle.std.proofs.Common.{◌≡◌, length}
 use Rattle.mate_journal.specs.Log.{IsEmpty}
-use Rattle.world_state_laws.specs.Coming.{code_world}
+use Rattle.world_run_laws.specs.Coming.{code_world}
 use Rattle.sim_mote.specs.Motes.{plain_effect}
 use Rattle.sim_run.specs.Keeping.{IsWhole}
 use Rattle.sim_run.specs.Running.{StandsAfter}

@@ -1,5 +1,5 @@
 use Rattle.std.proofs.Common.{length, arith}
-use Rattle.world_state_laws.specs.Coming.{code_world}
+use Rattle.world_run_laws.specs.Coming.{code_world}
 use Rattle.sim_run.proofs.RangeLemmas.{left-ranges}
 use Rattle.sim_run.proofs.KeepingLemmas.{few-after, few-stand, left-stands}
 use Rattle.world_pieces.proofs.HandLemmas.{at-hand-now}

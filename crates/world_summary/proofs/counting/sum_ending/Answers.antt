@@ -9,7 +9,7 @@ use Rattle.sim_run.specs.declared.simulation.Simulation.{Simulation}
 use Rattle.sim_run.proofs.RangeLemmas.{report-ranges, few-of}
 use Rattle.sim_run.proofs.WorldLemmas.{all-timely}
 use Rattle.sim_mote.specs.declared.mote.Mote.{Mote}
-use Rattle.world_state_laws.specs.Coming.{code_world}
+use Rattle.world_run_laws.specs.Coming.{code_world}
 use Rattle.world_summary.specs.Counting.{IsCounted, IsCountedBehind, AreCounted}
 use Rattle.world_summary.proofs.CountingLemmas.{all-behind, all-few, run-summary}
 use Rattle.world_pieces.proofs.EndingLemmas.{end-still, ends-whole-of, ended-ranges, forgotten-hand}

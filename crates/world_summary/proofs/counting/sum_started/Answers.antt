@@ -2,7 +2,7 @@ use Rattle.std.proofs.Common.{ℕ, ◌≤◌, false, length, refl, sym, ◌∙�
 use Rattle.mate_journal.specs.NodeScript.{Whole, Full}
 use Rattle.radio_sim.specs.Radio.{Ether}
 use Rattle.world_run_laws.specs.Promise.{IsReportOfWorld}
-use Rattle.world_state_laws.specs.Coming.{code_world}
+use Rattle.world_run_laws.specs.Coming.{code_world}
 use Rattle.sim_run.specs.Reporting.{told_report}
 use Rattle.sim_run.specs.declared.simulation.Simulation.{Simulation}
 use Rattle.sim_run.proofs.RangeLemmas.{same-ranges, report-ranges, few-of}

@@ -4,7 +4,7 @@ use Rattle.radio_sim.specs.Radio.{Ether}
 use Rattle.world_pieces.proofs.RecordLemmas.{all-self}
 use Rattle.report_text.specs.declared.pass.Pass.{Pass}
 use Rattle.world_rules.specs.Report.{IsWorldReport}
-use Rattle.world_state_laws.specs.Coming.{code_world}
+use Rattle.world_run_laws.specs.Coming.{code_world}
 use Rattle.sim_run.specs.Reporting.{mote_logs}
 use Rattle.sim_run.proofs.RangeLemmas.{same-ranges, report-ranges, few-of}
 use Rattle.sim_run.proofs.RunLemmas.{behind, is-done}

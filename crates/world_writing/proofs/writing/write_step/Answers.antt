@@ -1,6 +1,6 @@
 use Rattle.std.proofs.Common.{◌≡◌, ◌-◌, length, sym, subst, arith}
 use Rattle.report_text.specs.declared.pass.Pass.{Pass}
-use Rattle.world_state_laws.specs.Coming.{code_world}
+use Rattle.world_run_laws.specs.Coming.{code_world}
 use Rattle.sim_run.proofs.RangeLemmas.{left-ranges, few-before}
 use Rattle.sim_run.proofs.KeepingLemmas.{few-after, left-stands}
 use Rattle.world_pieces.specs.Writing.{EndsSo}

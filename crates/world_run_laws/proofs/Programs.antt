@@ -30,9 +30,9 @@ use Rattle.mate_num.proofs.ListLemmas.{all-at}
 use Rattle.world_laws.specs.Versions.{InjectsAt}
 use Rattle.world_laws.specs.Premises.{IsInjectedProgram, IsRightScript}
 use Rattle.world_laws.proofs.Premises.{injected_are_versions}
-use Rattle.world_state_laws.specs.Coming.{code_world}
+use Rattle.world_run_laws.specs.Coming.{code_world}
 use Rattle.node_programs.specs.WorldPrograms.{IsProgramOfWhat, AreProgramsOfWorld}
-use Rattle.world_state_laws.proofs.Heard.{AreProgramsFit}
+use Rattle.world_run_laws.proofs.Heard.{AreProgramsFit}
 
 -- ---- the programs of lines
 

@@ -35,7 +35,7 @@ use Rattle.world_laws.specs.Versions.{InjectsAt, IsOneImage}
 use Rattle.world_laws.proofs.Injected.{HoldsInjected, marked-within}
 use Rattle.world_laws.proofs.Versions.{IsInjectedNode}
 use Rattle.sim_air.specs.Air.{IsFitPacket}
-use Rattle.world_state_laws.proofs.Open.{open-node}
+use Rattle.world_run_laws.proofs.Open.{open-node}
 
 -- what the packets that tell of a program rest on
 pub record IsFitProgram (w : World) (p : HeldProgram) : Type 0 where

@@ -1,6 +1,6 @@
-use Rattle.world_state_laws.proofs.Programs.{right-script}
-use Rattle.world_state_laws.proofs.Sound.{next-may-come, nodes-sound, dues-of-nodes}
-use Rattle.world_state_laws.proofs.states_are_sound.Goals as goal
+use Rattle.world_run_laws.proofs.Programs.{right-script}
+use Rattle.world_run_laws.proofs.Sound.{next-may-come, nodes-sound, dues-of-nodes}
+use Rattle.world_run_laws.proofs.states.states_are_sound.Goals as goal
 
 pub returns-clause-next : goal.returns-clause-next
 returns-clause-next c = next-may-come

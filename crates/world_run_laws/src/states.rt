@@ -1,5 +1,4 @@
 //! What stands between the events of a world: whatever comes next finds what it needs. And what its report says by code, said by sources.
-#![tactic(auto)]
 
 ghost use Rattle.std.specs.Prelude.{List};
 ghost use Rattle.vm_desc.specs.declared.description.Description.{Description};
@@ -7,13 +6,13 @@ ghost use Rattle.mate_journal.specs.declared.program.Program.{Program};
 ghost use Rattle.world_script.specs.declared.world.World.{World as Script};
 ghost use Rattle.world_laws.specs.Premises.{IsRightScript};
 ghost use Rattle.node_programs.specs.ScriptSteps.{program_at};
-ghost use Rattle.world_state_laws.specs.Coming.{code_world};
+ghost use Rattle.world_run_laws.specs.Coming.{code_world};
 ghost use Rattle.node_programs.specs.WorldPrograms.{AreProgramsOfWorld};
-ghost use Rattle.world_state_laws.specs.Sound.{NextMayCome, NodesAreSound, DuesAreOfNodes};
+ghost use Rattle.world_run_laws.specs.Sound.{NextMayCome, NodesAreSound, DuesAreOfNodes};
 ghost use Rattle.mate_journal.specs.NodeScript.{RunEnd};
 ghost use Rattle.mate_journal.specs.declared.report.Report.{Report};
 ghost use Rattle.world_rules.specs.Report.{IsWorldReport};
-ghost use Rattle.world_state_laws.specs.SourceWorld.{source_world};
+ghost use Rattle.world_run_laws.specs.SourceWorld.{source_world};
 
 /// In a right world with right programs, whatever event is due next finds what it needs: its line, handler, context or link is
 /// there, an answer comes to the one invocation that waits in its context, a packet is right for the machine, an interval ends at

@@ -15,7 +15,7 @@ use Rattle.world_rules.specs.Cause.{Cause}
 use Rattle.world_rules.specs.Cause as event
 use Rattle.world_rules.specs.World.{World, PlannedLine, Want, Inject, Post, Show, ResetNode, Noise, handlers}
 use Rattle.world_rules.specs.Effect.{Node, Deed, no_effect, node_effect, of_line, of_packet, of_fragment, of_point, of_slot}
-use Rattle.world_state_laws.proofs.Waits.{AnswersOther}
+use Rattle.world_run_laws.proofs.Waits.{AnswersOther}
 
 -- the event is the answer to an invocation, or answers none
 abbrev pub Unanswered : Cause → Deed → ℕ → Type 0

@@ -33,9 +33,9 @@ use Rattle.world_laws.proofs.Installs.{installs_its_own, held_was_installed}
 use Rattle.world_laws.proofs.Injected.{IsOfInjected}
 use Rattle.world_laws.proofs.Versions.{node-hears, IsInjectedWorld, run-injected, installs_injected}
 use Rattle.sim_air.specs.Air.{IsFitPacket, AreFitPackets}
-use Rattle.world_state_laws.proofs.Open.{run-none}
-use Rattle.world_state_laws.proofs.Heard.{AreProgramsFit, AreFitHeard, IsFitNode, EachFit, vector-fit, asks-fit, owed-fit}
-use Rattle.world_state_laws.specs.Sound.{HaveFitMessages}
+use Rattle.world_run_laws.proofs.Open.{run-none}
+use Rattle.world_run_laws.proofs.Heard.{AreProgramsFit, AreFitHeard, IsFitNode, EachFit, vector-fit, asks-fit, owed-fit}
+use Rattle.world_run_laws.specs.Sound.{HaveFitMessages}
 
 -- ---- what is held is of an injected version
 

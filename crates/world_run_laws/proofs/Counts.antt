@@ -17,7 +17,7 @@ use Rattle.world_rules.specs.Run.{IsNext}
 use Rattle.mate_num.specs.Lists.{Among}
 use Rattle.mate_num.proofs.ListLemmas.{among-unfilter, among-behind}
 use Rattle.world_laws.proofs.Due.{at, Outlasts, period_part, interval_part, delivery_part, pumps_anew, pump_part, answer_part}
-use Rattle.world_state_laws.proofs.Waits.{calls_of}
+use Rattle.world_run_laws.proofs.Waits.{calls_of}
 
 -- the cause is an answer to the invocation n of the node k
 abbrev pub answers_by : ℕ → ℕ → Cause → ℕ

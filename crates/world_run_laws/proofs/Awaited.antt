@@ -22,10 +22,10 @@ use Rattle.mate_num.proofs.ListLemmas.{among-append, among-flat_map}
 use Rattle.world_laws.proofs.OfTime.{among-un_of_time, apart}
 use Rattle.world_laws.proofs.Due.{at, Outlasts, due-from, kind, AnswerOf, Source, period, interval, delivery, pump, answer, source}
 use Rattle.world_laws.proofs.Points.{cause_is, nodes-here, nodes-other, line-kind, period-kind}
-use Rattle.world_state_laws.proofs.Waits.{calls_of, asked-calls, BeginsWith, AnswersOther, event-begins, event-keeps, event-once, event-waits}
-use Rattle.world_state_laws.proofs.Follows.{IsFollowed, followed-before, followed-told, run-numbered}
-use Rattle.world_state_laws.proofs.Answering.{answers-cause}
-use Rattle.world_state_laws.proofs.Counts.{answers_by, answers_in, own-answer, answers-among, answers-some, answers-append, left-most, left-here, left-among, two-times, new-answers, no-answers}
+use Rattle.world_run_laws.proofs.Waits.{calls_of, asked-calls, BeginsWith, AnswersOther, event-begins, event-keeps, event-once, event-waits}
+use Rattle.world_run_laws.proofs.Follows.{IsFollowed, followed-before, followed-told, run-numbered}
+use Rattle.world_run_laws.proofs.Answering.{answers-cause}
+use Rattle.world_run_laws.proofs.Counts.{answers_by, answers_in, own-answer, answers-among, answers-some, answers-append, left-most, left-here, left-among, two-times, new-answers, no-answers}
 
 -- the invocation waits in the context
 pub record AwaitsIn (r : NodeState) (c : ContextId) (n : ℕ) : Type 0 where

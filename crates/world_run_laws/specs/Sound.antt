@@ -12,7 +12,7 @@ use Rattle.world_rules.specs.State.{Moment, messages, state}
 use Rattle.world_rules.specs.Run.{IsNext, HaveCome, journal}
 use Rattle.sim_air.specs.Air.{AreFitPackets}
 use Rattle.world_laws.specs.Times.{last_time}
-use Rattle.world_state_laws.specs.Coming.{MayComeTo}
+use Rattle.world_run_laws.specs.Coming.{MayComeTo}
 
 -- a node between events: those that wait do so apart, in contexts of a machine; its interval began before; and nothing that is complete
 -- waits to be installed

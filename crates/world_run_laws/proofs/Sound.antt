@@ -27,17 +27,17 @@ use Rattle.world_laws.proofs.Agree.{held_agrees}
 use Rattle.world_laws.proofs.Versions.{run-injected}
 use Rattle.world_laws.specs.HopBound.{IsRightPlan}
 use Rattle.world_laws.proofs.Premises.{right_set, plans_rightly, scripts_installs_are_newer}
-use Rattle.world_state_laws.specs.Coming.{code_world, IsTaken, AwaitsAlone, IsExpected}
+use Rattle.world_run_laws.specs.Coming.{code_world, IsTaken, AwaitsAlone, IsExpected}
 use Rattle.node_programs.specs.WorldPrograms.{AreProgramsOfWorld}
-use Rattle.world_state_laws.specs.Sound.{AreOfNodes, HaveFitMessages, HasWellFormed, NextMayCome, NodesAreSound, DuesAreOfNodes}
+use Rattle.world_run_laws.specs.Sound.{AreOfNodes, HaveFitMessages, HasWellFormed, NextMayCome, NodesAreSound, DuesAreOfNodes}
 use Rattle.world_laws.proofs.Placed.{IsPlaced, HasEnds, placed-node, run-placed, script-ends}
-use Rattle.world_state_laws.proofs.Follows.{few-contexts, run-apart, run-small}
-use Rattle.world_state_laws.proofs.Awaited.{run-awaited}
-use Rattle.world_state_laws.proofs.Open.{run-none, open-node}
-use Rattle.world_state_laws.proofs.Installed.{IsInjected, next-injected}
-use Rattle.world_state_laws.proofs.Heard.{AreProgramsFit}
-use Rattle.world_state_laws.proofs.Fit.{run-fit}
-use Rattle.world_state_laws.proofs.Programs.{HasProgram, line-program, right-script, programs-fit, IsCapsuleProgram, capsule-program}
+use Rattle.world_run_laws.proofs.Follows.{few-contexts, run-apart, run-small}
+use Rattle.world_run_laws.proofs.Awaited.{run-awaited}
+use Rattle.world_run_laws.proofs.Open.{run-none, open-node}
+use Rattle.world_run_laws.proofs.Installed.{IsInjected, next-injected}
+use Rattle.world_run_laws.proofs.Heard.{AreProgramsFit}
+use Rattle.world_run_laws.proofs.Fit.{run-fit}
+use Rattle.world_run_laws.proofs.Programs.{HasProgram, line-program, right-script, programs-fit, IsCapsuleProgram, capsule-program}
 
 -- what holds of the world of a right script with right programs
 record IsRunnable (w : World) : Type 0 where

@@ -4,7 +4,7 @@ use Rattle.node_programs.specs.ScriptSteps.{program_at}
 use Rattle.node_programs.proofs.MeaningLemmas.{meaning_by-right}
 use Rattle.world_rules.specs.World.{world_of}
 use Rattle.world_rules.specs.Report.{IsWorldReport}
-use Rattle.world_state_laws.proofs.worlds_hold_by_their_sources.Goals as goal
+use Rattle.world_run_laws.proofs.states.worlds_hold_by_their_sources.Goals as goal
 
 -- right programs mean by their sources what their code means, so the two worlds are one
 pub returns : goal.returns
