@@ -1,11 +1,10 @@
 //! The text of the capsule with an image in hexadecimal digits.
 
 use capsule_codec::decode;
-use capsule_listing::print_capsule;
 use cases_files::{bytes_of, in_one_line};
 use code_verifier::verify;
 use memory_files::MemSink;
-use opcode_gen::table;
+use opcode_gen::{print_capsule, table};
 use std::alloc::{AllocError, Global};
 use vm_desc::Description;
 

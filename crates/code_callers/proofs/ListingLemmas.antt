@@ -14,7 +14,7 @@ use Rattle.vm_desc.specs.declared.description.Description.{Description}
 use Rattle.vm_desc.specs.declared.function.Function.{Function}
 use Rattle.opcode_gen.specs.TableText.{table_rows, table_text}
 use Rattle.capsule_codec.specs.Image.{CapsuleParts}
-use Rattle.capsule_listing.specs.CapsuleText.{capsule_text}
+use Rattle.opcode_gen.specs.CapsuleText.{capsule_text}
 use Rattle.code_callers.specs.Listings.{base_table, table_with_send, sending}
 
 -- the table depends on the functions, and on whether there are buffers

@@ -2,7 +2,7 @@
 
 ghost use Rattle.std.specs.Prelude.{◌≡◌, [], ◌∷◌, codes, true};
 ghost use Rattle.capsule_codec.specs.Image.{capsule_parts};
-ghost use Rattle.capsule_listing.specs.CapsuleText.{IsVerifiedFor};
+ghost use Rattle.opcode_gen.specs.CapsuleText.{IsVerifiedFor};
 ghost use Rattle.code_callers.specs.Listings.{base_table, table_with_send, sending};
 ghost use Rattle.mate_code.specs.declared.instr.Instr.TheVariants.{PushB, Drop, Halt};
 ghost use Rattle.mate_files.specs.Pen.{Prints};
@@ -12,12 +12,11 @@ ghost use Rattle.mate_num.specs.declared.resource.Resource.TheVariants.{Shared};
 ghost use Rattle.vm_desc.specs.Whole.{parts_of, builtin_parts};
 
 use capsule_codec::Capsule;
-use capsule_listing::lock_line::print_lock_line;
-use capsule_listing::print_capsule;
 use code_verifier::Verified;
 use mate_files::{Pen, Sink, SinkFault};
 use mate_num::LockSet;
-use opcode_gen::print_table;
+use opcode_gen::lock_line::print_lock_line;
+use opcode_gen::{print_capsule, print_table};
 use vm_desc::{Description, builtin};
 
 pub fn an_opcode_has_two_digits<S: Sink>(out: &mut S) -> Result<(), SinkFault>

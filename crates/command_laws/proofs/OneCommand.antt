@@ -5,7 +5,7 @@ use Rattle.std.specs.Global.{Vec}
 use Rattle.arrayvec.specs.ArrayVec.{ArrayVec}
 use Rattle.capsule_codec.specs.Image.{CapsuleParts}
 use Rattle.mate_documents.specs.FeedLines.{feed_text}
-use Rattle.capsule_listing.specs.CapsuleText.{capsule_text}
+use Rattle.opcode_gen.specs.CapsuleText.{capsule_text}
 use Rattle.command_line.specs.Words.{Line, IsLine}
 use Rattle.mate_code.specs.Run.{Code}
 use Rattle.command_line.specs.Commands.{Task, Says, SaysNothing, task_of}

@@ -1,6 +1,6 @@
 -- The command `check`: the text of the capsule that a file has in hexadecimal digits.
 use Rattle.std.specs.Prelude.{ℕ, List, Result}
-use Rattle.capsule_listing.specs.CapsuleText.{capsule_text}
+use Rattle.opcode_gen.specs.CapsuleText.{capsule_text}
 use Rattle.mate_steps.specs.CapsuleFiles.{capsule}
 use Rattle.mate_documents.specs.Owed.{Owed, writes}
 use Rattle.mate_steps.specs.Parts.{Folder, machine}

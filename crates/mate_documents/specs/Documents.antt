@@ -4,7 +4,7 @@ use Rattle.opcode_gen.specs.TableText.{table_text}
 use Rattle.hex.specs.Hex.{encode_lower}
 use Rattle.capsule_codec.specs.Image.{capsule_parts}
 use Rattle.mate_documents.specs.FeedLines.{feed_text}
-use Rattle.capsule_listing.specs.CapsuleText.{capsule_text, IsVerifiedFor}
+use Rattle.opcode_gen.specs.CapsuleText.{capsule_text, IsVerifiedFor}
 use Rattle.proc_expansion.specs.Expansion.{expansion}
 use Rattle.proc_names.specs.Named.{written_of}
 pub use Rattle.ts_printer.specs.Line.{script_line}

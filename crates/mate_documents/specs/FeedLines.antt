@@ -1,6 +1,6 @@
 -- The lines for answers, numbered from 1.
 use Rattle.std.specs.Prelude.{ℕ, suc, ◌<◌, List, [], ◌∷◌, ◌++◌, length, codes, decimal, ⊤}
-use Rattle.capsule_listing.specs.CapsuleText.{handler_name_at}
+use Rattle.opcode_gen.specs.CapsuleText.{handler_name_at}
 use Rattle.mate_refusals.specs.CapsuleCauses.{image_words, verify_words}
 use Rattle.mate_refusals.specs.LineEnds.{number_line, numbered_name_line}
 use Rattle.vm_desc.specs.declared.description.Description.{Description}

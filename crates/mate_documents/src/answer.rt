@@ -5,11 +5,11 @@ ghost use Rattle.mate_files.specs.Pen.{Prints};
 ghost use Rattle.mate_refusals.specs.CapsuleCauses.{capsule_words};
 
 use capsule_codec::CapsuleFault;
-use capsule_listing::handler_name;
 use code_verifier::VerifyFault;
 use mate_files::{Pen, Sink};
 use mate_num::HandlerId;
 use mate_refusals::{CapsuleCause, print_numbered, print_numbered_name};
+use opcode_gen::handler_name;
 use vm_desc::Description;
 
 /// What a node answers to a frame.

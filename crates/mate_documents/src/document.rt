@@ -6,10 +6,10 @@ ghost use Rattle.mate_files.specs.Sink.{Puts};
 
 use crate::boxed_machine::BoxedMachine;
 use crate::stream_answers::write_answers;
-use capsule_listing::print_capsule;
 use mate_files::{Pen, Sink, SinkFault};
 use mate_num::Image;
 use mate_steps::VerifiedCapsule;
+use opcode_gen::print_capsule;
 use proc_names::PScript;
 use proc_texts::write_expansion;
 use std::alloc::Global;

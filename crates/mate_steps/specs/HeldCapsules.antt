@@ -4,7 +4,7 @@ use Rattle.std.specs.declared.alloc.Global.{Global}
 use Rattle.std.specs.declared.boxed.Box.{Box}
 use Rattle.capsule_codec.specs.Image.{CapsuleParts, capsule_parts, IsOfMachine}
 use Rattle.capsule_codec.specs.declared.capsule.Capsule.{Capsule}
-use Rattle.capsule_listing.specs.CapsuleText.{IsVerifiedFor}
+use Rattle.opcode_gen.specs.CapsuleText.{IsVerifiedFor}
 use Rattle.mate_code.specs.Run.{Code}
 use Rattle.mate_refusals.specs.declared.capsule_cause.CapsuleCause.{CapsuleCause}
 use Rattle.mate_refusals.specs.declared.refusal.Refusal.{Refusal}

@@ -2,7 +2,7 @@
 
 ghost use Rattle.std.specs.Prelude.{◌≡◌, IfOk, IfSome};
 ghost use Rattle.capsule_codec.specs.Image.{capsule_parts};
-ghost use Rattle.capsule_listing.specs.CapsuleText.{IsVerifiedFor};
+ghost use Rattle.opcode_gen.specs.CapsuleText.{IsVerifiedFor};
 ghost use Rattle.mate_steps.specs.CapsuleFiles.{capsule};
 ghost use Rattle.mate_steps.specs.HeldCapsules.{ReadsCapsule, ReadsText, parts_in};
 ghost use Rattle.mate_steps.specs.Parts.{ReadsFiles};

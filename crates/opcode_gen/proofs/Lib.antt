@@ -1,1 +1,3 @@
 pub mod TableTextLemmas
+pub mod LockLineLemmas
+mod PrintingLemmas

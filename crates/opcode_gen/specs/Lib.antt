@@ -1,1 +1,3 @@
 pub mod TableText
+pub mod LockLine
+pub mod CapsuleText

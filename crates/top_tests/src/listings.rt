@@ -1,11 +1,10 @@
 //! The text of a capsule, into a sink that fails.
 
 use capsule_codec::{decode, from_hex};
-use capsule_listing::print_capsule;
 use code_verifier::verify;
 use mate_files::SinkFault;
 use memory_files::MemSink;
-use opcode_gen::table;
+use opcode_gen::{print_capsule, table};
 use std::test::Fail;
 use vm_desc::{Description, builtin};
 

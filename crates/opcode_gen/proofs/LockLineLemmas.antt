@@ -4,7 +4,7 @@ use Rattle.std.specs.List.{enumerate_from}
 use Rattle.std.proofs.lemmas.List.FromFn.{get_or-enumerate_from}
 use Rattle.mate_num.specs.Uses.{Uses, IsSameUses}
 use Rattle.mate_num.specs.declared.resource.Resource.{Resource}
-use Rattle.capsule_listing.specs.LockLine.{mention}
+use Rattle.opcode_gen.specs.LockLine.{mention}
 
 -- uses with the same reads and writes are one
 pub uses-same : (a b : Uses) → IsSameUses a b → a ≡ b

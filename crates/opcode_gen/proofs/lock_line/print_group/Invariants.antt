@@ -2,8 +2,8 @@ use Rattle.std.proofs.Common.{take, flat_map}
 use Rattle.std.specs.List.{enumerate_from}
 use Rattle.mate_files.specs.Pen.{Prints}
 use Rattle.mate_num.specs.Locks.{lock_uses}
-use Rattle.capsule_listing.specs.LockLine.{mention_at}
-use Rattle.capsule_listing.proofs.lock_line.print_group.Given as goal
+use Rattle.opcode_gen.specs.LockLine.{mention_at}
+use Rattle.opcode_gen.proofs.lock_line.print_group.Given as goal
 
 abbrev pub invariant-loop-place : goal.invariant-loop-place
 invariant-loop-place g l =

@@ -1,6 +1,6 @@
 use Rattle.std.proofs.Common.{◌∙◌, ap, decimal}
 use Rattle.mate_files.proofs.PenLemmas.{◌⟫◌, Prints-by}
-use Rattle.capsule_listing.proofs.printing.print_head.Goals as goal
+use Rattle.opcode_gen.proofs.printing.print_head.Goals as goal
 
 pub returns : goal.returns
 returns g c =

@@ -6,8 +6,8 @@ use Rattle.mate_code.specs.Table.{Layout, table_of, AreInTable}
 use Rattle.mate_files.proofs.PenLemmas.{Prints-by}
 use Rattle.opcode_gen.specs.TableText.{names_of_functions}
 use Rattle.opcode_gen.proofs.TableTextLemmas.{length-names_of}
-use Rattle.capsule_listing.proofs.PrintingLemmas.{Prints-put, Prints-none}
-use Rattle.capsule_listing.proofs.printing.print_instrs.Goals as goal
+use Rattle.opcode_gen.proofs.PrintingLemmas.{Prints-put, Prints-none}
+use Rattle.opcode_gen.proofs.printing.print_instrs.Goals as goal
 
 pub listing-pen-requires-clause-in_table : goal.listing-pen-requires-clause-in_table
 listing-pen-requires-clause-in_table g c =

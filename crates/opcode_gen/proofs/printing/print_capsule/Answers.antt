@@ -3,9 +3,9 @@ use Rattle.mate_files.proofs.PenLemmas.{◌⟫◌, Prints-by, Puts-finished}
 use Rattle.mate_code.specs.CodeUses as code
 use Rattle.mate_num.specs.Locks.{lock_uses}
 use Rattle.vm_desc.specs.Shapes.{shape_of}
-use Rattle.capsule_listing.specs.LockLine.{lock_line}
-use Rattle.capsule_listing.proofs.LockLineLemmas.{uses-same}
-use Rattle.capsule_listing.proofs.printing.print_capsule.Goals as goal
+use Rattle.opcode_gen.specs.LockLine.{lock_line}
+use Rattle.opcode_gen.proofs.LockLineLemmas.{uses-same}
+use Rattle.opcode_gen.proofs.printing.print_capsule.Goals as goal
 
 pub returns : goal.returns
 returns g c =

@@ -1,9 +1,9 @@
 use Rattle.std.proofs.Common.{ap}
 use Rattle.mate_files.proofs.PenLemmas.{◌⟫◌, Prints-by}
 use Rattle.mate_num.specs.Locks.{lock_uses}
-use Rattle.capsule_listing.specs.LockLine.{mentions}
-use Rattle.capsule_listing.specs.declared.lock_line.Group.TheVariants.{Shared, Buffers, Devices}
-use Rattle.capsule_listing.proofs.lock_line.print_lock_line.Goals as goal
+use Rattle.opcode_gen.specs.LockLine.{mentions}
+use Rattle.opcode_gen.specs.declared.lock_line.Group.TheVariants.{Shared, Buffers, Devices}
+use Rattle.opcode_gen.proofs.lock_line.print_lock_line.Goals as goal
 
 pub returns : goal.returns
 returns g c =

@@ -6,8 +6,8 @@ use Rattle.mate_num.specs.declared.bounds.TheConstants.{BUFFERS_MAX, DEVICES_MAX
 use Rattle.mate_num.specs.declared.resource.Resource.{Resource}
 use Rattle.mate_num.specs.declared.resource.Resource.TheVariants.{Shared, Buffer, Device}
 use Rattle.vm_desc.specs.declared.description.Description.{Description}
-use Rattle.capsule_listing.specs.declared.lock_line.Group.{Group}
-use Rattle.capsule_listing.specs.declared.lock_line.Group.TheVariants as group
+use Rattle.opcode_gen.specs.declared.lock_line.Group.{Group}
+use Rattle.opcode_gen.specs.declared.lock_line.Group.TheVariants as group
 
 -- the resource of a group that is at a place of the description's list
 abbrev pub resource_at : Group → ℕ → Resource

@@ -4,9 +4,9 @@ use Rattle.std.proofs.lemmas.List.FromFn.{length-enumerate_from}
 use Rattle.mate_files.proofs.PenLemmas.{Prints-by, Prints-all, Prints-next_item}
 use Rattle.mate_num.specs.Locks.{lock_uses}
 use Rattle.mate_num.specs.declared.resource.Resource.{Resource}
-use Rattle.capsule_listing.specs.LockLine.{mention, mention_at}
-use Rattle.capsule_listing.proofs.LockLineLemmas.{entry_at}
-use Rattle.capsule_listing.proofs.lock_line.print_group.Goals as goal
+use Rattle.opcode_gen.specs.LockLine.{mention, mention_at}
+use Rattle.opcode_gen.proofs.LockLineLemmas.{entry_at}
+use Rattle.opcode_gen.proofs.lock_line.print_group.Goals as goal
 
 pub loop-place-preserved : goal.loop-place-preserved
 loop-place-preserved g c =

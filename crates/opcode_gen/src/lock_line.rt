@@ -3,7 +3,7 @@
 ghost use Rattle.std.specs.Prelude.{◌≡◌, ◌<◌, ◌≤◌, length, IsTrue, codes, ◌++◌};
 ghost use Rattle.mate_files.specs.Pen.{Prints};
 ghost use Rattle.mate_num.specs.Locks.{is_resource, lock_uses};
-ghost use Rattle.capsule_listing.specs.LockLine.{mention, mentions, lock_line, resource_at, room_of};
+ghost use Rattle.opcode_gen.specs.LockLine.{mention, mentions, lock_line, resource_at, room_of};
 
 use mate_files::{Pen, Sink};
 use mate_num::{BufId, DeviceId, LockSet, Name, Resource, VarId};

@@ -7,8 +7,9 @@ ghost use Rattle.mate_files.specs.Sink.{Puts};
 ghost use Rattle.capsule_codec.specs.Image.{capsule_parts};
 ghost use Rattle.opcode_gen.specs.TableText.{names_of_functions};
 ghost use Rattle.vm_desc.specs.Shapes.{shape_of};
-ghost use Rattle.capsule_listing.specs.CapsuleText.{capsule_text, handler_name_at, head_line, IsVerifiedFor};
+ghost use Rattle.opcode_gen.specs.CapsuleText.{capsule_text, handler_name_at, head_line, IsVerifiedFor};
 
+use crate::generate::{function_names, table};
 use crate::lock_line::print_lock_line;
 use capsule_codec::Capsule;
 use code_verifier::Verified;
@@ -16,7 +17,6 @@ use lock_inference::locks;
 use mate_code::listing;
 use mate_files::{Pen, Sink, SinkFault};
 use mate_num::{HandlerId, Name};
-use opcode_gen::{function_names, table};
 use vm_desc::Description;
 
 /// Writes the capsule's text: `capsule`, the name of its handler, its version and how many bytes its code has; then a

@@ -9,7 +9,7 @@ use Rattle.code_verifier.specs.Verified.{VerifiedCode}
 use Rattle.opcode_gen.specs.TableText.{names_of_functions}
 use Rattle.vm_desc.specs.Shapes.{shape_of}
 use Rattle.vm_desc.specs.declared.description.Description.{Description}
-use Rattle.capsule_listing.specs.LockLine.{lock_line}
+use Rattle.opcode_gen.specs.LockLine.{lock_line}
 
 -- the name of the handler at a place
 abbrev pub handler_name_at : Description → ℕ → List ℕ

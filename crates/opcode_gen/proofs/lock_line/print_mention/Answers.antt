@@ -1,8 +1,8 @@
 use Rattle.std.proofs.Common.{sym, ◌∙◌}
 use Rattle.mate_files.proofs.PenLemmas.{◌⟫◌, Prints-by}
 use Rattle.mate_num.specs.Locks.{lock_uses}
-use Rattle.capsule_listing.proofs.LockLineLemmas.{mention-read}
-use Rattle.capsule_listing.proofs.lock_line.print_mention.Goals as goal
+use Rattle.opcode_gen.proofs.LockLineLemmas.{mention-read}
+use Rattle.opcode_gen.proofs.lock_line.print_mention.Goals as goal
 
 pub returns-then-reads : goal.returns-then-reads
 returns-then-reads g c =

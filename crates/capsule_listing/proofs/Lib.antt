@@ -1,2 +1,0 @@
-pub mod LockLineLemmas
-mod PrintingLemmas

@@ -1,2 +1,0 @@
-pub mod LockLine
-pub mod CapsuleText
