@@ -20,13 +20,13 @@ use Rattle.radio_sim.specs.Radio.{Ether}
 use Rattle.world_rules.specs.Run.{stamp_of, airs, journal}
 use Rattle.world_script.specs.declared.world.World.{World as Script}
 use Rattle.sim_event.specs.Performing.{MayPerform, Performed}
-use Rattle.sim_mote.specs.declared.mote.Mote.{Mote}
+use Rattle.sim_state.specs.declared.mote.Mote.{Mote}
 use Rattle.world_laws.specs.EventText.{so_far, TellJournals, AddsLines, EventsAddTheirLines}
-use Rattle.sim_run.specs.Reporting.{mote_logs}
-use Rattle.sim_run.specs.Running.{StandsAtNext}
-use Rattle.sim_run.specs.Telling.{report_now, AddsEvent}
-use Rattle.sim_run.specs.declared.simulation.Simulation.{Simulation}
-use Rattle.sim_run.proofs.MoteLemmas.{log-at, long-logs, set-log, tell}
+use Rattle.sim_state.specs.Reporting.{mote_logs}
+use Rattle.sim_state.specs.Running.{StandsAtNext}
+use Rattle.sim_state.specs.Telling.{report_now, AddsEvent}
+use Rattle.sim_state.specs.declared.simulation.Simulation.{Simulation}
+use Rattle.sim_state.proofs.MotesLemmas.{log-at, long-logs, set-log, tell}
 
 module _ (w : World) (law : EventsAddTheirLines w) (ms : List Moment) (m : Moment) (olds : List Mote) (old_air new_air : List Aired) (number event : ℕ) (x y : Mote) (told : TellJournals w ms (mote_logs olds))
     (low : number < length olds) (found : get_or olds number x ≡ x) (own : event_node w m.cause ≡ number) (x_numbered : NumbersInOrder x.node.log) (y_numbered : NumbersInOrder y.node.log)

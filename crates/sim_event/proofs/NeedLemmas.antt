@@ -33,14 +33,14 @@ use Rattle.world_laws.proofs.Timers.{timer_begun}
 use Rattle.sim_air.specs.Air.{radio_event}
 use Rattle.world_run_laws.specs.Coming.{code_world, IsExpected, MayComeTo}
 use Rattle.world_run_laws.specs.Sound.{IsSoundNode, HasWellFormed, NextMayCome, NodesAreSound}
-use Rattle.sim_mote.specs.Standing.{IsMoteOf}
+use Rattle.sim_state.specs.Standing.{IsMoteOf}
 use Rattle.sim_handling.specs.Handling.{IsFitEvent, IsOpenExchange, IsPaced, Handled}
-use Rattle.sim_mote.specs.Motes.{IsTellable}
-use Rattle.sim_mote.specs.declared.effect.Effect.{Effect}
-use Rattle.sim_mote.specs.declared.mote.Mote.{Mote}
-use Rattle.sim_run.specs.Standing.{IsMoteAfter}
+use Rattle.sim_state.specs.Motes.{IsTellable}
+use Rattle.sim_state.specs.declared.effect.Effect.{Effect}
+use Rattle.sim_state.specs.declared.mote.Mote.{Mote}
+use Rattle.sim_state.specs.StandingAfter.{IsMoteAfter}
 use Rattle.sim_event.specs.Performing.{MayPerform}
-use Rattle.sim_run.proofs.RoomLemmas.{records-high, wires-few, next-timely}
+use Rattle.sim_state.proofs.RoomLemmas.{records-high, wires-few, next-timely}
 use Rattle.sim_event.proofs.TurnLemmas.{IsFormed}
 
 -- what is expected is right as an event of the radio

@@ -35,13 +35,13 @@ use Rattle.world_laws.proofs.Journals.{journal-here, journal-other}
 use Rattle.sim_air.specs.Air.{radio_event, aired_at}
 use Rattle.world_run_laws.specs.Coming.{code_world, IsExpected}
 use Rattle.world_run_laws.specs.Sound.{HasWellFormed, NextMayCome, AreOfNodes, DuesAreOfNodes}
-use Rattle.sim_mote.specs.Standing.{IsMoteOf}
-use Rattle.sim_mote.specs.declared.mote.Mote.{Mote}
-use Rattle.sim_run.specs.Standing.{IsMoteAfter}
+use Rattle.sim_state.specs.Standing.{IsMoteOf}
+use Rattle.sim_state.specs.declared.mote.Mote.{Mote}
+use Rattle.sim_state.specs.StandingAfter.{IsMoteAfter}
 use Rattle.sim_event.specs.Performing.{MayPerform, Performed}
-use Rattle.sim_run.specs.Running.{StandsAfter, StandsAtNext}
+use Rattle.sim_state.specs.Running.{StandsAfter, StandsAtNext}
 use Rattle.sim_event.specs.Placing.{NamesPart, named_node}
-use Rattle.sim_run.specs.declared.simulation.Simulation.{Simulation}
+use Rattle.sim_state.specs.declared.simulation.Simulation.{Simulation}
 use Rattle.event_queue.proofs.WheelLemmas.{slice_get_set_same, slice_get_set_other}
 
 -- ---- which node

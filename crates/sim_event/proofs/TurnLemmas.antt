@@ -17,7 +17,7 @@ use Rattle.open_node.specs.View.{NodeView, heard_of, HasPace, Tells, IsSameNode}
 use Rattle.vm_desc.specs.declared.description.Description.{Description}
 use Rattle.vm_desc.proofs.DescriptionLemmas.{bounds_of}
 use Rattle.open_node.proofs.CallLemmas.{Tells-by}
-use Rattle.sim_mote.proofs.NodeLemmas.{tells-behind}
+use Rattle.sim_state.proofs.NodeLemmas.{tells-behind}
 use Rattle.journal_laws.specs.Waiting.{WaitApart, WaitSmall, AreAwaited, AreFollowing, HasFewContexts, JournalsWaitApart, JournalsWaitSmall, SettlingAwaits, SettlingTellsFew}
 use Rattle.open_node.specs.Calls.{IsNoneReady, told_by_entries, told_from}
 use Rattle.sim_handling.specs.Handling.{IsPaced}

@@ -11,9 +11,9 @@ use Rattle.world_rules.specs.State.{Moment, state}
 use Rattle.world_rules.specs.Run.{IsNext, MayCome, HaveCome, airs}
 use Rattle.sim_air.specs.Air.{radio_event}
 use Rattle.world_run_laws.specs.Sound.{HaveFitMessages}
-use Rattle.sim_mote.specs.Standing.{IsTakenFrom}
-use Rattle.sim_mote.specs.declared.mote.Mote.{Mote}
-use Rattle.sim_run.specs.Standing.{IsRadioAfter, IsMoteAfter, coming}
+use Rattle.sim_state.specs.Standing.{IsTakenFrom}
+use Rattle.sim_state.specs.declared.mote.Mote.{Mote}
+use Rattle.sim_state.specs.StandingAfter.{IsRadioAfter, IsMoteAfter, coming}
 
 -- the event is the next that is due after these events, it was taken from the radio, and it has room
 pub record MayPerform (w : World) (ms : List Moment) (c : Cause) (number : ℕ) (event : Event) (at : Stamp) (e : Ether) (x : Mote) : Type

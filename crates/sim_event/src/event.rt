@@ -6,7 +6,7 @@ ghost use Rattle.world_rules.specs.State.{Moment};
 ghost use Rattle.world_run_laws.specs.Coming.{code_world};
 ghost use Rattle.node_programs.specs.WorldPrograms.{AreProgramsOfWorld};
 ghost use Rattle.sim_event.specs.Performing.{MayPerform, Performed};
-ghost use Rattle.sim_mote.specs.Motes.{plain_effect};
+ghost use Rattle.sim_state.specs.Motes.{plain_effect};
 
 use crate::turns::{have_turns, is_well_formed};
 use mate_journal::Programs;
@@ -14,7 +14,7 @@ use mate_num::{NoMemory, Stamp};
 use radio_sim::{Event, Radio};
 use sim_finish::finish::finish;
 use sim_handling::handle;
-use sim_mote::{Effect, Mote};
+use sim_state::{Effect, Mote};
 use vm_desc::Description;
 use world_run_laws::states_are_sound;
 use world_script::World;

@@ -2,12 +2,12 @@
 
 ghost use Rattle.std.specs.Prelude.{◌≡◌, ◌+◌, IfOk, OnOk};
 ghost use Rattle.mate_journal.specs.Log.{IsEmpty};
-ghost use Rattle.sim_mote.specs.Motes.{plain_effect};
+ghost use Rattle.sim_state.specs.Motes.{plain_effect};
 ghost use Rattle.world_run_laws.specs.Coming.{code_world};
 ghost use Rattle.node_programs.specs.WorldPrograms.{AreProgramsOfWorld};
-ghost use Rattle.sim_run.specs.Running.{StandsAfter, StandsAtNext};
-ghost use Rattle.sim_run.specs.Ranging.{AreInRange};
-ghost use Rattle.sim_run.specs.Telling.{HasComeOn, LogsAreKept};
+ghost use Rattle.sim_state.specs.Running.{StandsAfter, StandsAtNext};
+ghost use Rattle.sim_state.specs.Ranging.{AreInRange};
+ghost use Rattle.sim_state.specs.Telling.{HasComeOn, LogsAreKept};
 ghost use Rattle.sim_event.specs.Placing.{NamesPart, named_node};
 
 use crate::event::perform;
@@ -15,8 +15,7 @@ use journal_laws::{LogSize, air_is_in_range_from, log_is_in_range_from};
 use mate_journal::{NodeLog, Programs};
 use mate_num::{NoMemory, Stamp};
 use radio_sim::Event;
-use sim_mote::Effect;
-use sim_run::{Simulation, Written};
+use sim_state::{Effect, Simulation, Written};
 use vm_desc::Description;
 use world_laws::text_grows_by_events;
 use world_run_laws::states_are_sound;

@@ -22,7 +22,7 @@ use Rattle.sim_air.specs.Air.{radio_event, timed_event, timed_events, aired_at, 
 use Rattle.sim_air.specs.Changes.{AddsToAir, AreNear, CancelsAll, if_begins, stays}
 use Rattle.sim_air.proofs.AirLemmas.{grows-both}
 use Rattle.sim_finish.specs.Pieces.{length_of, interval_items, period_items, pump_items}
-use Rattle.sim_mote.proofs.StandingLemmas.{due-timed, stands-added}
+use Rattle.sim_state.proofs.StandingLemmas.{due-timed, stands-added}
 use Rattle.sim_finish.proofs.PieceLemmas.{ends_of, kept-are, period-is, interval-is, pump-is, begun-is}
 
 -- ---- the whole event

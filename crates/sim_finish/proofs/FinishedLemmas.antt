@@ -24,11 +24,11 @@ use Rattle.sim_air.specs.Changes.{AddsToAir, CancelsAll, if_begins}
 use Rattle.sim_air.specs.declared.changes.Ends.{Ends}
 use Rattle.sim_air.specs.declared.calls.Calls.{Calls}
 use Rattle.sim_air.specs.Calls.{AreCallsOf}
-use Rattle.sim_mote.specs.declared.effect.Effect.{Effect}
-use Rattle.sim_mote.specs.declared.mote.Mote.{Mote}
+use Rattle.sim_state.specs.declared.effect.Effect.{Effect}
+use Rattle.sim_state.specs.declared.mote.Mote.{Mote}
 use Rattle.sim_finish.specs.Pieces.{length_of, interval_items, period_items, pump_items}
 use Rattle.open_node.specs.Calls.{told_from}
-use Rattle.sim_mote.specs.Standing.{IsTakenFrom}
+use Rattle.sim_state.specs.Standing.{IsTakenFrom}
 use Rattle.sim_finish.specs.Finishing.{HasSettled, IsFinished}
 use Rattle.sim_finish.proofs.PieceLemmas.{ends_of}
 use Rattle.sim_finish.proofs.FinishLemmas.{begins, HasPieces, IsLeft, left-by}

@@ -14,9 +14,9 @@ use Rattle.world_rules.specs.State.{Moment, WorldState, node_at, effect_at, air_
 use Rattle.sim_air.specs.Air.{radio_event, aired_at, IsAirOf, AreFitPackets}
 use Rattle.sim_air.specs.Calls.{AreCallsOf}
 use Rattle.journal_laws.specs.Waiting.{WaitApart, AreAwaited, asked_of}
-use Rattle.sim_mote.specs.Standing.{IsEffectOf}
-use Rattle.sim_mote.specs.declared.effect.Effect.{Effect}
-use Rattle.sim_mote.specs.declared.mote.Mote.{Mote}
+use Rattle.sim_state.specs.Standing.{IsEffectOf}
+use Rattle.sim_state.specs.declared.effect.Effect.{Effect}
+use Rattle.sim_state.specs.declared.mote.Mote.{Mote}
 
 -- none of these calls anything
 abbrev pub CallNothing : List JournalEntry → Type 0

@@ -11,7 +11,7 @@ ghost use Rattle.world_rules.specs.Effect.{event_node};
 ghost use Rattle.world_rules.specs.State.{Moment, WorldState};
 ghost use Rattle.sim_air.specs.Air.{radio_event};
 ghost use Rattle.world_run_laws.specs.Coming.{code_world};
-ghost use Rattle.sim_mote.specs.Standing.{IsTakenFrom};
+ghost use Rattle.sim_state.specs.Standing.{IsTakenFrom};
 ghost use Rattle.sim_finish.specs.Finishing.{HasSettled, IsFinished};
 
 use crate::answers::schedule_answers;
@@ -19,7 +19,7 @@ use crate::pieces::{note_all, schedule_pump, schedule_timed, send_packets};
 use mate_num::{NoMemory, Stamp};
 use radio_sim::{Event, Radio};
 use sim_air::{Ends, cancel};
-use sim_mote::{Effect, Mote};
+use sim_state::{Effect, Mote};
 use vm_desc::Description;
 use world_script::World;
 

@@ -19,7 +19,7 @@ use packet_codec::Packet;
 use radio_sim::wire::copy_of;
 use radio_sim::{Event, Radio};
 use sim_air::{note_first, note_interval, schedule, schedule_interval, send_all, send_messages};
-use sim_mote::{First, FirstTold};
+use sim_state::{First, FirstTold};
 use trickle_timer::Trickle;
 use vm_desc::{Description, HandlerKind};
 

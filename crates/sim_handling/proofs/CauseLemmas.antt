@@ -41,10 +41,10 @@ use Rattle.world_rules.specs.State.{timer_after, is_pump}
 use Rattle.sim_air.specs.Air.{radio_event}
 use Rattle.sim_air.specs.Calls.{AreCallsOf}
 use Rattle.world_run_laws.specs.Coming.{code_world, MayComeTo, AwaitsAlone}
-use Rattle.sim_mote.specs.declared.effect.Effect.{Effect}
-use Rattle.sim_mote.specs.declared.mote.Mote.{Mote}
-use Rattle.sim_mote.specs.Motes.{TellsAlone, PumpsMote, plain_effect, at_fire, of_owed, timed}
-use Rattle.sim_mote.specs.Standing.{IsMoteOf, IsEffectBy}
+use Rattle.sim_state.specs.declared.effect.Effect.{Effect}
+use Rattle.sim_state.specs.declared.mote.Mote.{Mote}
+use Rattle.sim_state.specs.Motes.{TellsAlone, PumpsMote, plain_effect, at_fire, of_owed, timed}
+use Rattle.sim_state.specs.Standing.{IsMoteOf, IsEffectBy}
 use Rattle.sim_handling.specs.Handling.{TakesProgram, DoesEffect, DoesBy, Handled}
 use Rattle.sim_handling.proofs.EffectLemmas.{seen_as, does-here, does-by, handled, quietly, does-quietly, tells-nothing}
 use Rattle.sim_handling.proofs.LineLemmas.{never, answering, does-answer}

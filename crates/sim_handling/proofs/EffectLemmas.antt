@@ -35,10 +35,10 @@ use Rattle.world_rules.specs.Run.{DeedMakes}
 use Rattle.world_rules.specs.State.{timer_after, is_pump}
 use Rattle.sim_air.specs.Calls.{AreCallsOf}
 use Rattle.world_run_laws.specs.Coming.{code_world, IsTaken}
-use Rattle.sim_mote.specs.declared.effect.Effect.{Effect}
-use Rattle.sim_mote.specs.declared.mote.Mote.{Mote}
-use Rattle.sim_mote.specs.Motes.{TellsAlone, InstallsImage, LeavesImage, IsNotInstalled, plain_effect}
-use Rattle.sim_mote.specs.Standing.{IsMoteOf, IsEffectBy}
+use Rattle.sim_state.specs.declared.effect.Effect.{Effect}
+use Rattle.sim_state.specs.declared.mote.Mote.{Mote}
+use Rattle.sim_state.specs.Motes.{TellsAlone, InstallsImage, LeavesImage, IsNotInstalled, plain_effect}
+use Rattle.sim_state.specs.Standing.{IsMoteOf, IsEffectBy}
 use Rattle.sim_handling.specs.Handling.{TakesProgram, DoesEffect, DoesBy, Handled}
 use Rattle.open_node.proofs.CallLemmas.{Tells-by}
 

@@ -23,11 +23,11 @@ use Rattle.world_rules.specs.World.{World, Inject, receivers}
 use Rattle.world_rules.specs.Effect.{NodeEffect, Posting, no_effect, of_line, of_packet}
 use Rattle.world_rules.specs.Run.{Occasions}
 use Rattle.world_run_laws.specs.Coming.{code_world, IsTaken}
-use Rattle.sim_mote.specs.declared.effect.Effect.{Effect}
-use Rattle.sim_mote.specs.declared.mote.Mote.{Mote}
-use Rattle.sim_mote.specs.Motes.{TellsAlone, InstallsImage, LeavesImage, HearsVector, plain_effect}
+use Rattle.sim_state.specs.declared.effect.Effect.{Effect}
+use Rattle.sim_state.specs.declared.mote.Mote.{Mote}
+use Rattle.sim_state.specs.Motes.{TellsAlone, InstallsImage, LeavesImage, HearsVector, plain_effect}
 use Rattle.sim_handling.specs.Handling.{IsFragmentOf, DoesEffect, DoesBy, receivers_below}
-use Rattle.sim_mote.specs.Standing.{IsEffectBy}
+use Rattle.sim_state.specs.Standing.{IsEffectBy}
 use Rattle.sim_handling.proofs.EffectLemmas.{seen_as, does-by, quietly, does-quietly, plain-quietly, stays-on, does-install}
 use Rattle.sim_handling.proofs.PostLemmas.{receivers-are}
 use Rattle.sim_handling.proofs.ImageLemmas.{fragment-stays, fragment-installs, completed-handler, program_in}

@@ -17,10 +17,10 @@ use Rattle.world_script.specs.declared.world.What.{What}
 use Rattle.world_rules.specs.World.{Want, Post, Show, ResetNode, want_of}
 use Rattle.world_rules.specs.Effect.{NodeEffect, Posting, Answering, Showing, no_effect, of_line}
 use Rattle.world_run_laws.specs.Coming.{code_world, AwaitsAlone}
-use Rattle.sim_mote.specs.declared.effect.Effect.{Effect}
-use Rattle.sim_mote.specs.declared.mote.Mote.{Mote}
-use Rattle.sim_mote.specs.Motes.{TellsAlone, ResetsMote, plain_effect}
-use Rattle.sim_mote.specs.Standing.{IsEffectBy}
+use Rattle.sim_state.specs.declared.effect.Effect.{Effect}
+use Rattle.sim_state.specs.declared.mote.Mote.{Mote}
+use Rattle.sim_state.specs.Motes.{TellsAlone, ResetsMote, plain_effect}
+use Rattle.sim_state.specs.Standing.{IsEffectBy}
 use Rattle.sim_handling.specs.Handling.{DoesBy}
 use Rattle.sim_handling.proofs.EffectLemmas.{seen_as, does-by, does-alone}
 use Rattle.sim_handling.proofs.PostLemmas.{occasions-one}

@@ -25,9 +25,9 @@ use Rattle.world_rules.specs.Run.{DeedMakes}
 use Rattle.world_rules.specs.State.{timer_after, still_pumps}
 use Rattle.sim_air.specs.Calls.{AreCallsOf}
 use Rattle.world_run_laws.specs.Coming.{code_world, IsTaken}
-use Rattle.sim_mote.specs.declared.effect.Effect.{Effect}
-use Rattle.sim_mote.specs.declared.mote.Mote.{Mote}
-use Rattle.sim_mote.specs.Standing.{IsMoteOf, IsEffectBy, IsEffectOf}
+use Rattle.sim_state.specs.declared.effect.Effect.{Effect}
+use Rattle.sim_state.specs.declared.mote.Mote.{Mote}
+use Rattle.sim_state.specs.Standing.{IsMoteOf, IsEffectBy, IsEffectOf}
 
 -- ---- what an event finds
 

@@ -17,16 +17,16 @@ ghost use Rattle.world_rules.specs.Effect.{Node as NodeState, of_line, of_packet
 ghost use Rattle.world_rules.specs.Run.{Occasions};
 ghost use Rattle.world_rules.specs.World.{want_of, is_receiver as receives};
 ghost use Rattle.sim_air.specs.Air.{radio_event};
-ghost use Rattle.sim_mote.specs.Motes.{IsTellable, TellsAlone, plain_effect};
+ghost use Rattle.sim_state.specs.Motes.{IsTellable, TellsAlone, plain_effect};
 ghost use Rattle.world_run_laws.specs.Coming.{code_world, MayComeTo};
-ghost use Rattle.sim_mote.specs.Standing.{IsMoteOf};
+ghost use Rattle.sim_state.specs.Standing.{IsMoteOf};
 ghost use Rattle.sim_handling.specs.Handling.{IsFitEvent, IsOpenExchange, IsPaced, Handled, DoesBy, IsFragmentOf, receivers_below};
 
 use mate_journal::Programs;
 use mate_num::{HandlerId, Image, NoMemory, Payload, Stamp};
 use packet_codec::{Packet, decode};
 use radio_sim::{Event, SharedPacket};
-use sim_mote::{Effect, Mote};
+use sim_state::{Effect, Mote};
 use vm_desc::{Description, HandlerKind};
 use world_script::{Link, What, World};
 

@@ -9,11 +9,11 @@ ghost use Rattle.trickle_timer.specs.Intervals.{Consistent, at_point};
 ghost use Rattle.trickle_timer.specs.declared.timer.Fire.TheVariants.{Keep};
 ghost use Rattle.capsule_exchange.specs.Happenings.{Happening, held_versions};
 ghost use Rattle.capsule_exchange.specs.Knowledge.{knowledge};
-ghost use Rattle.sim_mote.specs.Motes.{timed};
+ghost use Rattle.sim_state.specs.Motes.{timed};
 
 use mate_num::Stamp;
 use packet_codec::Packet;
-use sim_mote::{Effect, Mote};
+use sim_state::{Effect, Mote};
 
 pub fn a_silent_point_sends_nothing(mote: &mut Mote, suppress: bool) -> Effect
     ensures { (n : ℕ) (hs : List Happening) → mote.old.exchange ≡ knowledge n hs

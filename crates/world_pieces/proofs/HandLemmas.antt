@@ -15,12 +15,12 @@ use Rattle.report_reading.proofs.BackLemmas.{all_lines_same}
 use Rattle.report_text.specs.Text.{event_piece, lines}
 use Rattle.report_text.proofs.KeptLines.{piece-kept}
 use Rattle.report_text.proofs.WritingLemmas.{written-as}
-use Rattle.sim_mote.specs.declared.mote.Mote.{Mote}
-use Rattle.sim_run.specs.Keeping.{LetsGo}
-use Rattle.sim_run.specs.Reporting.{mote_logs}
-use Rattle.sim_run.specs.Telling.{report_now, AddsEvent}
+use Rattle.sim_state.specs.declared.mote.Mote.{Mote}
+use Rattle.sim_state.specs.Keeping.{LetsGo}
+use Rattle.sim_state.specs.Reporting.{mote_logs}
+use Rattle.sim_state.specs.Telling.{report_now, AddsEvent}
 use Rattle.world_pieces.specs.Writing.{HasWrittenNow}
-use Rattle.sim_run.specs.declared.simulation.Simulation.{Simulation}
+use Rattle.sim_state.specs.declared.simulation.Simulation.{Simulation}
 use Rattle.event_queue.proofs.WheelLemmas.{slice_get_set_same}
 use Rattle.world_pieces.proofs.RecordingLemmas.{go-logs}
 

@@ -31,14 +31,14 @@ use Rattle.world_pieces.proofs.RecordLemmas.{same-self, same-then, all-self, all
 use Rattle.world_rules.specs.World.{World}
 use Rattle.world_rules.specs.State.{Moment}
 use Rattle.world_rules.specs.Run.{journal}
-use Rattle.sim_mote.specs.declared.mote.Mote.{Mote}
+use Rattle.sim_state.specs.declared.mote.Mote.{Mote}
 use Rattle.world_laws.specs.EventText.{ShowTheirStores}
-use Rattle.sim_run.specs.Keeping.{IsWhole, HaveForgotten, LetsGo}
-use Rattle.sim_run.specs.Reporting.{ShowStores, mote_logs}
-use Rattle.sim_run.specs.Telling.{AddsEvent}
-use Rattle.sim_run.specs.declared.simulation.Simulation.{Simulation}
-use Rattle.sim_run.proofs.MoteLemmas.{long-logs, set-log, first-mote, at-mote}
-use Rattle.sim_run.proofs.KeepingLemmas.{alike}
+use Rattle.sim_state.specs.Keeping.{IsWhole, HaveForgotten, LetsGo}
+use Rattle.sim_state.specs.Reporting.{ShowStores, mote_logs}
+use Rattle.sim_state.specs.Telling.{AddsEvent}
+use Rattle.sim_state.specs.declared.simulation.Simulation.{Simulation}
+use Rattle.sim_state.proofs.MotesLemmas.{long-logs, set-log, first-mote, at-mote}
+use Rattle.sim_state.proofs.KeepingLemmas.{alike}
 use Rattle.world_pieces.specs.Recording.{IsRecordOf, IsRecordBefore, HasStoreBehind, HaveStoresBehind, IsRecorded, IsRecordedBefore, AreStoresBefore, AreStoresRecorded, StaysRecorded}
 
 -- ---- lists of logs that are the same but for their room

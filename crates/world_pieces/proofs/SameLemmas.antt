@@ -23,7 +23,7 @@ use Rattle.vm_desc.specs.declared.description.Description.{Description}
 use Rattle.world_rules.specs.World.{World}
 use Rattle.world_rules.specs.State.{Moment}
 use Rattle.world_rules.specs.Report.{IsLogOf, IsWorldReport}
-use Rattle.sim_run.proofs.KeepingLemmas.{alike, tidy-as}
+use Rattle.sim_state.proofs.KeepingLemmas.{alike, tidy-as}
 
 -- ---- it is a report of the same run
 

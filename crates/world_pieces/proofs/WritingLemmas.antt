@@ -29,19 +29,19 @@ use Rattle.world_rules.specs.Run.{HaveCome, IsAtEnd, airs, journal}
 use Rattle.world_rules.specs.Report.{IsLogOf, IsWorldReport}
 use Rattle.world_script.specs.declared.world.World.{World as Script}
 use Rattle.world_run_laws.specs.Coming.{code_world}
-use Rattle.sim_run.specs.Standing.{IsMoteAfter}
-use Rattle.sim_mote.specs.declared.mote.Mote.{Mote}
+use Rattle.sim_state.specs.StandingAfter.{IsMoteAfter}
+use Rattle.sim_state.specs.declared.mote.Mote.{Mote}
 use Rattle.world_laws.specs.EventText.{so_far, TellJournals, store_lines}
-use Rattle.sim_run.specs.Reporting.{mote_logs, told_report}
-use Rattle.sim_run.specs.Ranging.{AreInRange}
-use Rattle.sim_run.specs.Running.{StandsAfter}
-use Rattle.sim_run.specs.Telling.{report_now, LogsAreKept, AddsEvent}
-use Rattle.sim_run.proofs.RangeLemmas.{report-ranges}
-use Rattle.sim_run.proofs.MoteLemmas.{log-at, long-logs, first-mote, tell, keeps-all}
+use Rattle.sim_state.specs.Reporting.{mote_logs, told_report}
+use Rattle.sim_state.specs.Ranging.{AreInRange}
+use Rattle.sim_state.specs.Running.{StandsAfter}
+use Rattle.sim_state.specs.Telling.{report_now, LogsAreKept, AddsEvent}
+use Rattle.sim_state.proofs.RangeLemmas.{report-ranges}
+use Rattle.sim_state.proofs.MotesLemmas.{log-at, long-logs, first-mote, tell, keeps-all}
 use Rattle.world_pieces.specs.Recording.{IsRecorded}
 use Rattle.world_pieces.specs.Writing.{HasWrittenNow, StandsAtEnd, WritesRecorded}
-use Rattle.sim_run.specs.declared.simulation.Simulation.{Simulation}
-use Rattle.sim_run.proofs.WorldLemmas.{some-at, of-machine, full-report}
+use Rattle.sim_state.specs.declared.simulation.Simulation.{Simulation}
+use Rattle.sim_state.proofs.WorldLemmas.{some-at, of-machine, full-report}
 
 -- ---- the report of what stands
 

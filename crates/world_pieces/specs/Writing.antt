@@ -14,15 +14,15 @@ use Rattle.world_rules.specs.World.{World}
 use Rattle.world_rules.specs.State.{Moment, state}
 use Rattle.world_rules.specs.Run.{HaveCome, IsAtEnd, airs}
 use Rattle.world_rules.specs.Report.{IsWorldReport}
-use Rattle.sim_run.specs.Standing.{IsMoteAfter}
-use Rattle.sim_run.specs.Keeping.{IsWhole}
-use Rattle.sim_run.specs.Ranging.{AreInRange}
-use Rattle.sim_run.specs.Reporting.{mote_logs, told_report}
-use Rattle.sim_mote.specs.declared.mote.Mote.{Mote}
-use Rattle.sim_run.specs.Telling.{report_now, LogsAreKept}
-use Rattle.sim_run.specs.Running.{StandsAfter}
+use Rattle.sim_state.specs.StandingAfter.{IsMoteAfter}
+use Rattle.sim_state.specs.Keeping.{IsWhole}
+use Rattle.sim_state.specs.Ranging.{AreInRange}
+use Rattle.sim_state.specs.Reporting.{mote_logs, told_report}
+use Rattle.sim_state.specs.declared.mote.Mote.{Mote}
+use Rattle.sim_state.specs.Telling.{report_now, LogsAreKept}
+use Rattle.sim_state.specs.Running.{StandsAfter}
 use Rattle.world_pieces.specs.Recording.{IsRecorded}
-use Rattle.sim_run.specs.declared.simulation.Simulation.{Simulation}
+use Rattle.sim_state.specs.declared.simulation.Simulation.{Simulation}
 
 -- ---- what a part of a run writes
 

@@ -3,15 +3,14 @@
 ghost use Rattle.std.specs.Prelude.{◌≡◌, ◌<◌, ◌≤◌, length, MatchResult};
 ghost use Rattle.mate_num.specs.declared.bounds.TheConstants.{NODES_MAX};
 ghost use Rattle.world_pieces.specs.Records.{IsSameRecord};
-ghost use Rattle.sim_run.specs.Reporting.{mote_logs};
+ghost use Rattle.sim_state.specs.Reporting.{mote_logs};
 ghost use Rattle.world_pieces.specs.Recording.{IsRecordOf, IsRecordBefore, HaveStoresBehind, IsRecorded, IsRecordedBefore, AreStoresBefore, AreStoresRecorded};
 ghost use Rattle.world_pieces.specs.Recording.{StaysRecorded, has_record};
 
 use crate::record::Record;
 use mate_journal::ENTRIES_MAX;
 use mate_num::NoMemory;
-use sim_mote::Mote;
-use sim_run::Simulation;
+use sim_state::{Mote, Simulation};
 
 /// Records what a node and the radio have at hand, if a record is kept. `NoMemory` leaves it as it was, but for its room.
 pub fn record_event(

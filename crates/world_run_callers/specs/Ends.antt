@@ -14,10 +14,10 @@ use Rattle.world_rules.specs.Effect.{event_node, begun_length, is_owing}
 use Rattle.world_rules.specs.State.{Moment, WorldState, node_at, effect_at, node_after, still_pumps, next_period, deliveries, sendings, packets_of, left_due}
 use Rattle.world_rules.specs.World.{World}
 use Rattle.sim_air.specs.Air.{radio_event}
-use Rattle.sim_mote.specs.Standing.{IsTakenFrom}
+use Rattle.sim_state.specs.Standing.{IsTakenFrom}
 use Rattle.sim_finish.specs.Finishing.{HasSettled}
-use Rattle.sim_mote.specs.declared.effect.Effect.{Effect}
-use Rattle.sim_mote.specs.declared.mote.Mote.{Mote}
+use Rattle.sim_state.specs.declared.effect.Effect.{Effect}
+use Rattle.sim_state.specs.declared.mote.Mote.{Mote}
 
 -- the event of a node can end at this time; its entries are those from a position on
 pub record MayFinish (d : Description) (script : Script) (radio : Ether) (x : Mote) (number : ℕ) (r : Effect) (from time : ℕ) : Type 0 where

@@ -15,16 +15,16 @@ ghost use Rattle.world_rules.specs.Cause.{Planned, Deliver};
 ghost use Rattle.world_rules.specs.Effect.{Node as NodeState};
 ghost use Rattle.world_rules.specs.State.{sent_bytes};
 ghost use Rattle.world_rules.specs.World.{Inject, handlers};
-ghost use Rattle.sim_mote.specs.Motes.{IsTellable};
+ghost use Rattle.sim_state.specs.Motes.{IsTellable};
 ghost use Rattle.world_run_laws.specs.Coming.{code_world, MayComeTo};
-ghost use Rattle.sim_mote.specs.Standing.{IsMoteOf};
+ghost use Rattle.sim_state.specs.Standing.{IsMoteOf};
 ghost use Rattle.sim_handling.specs.Handling.{IsOpenExchange, IsPaced};
 
 use mate_journal::Programs;
 use mate_num::{NoMemory, Stamp};
 use radio_sim::{Event, SharedPacket};
 use sim_handling::handle;
-use sim_mote::{Effect, Mote};
+use sim_state::{Effect, Mote};
 use vm_desc::Description;
 use world_script::World;
 

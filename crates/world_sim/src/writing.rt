@@ -11,7 +11,7 @@ use mate_files::Sink;
 use mate_journal::{IntoFault, Programs, Report};
 use mate_num::NoMemory;
 use report_text::nothing_run;
-use sim_run::Simulation;
+use sim_state::Simulation;
 use std::alloc::Global;
 use vm_desc::Description;
 use world_pieces::{Record, add_event};

@@ -23,13 +23,13 @@ use Rattle.report_text.specs.Writing.{OfRun, IsEnded}
 use Rattle.mate_num.proofs.ListLemmas.{all-at}
 use Rattle.world_rules.specs.World.{World}
 use Rattle.world_rules.specs.State.{Moment}
-use Rattle.sim_mote.specs.declared.mote.Mote.{Mote}
+use Rattle.sim_state.specs.declared.mote.Mote.{Mote}
 use Rattle.world_laws.specs.EventText.{ShowTheirStores}
-use Rattle.sim_run.specs.Keeping.{IsWhole, HaveForgotten, LetsGo}
-use Rattle.sim_run.specs.Reporting.{ShowStores, mote_logs, told_report}
-use Rattle.sim_run.specs.Telling.{AddsEvent}
-use Rattle.sim_run.specs.declared.simulation.Simulation.{Simulation}
-use Rattle.sim_run.proofs.MoteLemmas.{first-mote, at-mote}
+use Rattle.sim_state.specs.Keeping.{IsWhole, HaveForgotten, LetsGo}
+use Rattle.sim_state.specs.Reporting.{ShowStores, mote_logs, told_report}
+use Rattle.sim_state.specs.Telling.{AddsEvent}
+use Rattle.sim_state.specs.declared.simulation.Simulation.{Simulation}
+use Rattle.sim_state.proofs.MotesLemmas.{first-mote, at-mote}
 use Rattle.world_summary.specs.Counting.{IsCounted, IsCountedBehind, CountsHand, AreCounted, IsTallied, IsTalliedBefore, IsSmallTally, MayCount}
 use Rattle.world_pieces.proofs.HandLemmas.{at-hand-now}
 use Rattle.world_pieces.proofs.RecordingLemmas.{mote-low, one-mote, store-behind}

@@ -4,11 +4,11 @@ use Rattle.report_text.specs.Tally.{IsLogTally, IsAirTally, IsUpTo, IsAirTallyUp
 use Rattle.report_text.specs.declared.summary.RunTally.{RunTally}
 use Rattle.report_text.specs.declared.tally.LogTally.{LogTally}
 use Rattle.world_rules.specs.World.{World}
-use Rattle.sim_mote.specs.declared.mote.Mote.{Mote}
-use Rattle.sim_run.specs.Ranging.{AreInRange}
-use Rattle.sim_run.specs.Running.{StandsAfter}
-use Rattle.sim_run.specs.Telling.{LogsAreKept}
-use Rattle.sim_run.specs.declared.simulation.Simulation.{Simulation}
+use Rattle.sim_state.specs.declared.mote.Mote.{Mote}
+use Rattle.sim_state.specs.Ranging.{AreInRange}
+use Rattle.sim_state.specs.Running.{StandsAfter}
+use Rattle.sim_state.specs.Telling.{LogsAreKept}
+use Rattle.sim_state.specs.declared.simulation.Simulation.{Simulation}
 
 -- all that the node recorded was counted, for n handlers; or all but what it has at hand
 abbrev pub IsCounted : ℕ → LogTally → Mote → Type 0

@@ -11,7 +11,7 @@ use Rattle.world_pieces.specs.declared.record.Record.{Record}
 use Rattle.report_text.specs.declared.pass.Pass.{Pass}
 use Rattle.world_run_laws.specs.Promise.{IsReportOfWorld}
 use Rattle.world_script.specs.declared.world.World.{World as Script}
-use Rattle.sim_run.specs.Reporting.{told_report}
+use Rattle.sim_state.specs.Reporting.{told_report}
 use Rattle.world_run_laws.specs.Coming.{code_world}
 use Rattle.world_pieces.specs.Writing.{WritesRecorded}
 use Rattle.report_text.specs.Writing.{WritesRun}

@@ -6,12 +6,12 @@ ghost use Rattle.report_text.specs.Writing.{WritesRun};
 ghost use Rattle.world_rules.specs.Report.{IsWorldReport};
 ghost use Rattle.world_run_laws.specs.Coming.{code_world};
 ghost use Rattle.node_programs.specs.WorldPrograms.{AreProgramsOfWorld};
-ghost use Rattle.sim_mote.specs.Motes.{plain_effect};
+ghost use Rattle.sim_state.specs.Motes.{plain_effect};
 ghost use Rattle.world_run_laws.specs.Promise.{IsReportOfWorld};
-ghost use Rattle.sim_run.specs.Keeping.{IsWhole};
-ghost use Rattle.sim_run.specs.Ranging.{AreInRange};
-ghost use Rattle.sim_run.specs.Running.{StandsAfter, StandsAtNext};
-ghost use Rattle.sim_run.specs.Telling.{LogsAreKept};
+ghost use Rattle.sim_state.specs.Keeping.{IsWhole};
+ghost use Rattle.sim_state.specs.Ranging.{AreInRange};
+ghost use Rattle.sim_state.specs.Running.{StandsAfter, StandsAtNext};
+ghost use Rattle.sim_state.specs.Telling.{LogsAreKept};
 ghost use Rattle.world_pieces.specs.Recording.{IsRecorded, has_record};
 ghost use Rattle.world_pieces.specs.Writing.{IsStepWritten, WritesRecorded};
 
@@ -22,8 +22,7 @@ use mate_num::Stamp;
 use radio_sim::Event;
 use report_text::{Pass, WriteFault, stopped};
 use sim_event::step;
-use sim_mote::Effect;
-use sim_run::{Simulation, Written};
+use sim_state::{Effect, Simulation, Written};
 use std::alloc::Global;
 use vm_desc::Description;
 use world_pieces::{

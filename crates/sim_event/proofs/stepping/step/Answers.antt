@@ -3,12 +3,12 @@ use Rattle.std.specs.Prelude.{Some, slice_get}
 use Rattle.std.proofs.lemmas.Option.{slice_get-get_or}
 use Rattle.mate_journal.specs.Ranges.{HasAiredRanges}
 use Rattle.mate_journal.specs.declared.air.Aired.{Aired}
-use Rattle.sim_mote.specs.declared.mote.Mote.{Mote}
+use Rattle.sim_state.specs.declared.mote.Mote.{Mote}
 use Rattle.world_run_laws.specs.Coming.{code_world}
-use Rattle.sim_run.proofs.KeepingLemmas.{few-stand, stands-still, kept-still}
+use Rattle.sim_state.proofs.KeepingLemmas.{few-stand, stands-still, kept-still}
 use Rattle.sim_event.proofs.AddingLemmas.{piece-adds}
-use Rattle.sim_run.proofs.MoteLemmas.{kept-set, first-mote, at-mote}
-use Rattle.sim_run.proofs.RangeLemmas.{told-ranges, event-ranges}
+use Rattle.sim_state.proofs.MotesLemmas.{kept-set, first-mote, at-mote}
+use Rattle.sim_state.proofs.RangeLemmas.{told-ranges, event-ranges}
 use Rattle.sim_event.proofs.StepLemmas.{placed, of-mote, has-more, stands-after, well-of}
 use Rattle.sim_event.proofs.stepping.step.Goals as goal
 

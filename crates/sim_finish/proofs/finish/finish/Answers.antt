@@ -11,7 +11,7 @@ use Rattle.sim_air.specs.Changes.{AddsToAir}
 use Rattle.sim_air.specs.Calls.{AreCallsOf, HasSensors}
 use Rattle.journal_laws.specs.Waiting.{AreAwaited}
 use Rattle.world_run_laws.specs.Coming.{code_world}
-use Rattle.sim_mote.proofs.StandingLemmas.{stands-same, stands-added}
+use Rattle.sim_state.proofs.StandingLemmas.{stands-same, stands-added}
 use Rattle.sim_finish.proofs.FinishedLemmas.{finished-by}
 use Rattle.sim_finish.proofs.finish.finish.Goals as goal
 

@@ -5,7 +5,7 @@ use Rattle.mate_journal.specs.declared.air.Air.{Air}
 use Rattle.sim_air.specs.Air.{aired_at}
 use Rattle.sim_air.specs.Changes.{AddsToAir}
 use Rattle.sim_air.proofs.ChangeLemmas.{adds-nothing}
-use Rattle.sim_mote.specs.First.{first_told}
+use Rattle.sim_state.specs.First.{first_told}
 use Rattle.sim_finish.proofs.pieces.note_told.Goals as goal
 
 pub returns-in-Nothing : goal.returns-in-Nothing

@@ -10,7 +10,7 @@ use Rattle.node_programs.specs.Sources.{held_as}
 use Rattle.world_script.specs.World.{IsRightWhat}
 use Rattle.world_script.specs.declared.world.What.{What}
 use Rattle.world_rules.specs.World.{Inject, Post, Show, ResetNode, want_of}
-use Rattle.sim_mote.specs.Motes.{InstallsImage, LeavesImage}
+use Rattle.sim_state.specs.Motes.{InstallsImage, LeavesImage}
 use Rattle.sim_handling.proofs.HearLemmas.{does-inject}
 use Rattle.sim_handling.proofs.LineLemmas.{by-want, does-post, does-show, does-reset}
 use Rattle.sim_handling.proofs.handling.follow.Goals as goal

@@ -5,7 +5,7 @@ use Rattle.open_node.specs.View.{heard_of, Tells}
 use Rattle.open_node.specs.Calls.{Pacing}
 use Rattle.world_rules.specs.Run.{Occasions}
 use Rattle.world_rules.specs.World.{handler_id}
-use Rattle.sim_mote.specs.declared.mote.Mote.{Mote}
+use Rattle.sim_state.specs.declared.mote.Mote.{Mote}
 use Rattle.sim_handling.specs.Handling.{receivers_below, if_receives}
 use Rattle.sim_handling.proofs.EffectLemmas.{tells-nothing}
 use Rattle.sim_handling.proofs.PostLemmas.{posts-more, receivers-more}

@@ -2,7 +2,7 @@ use Rattle.std.proofs.Common.{◌∙◌, Bool, ap}
 use Rattle.std.proofs.lemmas.Slice.Eq.{bytes_eq-Decides}
 use Rattle.trickle_timer.specs.Timer.{packet_event}
 use Rattle.capsule_exchange.specs.Happenings.{held_versions}
-use Rattle.sim_mote.specs.Motes.{timed}
+use Rattle.sim_state.specs.Motes.{timed}
 use Rattle.world_callers.proofs.motes.a_consistent_vector_counts.Goals as goal
 
 pub returns : goal.returns

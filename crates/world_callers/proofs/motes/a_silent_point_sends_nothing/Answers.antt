@@ -1,8 +1,8 @@
 use Rattle.std.proofs.Common.{◌∙◌, ap}
 use Rattle.trickle_timer.specs.declared.timer.Fire.{Fire}
 use Rattle.capsule_exchange.specs.Happenings.{held_versions}
-use Rattle.sim_mote.specs.Motes.{at_fire}
-use Rattle.sim_mote.specs.declared.effect.Effect.{Effect}
+use Rattle.sim_state.specs.Motes.{at_fire}
+use Rattle.sim_state.specs.declared.effect.Effect.{Effect}
 use Rattle.world_callers.proofs.motes.a_silent_point_sends_nothing.Goals as goal
 
 pub returns : goal.returns

@@ -1,7 +1,7 @@
 use Rattle.std.proofs.Common.{◌≡◌, length, take}
 use Rattle.std.specs.Prelude.{sum_by}
 use Rattle.mate_journal.specs.Log.{Log}
-use Rattle.sim_run.specs.Reporting.{mote_logs}
+use Rattle.sim_state.specs.Reporting.{mote_logs}
 use Rattle.world_pieces.proofs.writing.entries_in.Given as goal
 
 abbrev pub invariant-loop-mote : goal.invariant-loop-mote

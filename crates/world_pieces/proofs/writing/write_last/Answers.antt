@@ -1,6 +1,6 @@
 use Rattle.std.proofs.Common.{List, length, sym, ap, subst, arith}
 use Rattle.report_text.specs.Writing.{PutsLastLine}
-use Rattle.sim_mote.specs.declared.mote.Mote.{Mote}
+use Rattle.sim_state.specs.declared.mote.Mote.{Mote}
 use Rattle.world_pieces.specs.Writing.{report_of}
 use Rattle.world_pieces.proofs.writing.write_last.Goals as goal
 

@@ -4,7 +4,7 @@ use Rattle.std.proofs.lemmas.Option.{slice_get-get_or}
 use Rattle.mate_files.specs.Sink.{Puts}
 use Rattle.mate_journal.specs.declared.air.Aired.{Aired}
 use Rattle.report_text.specs.Text.{event_piece}
-use Rattle.sim_mote.specs.declared.mote.Mote.{Mote}
+use Rattle.sim_state.specs.declared.mote.Mote.{Mote}
 use Rattle.report_text.proofs.KeptLines.{piece-all}
 use Rattle.world_pieces.proofs.writing.write_piece.Goals as goal
 

@@ -5,7 +5,7 @@ use Rattle.std.proofs.lemmas.Option.{slice_get-get_or}
 use Rattle.mate_journal.specs.declared.air.Aired.{Aired}
 use Rattle.report_text.specs.declared.tally.LogTally.{LogTally}
 use Rattle.report_text.proofs.TallyLemmas.{up-to, air-same, air-up-to}
-use Rattle.sim_mote.specs.declared.mote.Mote.{Mote}
+use Rattle.sim_state.specs.declared.mote.Mote.{Mote}
 use Rattle.world_summary.proofs.CountingLemmas.{event-counted, event-small}
 use Rattle.world_summary.proofs.counting.count_event.Goals as goal
 

@@ -2,7 +2,7 @@ use Rattle.std.proofs.Common.{◌≡◌, ◌<◌, ◌+◌, ℕ, List, length, se
 use Rattle.std.specs.Prelude.{Some, slice_get}
 use Rattle.std.proofs.lemmas.Option.{slice_get-get_or}
 use Rattle.report_text.specs.declared.tally.LogTally.{LogTally}
-use Rattle.sim_mote.specs.declared.mote.Mote.{Mote}
+use Rattle.sim_state.specs.declared.mote.Mote.{Mote}
 use Rattle.world_summary.proofs.CountingLemmas.{StoresCounted, none-counted, store-few, store-counted, stores-counted, stores-small}
 use Rattle.world_summary.proofs.counting.count_stores.Goals as goal
 

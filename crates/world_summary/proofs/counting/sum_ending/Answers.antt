@@ -3,12 +3,12 @@ use Rattle.mate_num.specs.declared.call.Stamp.{Stamp}
 use Rattle.mate_journal.specs.NodeScript.{Whole}
 use Rattle.report_text.specs.declared.summary.RunTally.{RunTally}
 use Rattle.world_run_laws.specs.Promise.{IsReportOfWorld}
-use Rattle.sim_run.specs.Reporting.{told_report}
-use Rattle.sim_run.specs.Telling.{LogsAreKept}
-use Rattle.sim_run.specs.declared.simulation.Simulation.{Simulation}
-use Rattle.sim_run.proofs.RangeLemmas.{report-ranges, few-of}
-use Rattle.sim_run.proofs.WorldLemmas.{all-timely}
-use Rattle.sim_mote.specs.declared.mote.Mote.{Mote}
+use Rattle.sim_state.specs.Reporting.{told_report}
+use Rattle.sim_state.specs.Telling.{LogsAreKept}
+use Rattle.sim_state.specs.declared.simulation.Simulation.{Simulation}
+use Rattle.sim_state.proofs.RangeLemmas.{report-ranges, few-of}
+use Rattle.sim_state.proofs.WorldLemmas.{all-timely}
+use Rattle.sim_state.specs.declared.mote.Mote.{Mote}
 use Rattle.world_run_laws.specs.Coming.{code_world}
 use Rattle.world_summary.specs.Counting.{IsCounted, IsCountedBehind, AreCounted}
 use Rattle.world_summary.proofs.CountingLemmas.{all-behind, all-few, run-summary}

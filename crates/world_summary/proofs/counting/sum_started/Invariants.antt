@@ -1,10 +1,10 @@
 use Rattle.std.proofs.Common.{◌≡◌, length}
 use Rattle.mate_journal.specs.Log.{IsEmpty}
 use Rattle.world_run_laws.specs.Coming.{code_world}
-use Rattle.sim_mote.specs.Motes.{plain_effect}
-use Rattle.sim_run.specs.Ranging.{AreInRange}
-use Rattle.sim_run.specs.Running.{StandsAfter}
-use Rattle.sim_run.specs.Telling.{LogsAreKept}
+use Rattle.sim_state.specs.Motes.{plain_effect}
+use Rattle.sim_state.specs.Ranging.{AreInRange}
+use Rattle.sim_state.specs.Running.{StandsAfter}
+use Rattle.sim_state.specs.Telling.{LogsAreKept}
 use Rattle.world_summary.specs.Counting.{IsTallied, IsSmallTally}
 use Rattle.world_summary.proofs.counting.sum_started.Given as goal
 

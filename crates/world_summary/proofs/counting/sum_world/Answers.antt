@@ -1,6 +1,6 @@
 use Rattle.std.proofs.Common.{length, sym, ◌∙◌, subst, arith}
 use Rattle.report_text.specs.Summary.{IsNewTally}
-use Rattle.sim_run.specs.Telling.{LogsAreKept}
+use Rattle.sim_state.specs.Telling.{LogsAreKept}
 use Rattle.world_summary.proofs.CountingLemmas.{start-tallied, start-few}
 use Rattle.world_summary.proofs.counting.sum_world.Goals as goal
 

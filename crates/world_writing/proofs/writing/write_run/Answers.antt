@@ -5,9 +5,9 @@ use Rattle.world_pieces.proofs.RecordLemmas.{all-self}
 use Rattle.report_text.specs.declared.pass.Pass.{Pass}
 use Rattle.world_rules.specs.Report.{IsWorldReport}
 use Rattle.world_run_laws.specs.Coming.{code_world}
-use Rattle.sim_run.specs.Reporting.{mote_logs}
-use Rattle.sim_run.proofs.RangeLemmas.{same-ranges, report-ranges, few-of}
-use Rattle.sim_run.proofs.RunLemmas.{behind, is-done}
+use Rattle.sim_state.specs.Reporting.{mote_logs}
+use Rattle.sim_state.proofs.RangeLemmas.{same-ranges, report-ranges, few-of}
+use Rattle.sim_state.proofs.RunLemmas.{behind, is-done}
 use Rattle.world_pieces.specs.Writing.{WritesRecorded}
 use Rattle.world_pieces.proofs.RecordingLemmas.{recorded-as}
 use Rattle.world_pieces.proofs.WritingLemmas.{at-end, memory-ends, full-ends}

@@ -1,10 +1,10 @@
 use Rattle.std.proofs.Common.{◌≡◌}
 use Rattle.mate_journal.specs.Log.{IsEmpty}
 use Rattle.world_run_laws.specs.Coming.{code_world}
-use Rattle.sim_mote.specs.Motes.{plain_effect}
-use Rattle.sim_run.specs.Ranging.{AreInRange}
-use Rattle.sim_run.specs.Running.{StandsAfter}
-use Rattle.sim_run.specs.Telling.{LogsAreKept}
+use Rattle.sim_state.specs.Motes.{plain_effect}
+use Rattle.sim_state.specs.Ranging.{AreInRange}
+use Rattle.sim_state.specs.Running.{StandsAfter}
+use Rattle.sim_state.specs.Telling.{LogsAreKept}
 use Rattle.world_pieces.specs.Recording.{IsRecorded, has_record}
 use Rattle.world_pieces.specs.Writing.{HasWrittenNow}
 use Rattle.world_writing.proofs.writing.write_run.Given as goal

@@ -1,8 +1,8 @@
 use Rattle.std.proofs.Common.{◌≡◌, ◌-◌, length, sym, subst, arith}
 use Rattle.report_text.specs.declared.pass.Pass.{Pass}
 use Rattle.world_run_laws.specs.Coming.{code_world}
-use Rattle.sim_run.proofs.RangeLemmas.{left-ranges, few-before}
-use Rattle.sim_run.proofs.KeepingLemmas.{few-after, left-stands}
+use Rattle.sim_state.proofs.RangeLemmas.{left-ranges, few-before}
+use Rattle.sim_state.proofs.KeepingLemmas.{few-after, left-stands}
 use Rattle.world_pieces.specs.Writing.{EndsSo}
 use Rattle.world_pieces.proofs.HandLemmas.{written-still, at-hand-now, put-now, left-written}
 use Rattle.world_pieces.proofs.RecordingLemmas.{recorded-before, recorded-still, left-recorded}

@@ -1,3 +1,0 @@
-pub mod NodeLemmas
-pub mod MoteLemmas
-pub mod StandingLemmas

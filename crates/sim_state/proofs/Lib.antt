@@ -1,0 +1,11 @@
+pub mod NodeLemmas
+pub mod MoteLemmas
+pub mod StandingLemmas
+pub mod BeginLemmas
+pub mod ReportLemmas
+pub mod RunLemmas
+pub mod WorldLemmas
+pub mod MotesLemmas
+pub mod KeepingLemmas
+pub mod RangeLemmas
+pub mod RoomLemmas

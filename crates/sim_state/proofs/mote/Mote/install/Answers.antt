@@ -1,0 +1,53 @@
+use Rattle.std.proofs.Common.{ℕ, Bool, List, Result, true, refl, sym, ◌∙◌, ap, subst, inl, inr}
+use Rattle.std.specs.Prelude.{⊤}
+use Rattle.mate_journal.specs.Journal.{NodeState}
+use Rattle.vm_desc.specs.declared.description.Description.{Description}
+use Rattle.node_calls.specs.Installing.{InstallsBytes, Refuses}
+use Rattle.node_calls.specs.declared.installing.InstallFault.{InstallFault}
+use Rattle.open_node.specs.View.{NodeView, heard_of, Tells, IsSameNode}
+use Rattle.open_node.specs.Calls.{Pacing, TakesCapsule}
+use Rattle.open_node.proofs.CallLemmas.{same-on}
+use Rattle.sim_state.specs.declared.effect.Effect.{Effect}
+use Rattle.sim_state.specs.Motes.{plain_effect}
+use Rattle.sim_state.proofs.NodeLemmas.{tellable-same, heard-same, tells-behind}
+use Rattle.sim_state.proofs.MoteLemmas.{begins-reset}
+use Rattle.sim_state.proofs.mote.Mote.install.Goals as goal
+
+pub install_anywhere-requires-clause-timely : goal.install_anywhere-requires-clause-timely
+install_anywhere-requires-clause-timely c = (tellable-same c.args.self.now.node c.reserve.new.self c.args.at c.in_ok-reserve.ensures.same c.requires.tellable).timely
+
+pub returns-in_ok-installed-in-Ok : goal.returns-in_ok-installed-in-Ok
+returns-in_ok-installed-in-Ok c =
+    let mid = c.reserve.new.self in
+    let new = c.install_anywhere.new.self in
+    let T : Result ⊤ InstallFault → Type 0 = λ r. TakesCapsule mid new c.as_slice.result.now c.args.at r in
+    let P : List ℕ → Type 0 = λ bs. Tells mid new c.args.at (Pacing (InstallsBytes mid.description (heard_of mid) bs)) in
+    let E : Bool → Effect = λ b. record plain_effect { begins = b; cuts = true } in
+    inl (record {
+      tells =
+          tells-behind c.args.self.now.node mid new c.args.at (λ d r. Pacing (InstallsBytes d r c.args.image.now.items)) c.in_ok-reserve.ensures.same c.in_ok-reserve.ensures.pace
+          (subst P c.as_slice.ensures.value (subst T c.in-Ok.is c.in_ok-install_anywhere.ensures));
+      timer = c.reset-effect.ensures.next.next;
+      exchange = c.in_ok-installed-in-Ok.ensures.learned;
+      pumps = refl;
+      calls = refl;
+      effect = ap (λ (e : Effect). record e { begins = c.reset-effect.result; cuts = true }) c.requires.plain ∙ ap E (c.reset-effect.ensures.begun ∙ sym (begins-reset c.args.self.now.timer));
+    })
+
+pub returns-in-Err : goal.returns-in-Err
+returns-in-Err c =
+    let v = c.args.self.now.node in
+    let mid = c.reserve.new.self in
+    let new = c.install_anywhere.new.self in
+    let fault = c.in-Err.field-0 in
+    let T : Result ⊤ InstallFault → Type 0 = λ r. TakesCapsule mid new c.as_slice.result.now c.args.at r in
+    let refused : Refuses mid.description (heard_of mid) c.as_slice.result.now fault × IsSameNode mid new = subst T c.in-Err.is c.in_ok-install_anywhere.ensures in
+    let D : Description → Type 0 = λ d. Refuses d (heard_of mid) c.as_slice.result.now fault in
+    let R : NodeState → Type 0 = λ r. Refuses v.description r c.as_slice.result.now fault in
+    let B : List ℕ → Type 0 = λ bs. Refuses v.description (heard_of v) bs fault in
+    inr (record {
+      why = inr (inr (fault, subst B c.as_slice.ensures.value (subst R (heard-same v mid c.in_ok-reserve.ensures.same) (subst D c.in_ok-reserve.ensures.same.description refused.0))));
+      node = same-on v mid new c.in_ok-reserve.ensures.same refused.1;
+      same = refl;
+      effect = c.requires.plain;
+    })

@@ -1,0 +1,25 @@
+use Rattle.std.proofs.Common.{false, refl, sym, ◌∙◌, ap, subst, ℕ, []}
+use Rattle.capsule_exchange.specs.Knowledge.{knowledge}
+use Rattle.vm_desc.specs.declared.description.Description.{Description}
+use Rattle.vm_desc.proofs.DescriptionLemmas.{trickle_rules}
+use Rattle.sim_state.specs.Motes.{BeginsMote}
+use Rattle.sim_state.specs.declared.mote.Mote.{Mote}
+use Rattle.sim_state.proofs.mote.Mote.new.Goals as goal
+
+pub start-requires-clause-settings : goal.start-requires-clause-settings
+start-requires-clause-settings c = trickle_rules c.description-desc.result.now
+
+pub returns : goal.returns
+returns c =
+    let m : Mote = record { node = c.in_ok-on.field-0; timer = c.start.result; exchange = c.in_ok-new.field-0; pumps = false; calls = c.in_ok-new-2.field-0 } in
+    let P : Description → Type 0 = λ d. BeginsMote d c.args.random c.args.node m in
+    subst P c.description-desc.ensures record {
+      description = c.in_ok-on.ensures.0 ∙ c.in_ok-share.ensures ∙ sym c.description-desc.ensures;
+      empty = c.in_ok-on.ensures.1;
+      gone = c.in_ok-on.ensures.3;
+      pace = c.in_ok-on.ensures.2;
+      timer = c.start.ensures.first;
+      exchange = c.in_ok-new.ensures ∙ ap (λ (n : ℕ). knowledge n []) c.len.ensures.value;
+      pumps = refl;
+      calls = c.in_ok-new-2.ensures;
+    }

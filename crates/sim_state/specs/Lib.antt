@@ -1,0 +1,10 @@
+pub mod First
+pub mod Motes
+pub mod Standing
+pub mod StandingAfter
+pub mod Running
+pub mod Starting
+pub mod Reporting
+pub mod Ranging
+pub mod Telling
+pub mod Keeping
