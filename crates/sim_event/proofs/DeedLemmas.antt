@@ -12,7 +12,7 @@ use Rattle.mate_journal.specs.Pace.{Pace}
 use Rattle.mate_journal.specs.NodeScript.{Occasion}
 use Rattle.world_rules.specs.Effect.{Deed, Nothing, Installing, Posting, Answering, Showing, Resetting}
 use Rattle.world_rules.specs.Run.{DeedMakes, Occasions}
-use Rattle.sim_finish.specs.Finishing.{CallNothing}
+use Rattle.sim_event.specs.Finishing.{CallNothing}
 
 quiet-both : (xs ys : List JournalEntry) → CallNothing xs → CallNothing ys → CallNothing (xs ++ ys)
 quiet-both [] ys a b = b

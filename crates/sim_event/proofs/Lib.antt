@@ -1,3 +1,15 @@
+pub mod AnswerLemmas
+pub mod PieceLemmas
+pub mod FinishLemmas
+pub mod QuietLemmas
+pub mod FinishedLemmas
+pub mod EffectLemmas
+pub mod ImageLemmas
+pub mod PostLemmas
+pub mod FewLemmas
+pub mod HearLemmas
+pub mod LineLemmas
+pub mod CauseLemmas
 pub mod DeedLemmas
 pub mod ToldLemmas
 pub mod TurnLemmas

@@ -34,7 +34,7 @@ use Rattle.sim_air.specs.Air.{radio_event}
 use Rattle.world_run_laws.specs.Coming.{code_world, IsExpected, MayComeTo}
 use Rattle.world_run_laws.specs.Sound.{IsSoundNode, HasWellFormed, NextMayCome, NodesAreSound}
 use Rattle.sim_state.specs.Standing.{IsMoteOf}
-use Rattle.sim_handling.specs.Handling.{IsFitEvent, IsOpenExchange, IsPaced, Handled}
+use Rattle.sim_event.specs.Handling.{IsFitEvent, IsOpenExchange, IsPaced, Handled}
 use Rattle.sim_state.specs.Motes.{IsTellable}
 use Rattle.sim_state.specs.declared.effect.Effect.{Effect}
 use Rattle.sim_state.specs.declared.mote.Mote.{Mote}

@@ -24,11 +24,11 @@ use Rattle.world_laws.proofs.Journals.{journal-here}
 use Rattle.sim_air.specs.Air.{aired_at}
 use Rattle.world_run_laws.specs.Coming.{code_world}
 use Rattle.sim_state.specs.Standing.{IsMoteOf, IsTakenFrom}
-use Rattle.sim_handling.specs.Handling.{Handled}
+use Rattle.sim_event.specs.Handling.{Handled}
 use Rattle.sim_state.specs.declared.effect.Effect.{Effect}
 use Rattle.sim_state.specs.declared.mote.Mote.{Mote}
 use Rattle.open_node.specs.Calls.{told_from}
-use Rattle.sim_finish.specs.Finishing.{HasSettled, IsFinished}
+use Rattle.sim_event.specs.Finishing.{HasSettled, IsFinished}
 use Rattle.sim_state.specs.StandingAfter.{IsRadioAfter, IsMoteAfter}
 use Rattle.sim_event.specs.Performing.{MayPerform, Performed}
 use Rattle.sim_event.proofs.NeedLemmas.{mote-at}

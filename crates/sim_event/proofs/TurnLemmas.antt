@@ -20,7 +20,7 @@ use Rattle.open_node.proofs.CallLemmas.{Tells-by}
 use Rattle.sim_state.proofs.NodeLemmas.{tells-behind}
 use Rattle.journal_laws.specs.Waiting.{WaitApart, WaitSmall, AreAwaited, AreFollowing, HasFewContexts, JournalsWaitApart, JournalsWaitSmall, SettlingAwaits, SettlingTellsFew}
 use Rattle.open_node.specs.Calls.{IsNoneReady, told_by_entries, told_from}
-use Rattle.sim_handling.specs.Handling.{IsPaced}
+use Rattle.sim_event.specs.Handling.{IsPaced}
 use Rattle.sim_event.proofs.ToldLemmas.{tells-heard, told-behind}
 
 -- the stamp may come next on the same node

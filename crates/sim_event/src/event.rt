@@ -8,12 +8,12 @@ ghost use Rattle.node_programs.specs.WorldPrograms.{AreProgramsOfWorld};
 ghost use Rattle.sim_event.specs.Performing.{MayPerform, Performed};
 ghost use Rattle.sim_state.specs.Motes.{plain_effect};
 
+use crate::finish::finish;
+use crate::handling::handle;
 use crate::turns::{have_turns, is_well_formed};
 use mate_journal::Programs;
 use mate_num::{NoMemory, Stamp};
 use radio_sim::{Event, Radio};
-use sim_finish::finish::finish;
-use sim_handling::handle;
 use sim_state::{Effect, Mote};
 use vm_desc::Description;
 use world_run_laws::states_are_sound;

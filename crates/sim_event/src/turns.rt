@@ -10,7 +10,7 @@ ghost use Rattle.open_node.specs.View.{heard_of, Tells};
 ghost use Rattle.open_node.specs.Calls.{told_from};
 ghost use Rattle.open_node.specs.declared.open_node.TheConstants.{SETTLING_ENTRIES};
 ghost use Rattle.journal_laws.specs.Waiting.{WaitApart, AreAwaited};
-ghost use Rattle.sim_handling.specs.Handling.{IsPaced};
+ghost use Rattle.sim_event.specs.Handling.{IsPaced};
 
 use journal_laws::{settling_leaves_waiting, settling_tells_few, waits_are_apart};
 use mate_num::{NoMemory, Stamp};

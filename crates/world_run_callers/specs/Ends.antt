@@ -15,7 +15,7 @@ use Rattle.world_rules.specs.State.{Moment, WorldState, node_at, effect_at, node
 use Rattle.world_rules.specs.World.{World}
 use Rattle.sim_air.specs.Air.{radio_event}
 use Rattle.sim_state.specs.Standing.{IsTakenFrom}
-use Rattle.sim_finish.specs.Finishing.{HasSettled}
+use Rattle.sim_event.specs.Finishing.{HasSettled}
 use Rattle.sim_state.specs.declared.effect.Effect.{Effect}
 use Rattle.sim_state.specs.declared.mote.Mote.{Mote}
 

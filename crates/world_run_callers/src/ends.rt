@@ -17,7 +17,7 @@ ghost use Rattle.world_run_callers.specs.Ends.{MayFinish, IsMoment, IsMomentBefo
 
 use mate_num::{NoMemory, Stamp};
 use radio_sim::{Event, Radio};
-use sim_finish::finish::finish;
+use sim_event::finish::finish;
 use sim_state::{Effect, Mote};
 use vm_desc::Description;
 use world_script::World;

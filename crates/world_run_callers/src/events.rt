@@ -18,12 +18,12 @@ ghost use Rattle.world_rules.specs.World.{Inject, handlers};
 ghost use Rattle.sim_state.specs.Motes.{IsTellable};
 ghost use Rattle.world_run_laws.specs.Coming.{code_world, MayComeTo};
 ghost use Rattle.sim_state.specs.Standing.{IsMoteOf};
-ghost use Rattle.sim_handling.specs.Handling.{IsOpenExchange, IsPaced};
+ghost use Rattle.sim_event.specs.Handling.{IsOpenExchange, IsPaced};
 
 use mate_journal::Programs;
 use mate_num::{NoMemory, Stamp};
 use radio_sim::{Event, SharedPacket};
-use sim_handling::handle;
+use sim_event::handle;
 use sim_state::{Effect, Mote};
 use vm_desc::Description;
 use world_script::World;

@@ -2,7 +2,7 @@ use Rattle.std.proofs.Common.{◌<◌, ℕ, refl, sym, ◌∙◌, subst, arith, 
 use Rattle.world_rules.specs.State.{state}
 use Rattle.world_run_laws.specs.Coming.{code_world}
 use Rattle.sim_state.specs.declared.mote.Mote.{Mote}
-use Rattle.sim_finish.specs.Finishing.{HasSettled}
+use Rattle.sim_event.specs.Finishing.{HasSettled}
 use Rattle.sim_event.proofs.NeedLemmas.{event-right, exchange-open, handlers-all, entries-few, tellable, begun-before, wires-here, handled, timely-still, paced-still, described-still, begins-ahead, counts-all}
 use Rattle.sim_event.proofs.PerformLemmas.{came, performed-by}
 use Rattle.sim_event.proofs.event.perform.Goals as goal

@@ -1,5 +1,0 @@
-pub mod AnswerLemmas
-pub mod PieceLemmas
-pub mod FinishLemmas
-pub mod QuietLemmas
-pub mod FinishedLemmas

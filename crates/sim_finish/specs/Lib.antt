@@ -1,3 +1,0 @@
-pub mod Answering
-pub mod Pieces
-pub mod Finishing
