@@ -9,7 +9,7 @@ use mate_documents::{Output, Run};
 use mate_refusals::Refusal;
 use run_steps::sum_steps;
 use std::alloc::Global;
-use world_summary::sum_world;
+use world_runs::sum_world;
 
 /// The run, whose report is written while it runs; or the summary of its report, counted while it runs.
 #[inline(never)]

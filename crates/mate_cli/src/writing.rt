@@ -13,7 +13,7 @@ use report_text::{Summary, WriteFault, ended};
 use run_steps::write_steps;
 use std::alloc::Global;
 use vm_desc::Description;
-use world_writing::write_world;
+use world_runs::write_world;
 
 /// Writes an output.
 #[inline(never)]

@@ -6,17 +6,17 @@ use Rattle.mate_journal.specs.declared.report.Report.{Report}
 use Rattle.report_reading.specs.Parts.{IsSameReport}
 use Rattle.mate_journal.specs.declared.program.Program.{Program}
 use Rattle.node_programs.specs.WorldPrograms.{AreProgramsOfWorld}
-use Rattle.world_pieces.specs.declared.record.Record.{Record}
+use Rattle.world_runs.specs.declared.record.Record.{Record}
 use Rattle.report_text.specs.declared.pass.Pass.{Pass}
 use Rattle.world_run_laws.specs.Promise.{IsReportOfWorld}
 use Rattle.world_script.specs.declared.world.World.{World as Script}
 use Rattle.sim_state.specs.Reporting.{told_report}
 use Rattle.world_run_laws.specs.Coming.{code_world}
-use Rattle.world_pieces.specs.Writing.{WritesRecorded}
+use Rattle.world_runs.specs.Writing.{WritesRecorded}
 use Rattle.report_text.specs.Writing.{WritesReport}
 use Rattle.vm_desc.specs.declared.description.Description.{Description}
 use Rattle.world_rules.specs.Report.{IsWorldReport}
-use Rattle.world_pieces.proofs.SameLemmas.{gives-as, report-as, ranges-as}
+use Rattle.world_runs.proofs.SameLemmas.{gives-as, report-as, ranges-as}
 
 pub handed-out : (d : Description) (script : Script) (ps : List Program) (out out' : Option (List ℕ)) (f f' : ℕ) (pass : Pass) (kept : Record) (r : Report)
     → ((how : RunEnd) (x : Report) → AreProgramsOfWorld d script ps → IsWorldReport (code_world d script ps) how x → HasReportRanges x → IsReportOfWorld d script ps how x) → AreProgramsOfWorld d script ps

@@ -3,7 +3,7 @@
 ghost use Rattle.std.specs.Prelude.{◌≤◌, ◌<◌, Some, IfOk, Err};
 ghost use Rattle.report_text.specs.Writing.{RunsInto};
 ghost use Rattle.node_programs.specs.WorldPrograms.{AreProgramsOfWorld};
-ghost use Rattle.world_pieces.specs.Writing.{StartsRecorded};
+ghost use Rattle.world_runs.specs.Writing.{StartsRecorded};
 ghost use Rattle.world_run_laws.specs.Promise.{IsReportOfWorld};
 ghost use Rattle.world_run_laws.specs.Coming.{code_world};
 
@@ -14,10 +14,9 @@ use report_text::nothing_run;
 use sim_state::Simulation;
 use std::alloc::Global;
 use vm_desc::Description;
-use world_pieces::{Record, add_event};
 use world_run_laws::reports_keep_the_promise;
+use world_runs::{Record, add_event, write_run};
 use world_script::World;
-use world_writing::write_run;
 
 /// The world before its first event, and the record of its start.
 fn start_recorded(

@@ -1,10 +1,10 @@
 use Rattle.std.proofs.Common.{refl, subst, inl, Option}
-use Rattle.world_pieces.specs.declared.record.Record.{Record}
+use Rattle.world_runs.specs.declared.record.Record.{Record}
 use Rattle.report_text.proofs.WritingLemmas.{given-whole, given-fault}
 use Rattle.world_run_laws.specs.Promise.{IsReportOfWorld}
 use Rattle.world_rules.specs.Report.{IsWorldReport}
 use Rattle.world_run_laws.specs.Coming.{code_world}
-use Rattle.world_pieces.specs.Writing.{WritesRecorded}
+use Rattle.world_runs.specs.Writing.{WritesRecorded}
 use Rattle.world_sim.proofs.HandingLemmas.{handed-out}
 use Rattle.world_sim.proofs.writing.run_into.Goals as goal
 

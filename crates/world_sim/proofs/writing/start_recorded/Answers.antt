@@ -1,5 +1,5 @@
 use Rattle.std.proofs.Common.{arith}
-use Rattle.world_pieces.proofs.RecordingLemmas.{start-before}
+use Rattle.world_runs.proofs.RecordingLemmas.{start-before}
 use Rattle.world_sim.proofs.writing.start_recorded.Goals as goal
 
 pub add_event-requires-clause-node : goal.add_event-requires-clause-node

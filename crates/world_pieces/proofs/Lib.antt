@@ -1,9 +1,0 @@
-mod CopyLemmas
-pub mod RecordLemmas
-pub mod KeptLemmas
-pub mod RecordingLemmas
-pub mod WritingLemmas
-pub mod EndingLemmas
-pub mod HandLemmas
-pub mod SameLemmas
-pub mod LastLemmas

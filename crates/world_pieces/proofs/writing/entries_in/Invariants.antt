@@ -1,8 +1,0 @@
-use Rattle.std.proofs.Common.{◌≡◌, length, take}
-use Rattle.std.specs.Prelude.{sum_by}
-use Rattle.mate_journal.specs.Log.{Log}
-use Rattle.sim_state.specs.Reporting.{mote_logs}
-use Rattle.world_pieces.proofs.writing.entries_in.Given as goal
-
-abbrev pub invariant-loop-mote : goal.invariant-loop-mote
-invariant-loop-mote l = l.count ≡ sum_by (λ (x : Log). length x.entries) (mote_logs (take l.mote-index l.motes))

@@ -1,6 +1,0 @@
-use Rattle.std.proofs.Common.{take}
-use Rattle.sim_state.specs.Telling.{LogsAreKept}
-use Rattle.world_pieces.proofs.writing.logs_are_kept.Given as goal
-
-abbrev pub invariant-loop-mote : goal.invariant-loop-mote
-invariant-loop-mote l = LogsAreKept (take l.mote-index l.motes)

@@ -1,0 +1,4 @@
+pub mod Records
+pub mod Recording
+pub mod Writing
+pub mod Counting
