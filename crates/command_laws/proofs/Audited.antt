@@ -17,7 +17,7 @@ use Rattle.mate_journal.specs.declared.law.Law.{Law}
 use Rattle.mate_journal.specs.declared.law.Verdict.TheVariants as verdict
 use Rattle.command_laws.specs.Texts.{IsOutputText, IsRunText, run_end}
 use Rattle.command_laws.proofs.OneAudit.{named_agree, verdict_same}
-use Rattle.audit_command.specs.Audit.{report_of_file, serial, audit_of, audit_by, audit}
+use Rattle.mate_cli.specs.Audit.{report_of_file, serial, audit_of, audit_by, audit}
 use Rattle.mate_cli.specs.Node.{node}
 use Rattle.mate_cli.specs.Worlds.{sim}
 use Rattle.mate_documents.specs.Owed.{Owed, writes}

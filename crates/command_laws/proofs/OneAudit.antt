@@ -16,7 +16,7 @@ use Rattle.mate_journal.specs.declared.law.Verdict.TheVariants as verdict
 use Rattle.command_laws.specs.SameText.{SameText}
 use Rattle.command_laws.proofs.OneCommand.{writes_agree}
 use Rattle.command_laws.proofs.OneWorld.{world_text_agrees}
-use Rattle.audit_command.specs.Audit.{report_in, report_of_file, serial, audit_of, audit_by, audit}
+use Rattle.mate_cli.specs.Audit.{report_in, report_of_file, serial, audit_of, audit_by, audit}
 use Rattle.mate_documents.specs.Owed.{Owed, writes}
 use Rattle.mate_files.specs.Files.{Names}
 use Rattle.mate_journal.specs.Described.{machine_of}

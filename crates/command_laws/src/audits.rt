@@ -3,7 +3,7 @@
 ghost use Rattle.std.specs.Prelude.{◌≡◌, ◌≤◌, List, ℕ, Bool, false, length, codes, Some, Result, Ok};
 ghost use Rattle.mate_files.specs.declared.files.TheConstants.{FILE_MAX};
 ghost use Rattle.command_laws.specs.Texts.{IsOutputText};
-ghost use Rattle.audit_command.specs.Audit.{audit};
+ghost use Rattle.mate_cli.specs.Audit.{audit};
 ghost use Rattle.mate_cli.specs.Node.{node};
 ghost use Rattle.mate_cli.specs.Worlds.{sim};
 ghost use Rattle.mate_documents.specs.Owed.{Owed, writes};

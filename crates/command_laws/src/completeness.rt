@@ -7,7 +7,7 @@ ghost use Rattle.mate_documents.specs.Compile.{compile};
 ghost use Rattle.command_laws.specs.Completed.{Completes, IsUnhindered};
 ghost use Rattle.mate_documents.specs.Expand.{expand};
 ghost use Rattle.mate_documents.specs.Feed.{feed};
-ghost use Rattle.audit_command.specs.Audit.{audit};
+ghost use Rattle.mate_cli.specs.Audit.{audit};
 ghost use Rattle.mate_cli.specs.Ends.{CallEnds, Owes, Sinks, task};
 ghost use Rattle.mate_documents.specs.Owed.{Owed};
 ghost use Rattle.mate_refusals.specs.declared.status.Status.{Status};

@@ -12,7 +12,7 @@ use Rattle.mate_documents.specs.Check.{check}
 use Rattle.mate_documents.specs.Compile.{compile}
 use Rattle.mate_documents.specs.Expand.{expand}
 use Rattle.mate_documents.specs.Feed.{feed}
-use Rattle.audit_command.specs.Audit.{audit}
+use Rattle.mate_cli.specs.Audit.{audit}
 use Rattle.mate_cli.specs.Node.{node}
 use Rattle.mate_cli.specs.Worlds.{sim, made_run}
 use Rattle.mate_steps.specs.Parts.{Folder, IsUnreadAnswer}

@@ -1,3 +1,4 @@
+pub mod Audit
 pub mod Runs
 pub mod Node
 pub mod Worlds

@@ -1,6 +1,7 @@
 //! The top call of the program `mate`: from words and files to what is written.
 #![tactic(auto)]
 
+mod audit;
 mod made;
 mod node;
 mod runs;

@@ -7,8 +7,7 @@ ghost use Rattle.mate_documents.specs.Outputs.{CanBeWritten, owed_in};
 ghost use Rattle.mate_steps.specs.Parts.{ReadsFiles};
 
 use crate::writing::write_output;
-use crate::{made, node, sim};
-use audit_command::audit;
+use crate::{audit, made, node, sim};
 use command_line::{Command, WordsFault, command_of};
 use mate_documents::{Output, check, compile, expand, feed, table};
 use mate_files::{Files, Sink};

@@ -1,11 +1,11 @@
 use Rattle.std.proofs.Common.{ℕ, List, subst}
-use Rattle.audit_command.specs.Audit.{report_in}
-use Rattle.audit_command.proofs.AuditLemmas.{quiet-report}
+use Rattle.mate_cli.specs.Audit.{report_in}
+use Rattle.mate_cli.proofs.AuditLemmas.{quiet-report}
 use Rattle.mate_steps.specs.Steps.{goes_on}
 use Rattle.mate_steps.proofs.Laws.{stops_by, reads-as, reads-err}
 use Rattle.report_text.specs.Tidy.{IsTidy}
 use Rattle.script_programs.proofs.ReadLemmas.{if-err}
-use Rattle.audit_command.proofs.audit.report_of_file.Goals as goal
+use Rattle.mate_cli.proofs.audit.report_of_file.Goals as goal
 
 pub returns-in_err-bytes-clause-does : goal.returns-in_err-bytes-clause-does
 returns-in_err-bytes-clause-does g c = stops_by c.in_err-bytes.field-0.0 c.from_residual.result c.in_err-bytes.ensures.does c.from_residual.ensures.1

@@ -1,5 +1,5 @@
 use Rattle.std.proofs.Common.{inl, refl}
-use Rattle.audit_command.proofs.audit.report_in.Goals as goal
+use Rattle.mate_cli.proofs.audit.report_in.Goals as goal
 
 pub returns-in-Err-BadLine-clause-does : goal.returns-in-Err-BadLine-clause-does
 returns-in-Err-BadLine-clause-does c =

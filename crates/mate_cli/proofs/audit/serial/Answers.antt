@@ -1,6 +1,6 @@
 use Rattle.std.proofs.Common.{ℕ, inl, refl}
 use Rattle.mate_journal.specs.declared.law.Law.{Law}
-use Rattle.audit_command.proofs.audit.serial.Goals as goal
+use Rattle.mate_cli.proofs.audit.serial.Goals as goal
 
 pub returns-in-Ok-Refuted : goal.returns-in-Ok-Refuted
 returns-in-Ok-Refuted c =

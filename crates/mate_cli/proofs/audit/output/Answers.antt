@@ -1,13 +1,13 @@
 use Rattle.std.proofs.Common.{subst}
 use Rattle.std.proofs.lemmas.Result.{IfOk-from_err}
-use Rattle.audit_command.specs.Audit.{audit_by}
+use Rattle.mate_cli.specs.Audit.{audit_by}
 use Rattle.mate_steps.specs.Parts.{Folder}
 use Rattle.mate_steps.specs.Steps.{goes_on}
 use Rattle.mate_steps.proofs.Laws.{moved}
 use Rattle.mate_documents.proofs.OwedLemmas.{owed-stops}
 use Rattle.vm_desc.specs.declared.description.Description.{Description}
 use Rattle.mate_documents.specs.Outputs.{owed_in}
-use Rattle.audit_command.proofs.audit.output.Goals as goal
+use Rattle.mate_cli.proofs.audit.output.Goals as goal
 
 pub returns-in_err-machine-clause-does : goal.returns-in_err-machine-clause-does
 returns-in_err-machine-clause-does g c = owed-stops c.in_err-machine.field-0.0 c.from_residual.result c.in_err-machine.ensures.does c.from_residual.ensures.1

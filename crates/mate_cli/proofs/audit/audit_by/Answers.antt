@@ -1,10 +1,10 @@
 use Rattle.std.proofs.lemmas.Result.{IfOk-from_err}
-use Rattle.audit_command.specs.Audit.{audit_of}
+use Rattle.mate_cli.specs.Audit.{audit_of}
 use Rattle.mate_steps.specs.Steps.{goes_on}
 use Rattle.mate_steps.proofs.Laws.{moved}
 use Rattle.mate_documents.proofs.OwedLemmas.{owed-stops}
 use Rattle.mate_documents.specs.Outputs.{owed_in}
-use Rattle.audit_command.proofs.audit.audit_by.Goals as goal
+use Rattle.mate_cli.proofs.audit.audit_by.Goals as goal
 
 pub returns-in_err-programs-clause-does : goal.returns-in_err-programs-clause-does
 returns-in_err-programs-clause-does g c = owed-stops c.in_err-programs.field-0.0 c.from_residual.result c.in_err-programs.ensures.does c.from_residual.ensures.1

@@ -1,7 +1,7 @@
 //! The command `audit`.
 
 ghost use Rattle.std.specs.Prelude.{◌≤◌, length, IfOk};
-ghost use Rattle.audit_command.specs.Audit.{audit, audit_by, audit_of, report_of_file, report_in, serial};
+ghost use Rattle.mate_cli.specs.Audit.{audit, audit_by, audit_of, report_of_file, report_in, serial};
 ghost use Rattle.mate_documents.specs.Outputs.{CanBeWritten, owed_in};
 ghost use Rattle.mate_files.specs.declared.files.TheConstants.{FILE_MAX};
 ghost use Rattle.mate_steps.specs.Parts.{ReadsFiles};

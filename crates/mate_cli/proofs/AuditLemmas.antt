@@ -1,7 +1,7 @@
 -- What `audit` refuses of a report is about no file that could not be read.
 use Rattle.std.proofs.Common.{◌≡◌, ℕ, List, Result, Ok, Err, subst, inl, inr}
 use Rattle.std.specs.Prelude.{IsErrAnd}
-use Rattle.audit_command.specs.Audit.{report_in, serial}
+use Rattle.mate_cli.specs.Audit.{report_in, serial}
 use Rattle.mate_documents.specs.declared.output.Output.{Output}
 use Rattle.mate_journal.specs.declared.program.Program.{Program}
 use Rattle.mate_journal.specs.declared.report.Report.{Report}

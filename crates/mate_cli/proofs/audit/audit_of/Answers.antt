@@ -1,10 +1,10 @@
 use Rattle.std.proofs.Common.{refl}
 use Rattle.std.proofs.lemmas.Result.{IfOk-from_err}
-use Rattle.audit_command.proofs.AuditLemmas.{quiet-serial}
+use Rattle.mate_cli.proofs.AuditLemmas.{quiet-serial}
 use Rattle.mate_steps.specs.Steps.{goes_on}
 use Rattle.mate_steps.proofs.Laws.{reads-as, reads-err}
 use Rattle.mate_documents.proofs.OwedLemmas.{owed-stops}
-use Rattle.audit_command.proofs.audit.audit_of.Goals as goal
+use Rattle.mate_cli.proofs.audit.audit_of.Goals as goal
 
 pub returns-in_err-report-clause-does : goal.returns-in_err-report-clause-does
 returns-in_err-report-clause-does g c = owed-stops c.in_err-report.field-0.0 c.from_residual.result c.in_err-report.ensures.does c.from_residual.ensures.1

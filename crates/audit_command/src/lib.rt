@@ -1,4 +1,0 @@
-//! The command `audit`.
-#![tactic(auto)]
-
-pub mod audit;
