@@ -20,11 +20,11 @@ returns-in-Ok-result-clause-gives g c =
 pub returns-in-Ok-result-clause-later : goal.returns-in-Ok-result-clause-later
 returns-in-Ok-result-clause-later g c = c.write_run-pass.ensures.later
 
-pub returns-clause-gives : goal.returns-clause-gives
-returns-clause-gives g c =
+pub returns-in-Err-clause-gives : goal.returns-in-Err-clause-gives
+returns-in-Err-clause-gives g c =
     given-fault c.args.desc.now (IsReportOfWorld c.args.desc.now c.args.world.now c.args.programs.now) (g.S.Sink.written c.args.out.now) (g.S.Sink.written c.write_run-pass.new.out) (g.S.Sink.faults c.args.out.now) (g.S.Sink.faults c.write_run-pass.new.out) c.write_run-pass.result.result c.into_report-report.result c.into_report-report.result
     (handed-out c.args.desc.now c.args.world.now c.args.programs.now (g.S.Sink.written c.args.out.now) (g.S.Sink.written c.write_run-pass.new.out) (g.S.Sink.faults c.args.out.now) (g.S.Sink.faults c.write_run-pass.new.out) c.write_run-pass.result c.in-Some.record c.into_report-report.result (c.reports_keep_the_promise.ensures c.args.desc.now c.args.world.now c.args.programs.now) c.requires
     (subst (λ (o : Option Record). WritesRecorded c.args.desc.now (IsWorldReport (code_world c.args.desc.now c.args.world.now c.args.programs.now)) (g.S.Sink.written c.args.out.now) (g.S.Sink.written c.write_run-pass.new.out) (g.S.Sink.faults c.args.out.now) (g.S.Sink.faults c.write_run-pass.new.out) c.write_run-pass.result o) c.in-Some.is c.write_run-pass.ensures.gives) c.into_report-report.ensures) refl c.in-Err.fault c.with_report.result c.in-Err.is c.with_report.ensures
 
-pub returns-clause-later : goal.returns-clause-later
-returns-clause-later g c = c.write_run-pass.ensures.later
+pub returns-in-Err-clause-later : goal.returns-in-Err-clause-later
+returns-in-Err-clause-later g c = c.write_run-pass.ensures.later
