@@ -3,4 +3,5 @@ pub mod LinkLemmas
 pub mod WheelLemmas
 pub mod CancelLemmas
 pub mod AgendaLemmas
+pub mod PlanLemmas
 pub mod QueueLemmas

@@ -1,8 +1,10 @@
--- The wheel as a list in order of time. It follows the code.
+-- The plan and the wheel as a list in order of time. It follows the code.
 use Rattle.std.specs.Prelude.{◌≡◌, ℕ, zero, suc, ◌<◌, ◌≤◌, List, [], ◌++◌, map, Option}
 use Rattle.event_queue.specs.declared.queue.Timed.{Timed}
 use Rattle.event_queue.specs.declared.wheel.Wheel.{Wheel}
 use Rattle.event_queue.specs.Wheel.{wheel_due, IsWheel}
+use Rattle.event_queue.specs.declared.plan.Plan.{Plan}
+use Rattle.event_queue.specs.Plan.{planned_due, IsRightPlan}
 use Rattle.event_queue.specs.Agenda.{Agenda}
 
 abbrev pub at_time : {T : Type 0} → ℕ → List T → List (Timed T)
@@ -13,12 +15,20 @@ unfoldable pub in_order : {T : Type 0} → (ℕ → List T) → ℕ → List (Ti
 in_order comes zero = []
 in_order comes (suc n) = in_order comes n ++ at_time n (comes n)
 
-abbrev pub agenda_of : {T : Type 0} → (T → Option ℕ) → ℕ → Wheel T → Agenda T
-agenda_of group until w = record { until = until; now = w.at; items = in_order (wheel_due group w) (suc until) }
+-- what is due at a time: what is planned for it, and then what waits on the wheel
+abbrev pub queue_due : {T : Type 0} → (T → Option ℕ) → (ℕ → T) → Plan → Wheel T → ℕ → List T
+queue_due group numbered p w t = planned_due numbered p t ++ wheel_due group w t
 
--- the wheel is within `until`, and has nothing after it
-pub record IsRightQueue {T : Type 0} (group : T → Option ℕ) (until : ℕ) (w : Wheel T) : Type 0 where
+abbrev pub agenda_at : {T : Type 0} → (ℕ → List T) → ℕ → ℕ → Agenda T
+agenda_at due until now = record { until = until; now = now; items = in_order due (suc until) }
+
+abbrev pub agenda_of : {T : Type 0} → (T → Option ℕ) → (ℕ → T) → ℕ → Plan → Wheel T → Agenda T
+agenda_of group numbered until p w = agenda_at (queue_due group numbered p w) until w.at
+
+-- the plan and the wheel are within `until`, and have nothing after it
+pub record IsRightQueue {T : Type 0} (group : T → Option ℕ) (until : ℕ) (p : Plan) (w : Wheel T) : Type 0 where
   pub right : IsWheel group w
   pub below : until < 4194304
   pub ahead : w.at ≤ until
   pub none_after : (t : ℕ) → until < t → wheel_due group w t ≡ []
+  pub plan : IsRightPlan w.at until p

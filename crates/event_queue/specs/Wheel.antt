@@ -142,3 +142,14 @@ pub record SeeksFirst {T : Type 0} (group : T → Option ℕ) (until : ℕ) (old
 abbrev pub Seeks : {T : Type 0} → (T → Option ℕ) → ℕ → Wheel T → Option T → Wheel T → Type 0
 Seeks group until old None new = SeeksNone group until old new
 Seeks group until old (Some item) new = SeeksFirst group until old item new
+
+-- nothing is due before a time, at which the wheel is then
+pub record ReachesTime {T : Type 0} (group : T → Option ℕ) (end : ℕ) (old new : Wheel T) : Type 0 where
+  pub right : IsWheel group new
+  pub at : new.at ≡ end
+  pub none_before : (t : ℕ) → t < end → wheel_due group old t ≡ []
+  pub same : IsSameDue group old new
+
+abbrev pub SeeksBefore : {T : Type 0} → (T → Option ℕ) → ℕ → Wheel T → Option T → Wheel T → Type 0
+SeeksBefore group end old None new = ReachesTime group end old new
+SeeksBefore group end old (Some item) new = SeeksFirst group end old item new × (new.at < end)

@@ -4,6 +4,7 @@
 mod chains;
 pub mod group;
 mod marks;
+mod plan;
 pub mod queue;
 mod wheel;
 

@@ -3,9 +3,10 @@
 ghost use Rattle.std.specs.Prelude.{◌≡◌, ◌<◌, ◌≤◌, [], filter, MatchOption, MatchResult, OnOk, IfNone, IfOk};
 ghost use Rattle.event_queue.specs.declared.group.TheConstants.{GROUPS};
 ghost use Rattle.event_queue.specs.Agenda.{scheduled, is_other, Adds, Comes};
-ghost use Rattle.event_queue.specs.Wheel.{IsWheel, Seeks};
+ghost use Rattle.event_queue.specs.Wheel.{IsWheel, Seeks, SeeksBefore};
 
 use crate::group::Grouped;
+use crate::plan::Plan;
 use crate::wheel::Wheel;
 use mate_num::NoMemory;
 use std::alloc::Global;
@@ -23,6 +24,7 @@ pub struct Timed<T: Grouped> {
 #[derive(Drop)]
 pub struct Queue<T: Grouped> {
     until: u32,
+    plan: Plan,
     // (in a place of its own: it is large, and whoever makes a queue moves it)
     wheel: Box<Wheel<T>>,
 }
@@ -33,9 +35,9 @@ impl<T: Grouped> Model for Queue<T> {
 
     ghost Value = { Agenda T };
 
-    ghost view = { λ q. agenda_of T.group_of q.until q.wheel.value };
+    ghost view = { λ q. agenda_of T.group_of T.numbered_of q.until q.plan q.wheel.value };
 
-    ghost invariant = { λ q. IsRightQueue T.group_of q.until q.wheel.value };
+    ghost invariant = { λ q. IsRightQueue T.group_of q.until q.plan q.wheel.value };
 }
 
 impl<T: Grouped> Queue<T> {
@@ -46,7 +48,11 @@ impl<T: Grouped> Queue<T> {
         ensures { IfOk result (λ q. q ≡ record { until = until; now = 0; items = [] }) }
     {
         match Box::new(alloc, Wheel::new(alloc)?) {
-            Ok(wheel) => Ok(Queue { until, wheel }),
+            Ok(wheel) => Ok(Queue {
+                until,
+                plan: Plan::new(alloc),
+                wheel,
+            }),
             Err(_) => Err(NoMemory),
         }
     }
@@ -65,6 +71,20 @@ impl<T: Grouped> Queue<T> {
         self.wheel.as_mut().put(time, item)
     }
 
+    /// Schedules the item that this number tells, as `schedule` does. If it has the next number, comes at or after all those before it,
+    /// and nothing else waits, then no place is taken for it, and no more than its time is kept.
+    pub fn schedule_numbered(&mut self, time: u32, number: u32) -> Result<(), NoMemory>
+        requires { self.old.now ≤ time }
+        ensures list { MatchResult result (λ _. self.new ≡ scheduled self.old time (T.numbered_of number)) (λ _. self.new ≡ self.old) }
+        ensures due { OnOk result (Adds self.old time (T.numbered_of number) self.new) }
+        ensures now { self.new.now ≡ self.old.now }
+    {
+        if time <= self.until && self.plan.takes(time, number) && self.wheel.as_ref().is_idle() {
+            return self.plan.push(time);
+        }
+        self.schedule(time, T::numbered(number))
+    }
+
     /// Takes out the first item with its time. None where there is no item, which changes nothing.
     pub fn next(&mut self) -> Option<Timed<T>>
         ensures first { MatchOption result (self.old.items ≡ []) (λ first. Comes self.old first self.new) }
@@ -72,18 +92,28 @@ impl<T: Grouped> Queue<T> {
     {
         let until = self.until;
         let wheel = self.wheel.as_mut();
-        if wheel.is_idle() {
-            return None;
-        }
-        let now = wheel.at;
-        let Some(item) = seek(wheel, until) else {
-            wheel.rewind(now);
-            return None;
+        let Some(time) = self.plan.first() else {
+            if wheel.is_idle() {
+                return None;
+            }
+            let now = wheel.at;
+            let Some(item) = seek(wheel, until) else {
+                wheel.rewind(now);
+                return None;
+            };
+            return Some(Timed {
+                time: wheel.at,
+                item,
+            });
         };
-        Some(Timed {
-            time: wheel.at,
-            item,
-        })
+        if let Some(item) = seek_before(wheel, time) {
+            return Some(Timed {
+                time: wheel.at,
+                item,
+            });
+        }
+        let item = T::numbered(self.plan.pop());
+        Some(Timed { time, item })
     }
 
     /// Cancels the items of a group: the others stay, in their order.
@@ -102,14 +132,28 @@ fn seek<T: Grouped>(wheel: &mut Wheel<T>, until: u32) -> Option<T>
     requires below { until < 4194304 }
     ensures { Seeks T.group_of until wheel.old result wheel.new }
 {
-    loop {
+    let item = seek_before(wheel, until);
+    if item.is_some() {
+        return item;
+    }
+    wheel.take_first()
+}
+
+/// Turns the wheel to the first item that comes before `end`, and takes it; if none does, to `end`. It is inlined, so that an item isn't
+/// moved.
+#[inline(always)]
+fn seek_before<T: Grouped>(wheel: &mut Wheel<T>, end: u32) -> Option<T>
+    requires right { IsWheel T.group_of wheel.old }
+    requires ahead { wheel.old.at ≤ end }
+    requires below { end < 4194304 }
+    ensures { SeeksBefore T.group_of end wheel.old result wheel.new }
+{
+    while wheel.at < end {
         let item = wheel.take_first();
         if item.is_some() {
             return item;
         }
-        if wheel.at >= until {
-            return None;
-        }
-        wheel.advance(until);
+        wheel.advance(end);
     }
+    None
 }

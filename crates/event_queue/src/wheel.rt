@@ -212,7 +212,8 @@ impl<T: Grouped> Wheel<T> {
         self.chains.has_all(FREE)
     }
 
-    /// Takes the first item of the time at which the wheel stands.
+    /// Takes the first item of the time at which the wheel stands. It is inlined, so that the item isn't moved.
+    #[inline(always)]
     pub fn take_first(&mut self) -> Option<T>
         requires { IsWheel T.group_of self.old }
         ensures takes { TakesFirst T.group_of self.old result self.new }

@@ -90,10 +90,21 @@ impl Event {
 impl Grouped for Event {
     ghost use Rattle.radio_sim.specs.Events.{group_of};
 
+    ghost use Rattle.std.specs.Prelude.{refl};
+    ghost use Rattle.radio_sim.specs.declared.event.Event.TheVariants.{Planned};
+
     ghost group_of = { group_of };
+
+    ghost numbered_of = { λ line. Planned line };
+
+    ghost stays = { λ line. refl };
 
     fn group(&self) -> Option<u16> {
         let cancel = self.cancelled_by()?;
         Some(cancel.number())
+    }
+
+    fn numbered(number: u32) -> Event {
+        Event::Planned(number)
     }
 }

@@ -79,6 +79,7 @@ impl Radio {
     ghost use Rattle.std.specs.Prelude.{List};
     ghost use Rattle.world_script.specs.declared.world.World.{World};
     ghost use Rattle.radio_sim.specs.Radio.{StartsRadio, wires_of, transmitted, IsEtherOf};
+    ghost use Rattle.radio_sim.specs.declared.event.Event.TheVariants.{Planned};
 
     /// The radio of a world, in which nothing waits and nothing was sent.
     pub fn new(alloc: Global, world: &World, desc: &Description) -> Result<Radio, NoMemory>
@@ -114,6 +115,19 @@ impl Radio {
     {
         let waiting = Waiting::of_event(self.alloc, event)?;
         self.queue.schedule(time, waiting)?;
+        Ok(())
+    }
+
+    /// Schedules a line of the script, as `schedule` does. Lines that are scheduled so before all else, in order of their numbers and times,
+    /// take four bytes each.
+    pub fn plan(&mut self, time: u32, line: u32) -> Result<(), NoMemory>
+        requires { self.old.agenda.now ≤ time }
+        ensures list { MatchResult result (λ _. self.new ≡ record self.old { agenda = scheduled self.old.agenda time (Planned line) })
+            (λ _. self.new ≡ self.old) }
+        ensures due { OnOk result (Adds self.old.agenda time (Planned line) self.new.agenda) }
+        ensures now { self.new.agenda.now ≡ self.old.agenda.now }
+    {
+        self.queue.schedule_numbered(time, line)?;
         Ok(())
     }
 

@@ -176,10 +176,21 @@ impl Waiting {
 impl Grouped for Waiting {
     ghost use Rattle.radio_sim.specs.Waiting.{waiting_group};
 
+    ghost use Rattle.std.specs.Prelude.{refl};
+    ghost use Rattle.radio_sim.specs.declared.waiting.Waiting.TheVariants.{Planned};
+
     ghost group_of = { waiting_group };
+
+    ghost numbered_of = { λ line. Planned line };
+
+    ghost stays = { λ line. refl };
 
     fn group(&self) -> Option<u16> {
         let cancel = self.cancelled_by()?;
         Some(cancel.number())
+    }
+
+    fn numbered(number: u32) -> Waiting {
+        Waiting::Planned(number)
     }
 }

@@ -1,8 +1,9 @@
 //! What is due and recorded before a world's first event.
 
-ghost use Rattle.std.specs.Prelude.{◌≡◌, ◌<◌, ◌∷◌, [], length, OnOk};
+ghost use Rattle.std.specs.Prelude.{◌≡◌, ◌<◌, ◌≤◌, ◌∷◌, [], length, OnOk};
 ghost use Rattle.mate_journal.specs.declared.air.Air.TheVariants as air;
 ghost use Rattle.sim_air.specs.Air.{aired_at};
+ghost use Rattle.radio_sim.specs.declared.event.Event.TheVariants as radio_event;
 ghost use Rattle.sim_air.specs.Changes.{AddsToAir};
 ghost use Rattle.sim_air.specs.Starting.{beginning, planned_items, first_items, first_periods, period_item};
 
@@ -23,8 +24,17 @@ pub fn schedule_lines(radio: &mut Radio, world: &World) -> Result<(), NoMemory>
     ensures { OnOk result (AddsToAir radio.old radio.new [] (planned_items 0 world.now.events)) }
 {
     for (line, planned) in world.events.as_slice().iter().enumerate() {
-        schedule(radio, planned.time, Event::Planned(line as u32))?;
+        plan_line(radio, planned.time, line as u32)?;
     }
+    Ok(())
+}
+
+/// A line of the script is due.
+fn plan_line(radio: &mut Radio, time: u32, line: u32) -> Result<(), NoMemory>
+    requires { radio.old.agenda.now ≤ time }
+    ensures { OnOk result (AddsToAir radio.old radio.new [] (record { time = time; item = radio_event.Planned line } ∷ [])) }
+{
+    radio.plan(time, line)?;
     Ok(())
 }
 
