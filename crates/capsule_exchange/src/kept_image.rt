@@ -45,11 +45,13 @@ impl KeptImage {
         Ok(KeptImage { bytes: kept })
     }
 
-    /// The image as it is sent. It takes no memory.
+    /// The image as it is sent. It takes no memory. It is inlined and filled in its place, since its room is large to move.
+    #[inline(always)]
     pub(crate) fn image(&self) -> Image
         ensures { result ≡ self.now }
     {
-        let Ok(image) = Image::try_from(self.bytes.as_slice()) else {
+        let mut image = Image::new();
+        let Ok(()) = image.try_extend_from_slice(self.bytes.as_slice()) else {
             unreachable!()
         };
         image
