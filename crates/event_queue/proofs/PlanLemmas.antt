@@ -242,11 +242,13 @@ planned_stays {T} group numbered p g t stays = all_stay p.next (times_left p)
   where
     keep : T → Bool
     keep x = not (is_in group g x)
+
     one : (n time : ℕ) → filter keep (here numbered n time t) ≡ here numbered n time t
     one n time = elim (eqb_tells time t) [
       | inl e ↦ rw e.0 (rw (stays n) refl)
       | inr e ↦ rw e.0 refl
     ]
+
     all_stay : (n : ℕ) (times : List ℕ) → filter keep (numbered_at numbered n times t) ≡ numbered_at numbered n times t
     all_stay n [] = refl
     all_stay n (time ∷ times) =

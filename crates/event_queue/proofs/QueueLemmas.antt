@@ -247,8 +247,10 @@ found_at {T} group end old u v before item ahead sought none takes none_here = e
   where
     reached : ReachesTime group end old u
     reached = subst (λ (o : Option T). SeeksBefore group end old o u) none sought
+
     so_far : Sought group end old u
     so_far = let at = reached.at in record { right = reached.right; from = omega (arith, at, ahead); to = omega (arith, at); same = reached.same }
+
     ends : (item : Option T) → TakesFirst group u item v → IfNone item (wheel_due group u u.at ≡ []) → Seeks group end old item v
     ends (Some x) takes none_here = first_of group end old u v x so_far takes
     ends None takes none_here =

@@ -89,7 +89,6 @@ impl Event {
 
 impl Grouped for Event {
     ghost use Rattle.radio_sim.specs.Events.{group_of};
-
     ghost use Rattle.std.specs.Prelude.{refl};
     ghost use Rattle.radio_sim.specs.declared.event.Event.TheVariants.{Planned};
 

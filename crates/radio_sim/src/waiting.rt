@@ -175,7 +175,6 @@ impl Waiting {
 
 impl Grouped for Waiting {
     ghost use Rattle.radio_sim.specs.Waiting.{waiting_group};
-
     ghost use Rattle.std.specs.Prelude.{refl};
     ghost use Rattle.radio_sim.specs.declared.waiting.Waiting.TheVariants.{Planned};
 

@@ -22,7 +22,7 @@ use world_run_laws::states_are_sound;
 use world_script::World;
 
 /// The event comes, with this stamp. What its node and the radio recorded before it is forgotten, if that is to be forgotten, and
-/// the node then has the spare room, if it may record something. It answers its node. The effect is nothing before it and after it. It is
+/// the node then has the spare room, if it trades. It answers its node. The effect is nothing before it and after it. It is
 /// inlined into the loop of a run.
 #[inline(always)]
 pub fn step(
@@ -33,6 +33,7 @@ pub fn step(
     event: &Event,
     at: Stamp,
     written: Written,
+    trades: bool,
     room: &mut NodeLog,
     effect: &mut Effect,
 ) -> Result<u8, NoMemory>
@@ -50,7 +51,7 @@ pub fn step(
     states_are_sound();
     text_grows_by_events();
     let number = node_of(world, event);
-    sim.let_go(desc, event, number, written, room);
+    sim.let_go(number, written, trades, room);
     let mote = &mut sim.motes[usize::from(number)];
     let before = mote.node.kept();
     let size = LogSize::of(before);

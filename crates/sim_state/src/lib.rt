@@ -11,4 +11,4 @@ pub use effect::Effect;
 pub use first::{First, FirstTold};
 pub use mote::Mote;
 pub use report::{forget_all, report_of, see_stores};
-pub use simulation::{Simulation, Written};
+pub use simulation::{Simulation, Written, may_tell};

@@ -76,9 +76,9 @@ impl Simulation {
         })
     }
 
-    /// Behind an event of the node in which it may have recorded something, if a next one may come: lets go what it recorded, and has
-    /// the room back.
-    pub fn leave(&mut self, desc: &Description, event: &Event, number: u8, room: &mut NodeLog)
+    /// Behind an event of the node, if a next one may come: where the node had the spare room for it, lets go what it recorded, and has the
+    /// room back.
+    pub fn leave(&mut self, number: u8, trades: bool, room: &mut NodeLog)
         requires node { number < length self.old.motes.items }
         requires few { self.old.records < 1000000 → IsFew self.old number }
         requires empty { IsEmpty room.old }
@@ -89,23 +89,16 @@ impl Simulation {
         if self.records >= RECORDS_MAX {
             return;
         }
-        if !may_tell(desc, event) {
+        if !trades {
             return;
         }
-        self.let_go(desc, event, number, Written::Forgotten, room);
+        self.let_go(number, Written::Forgotten, trades, room);
         let _kept = self.motes[usize::from(number)].node.kept();
     }
 
-    /// Before an event of the node, or behind it: forgets what the node and the radio recorded, if that is to be forgotten, and trades
-    /// the node's room for the spare one, if the node may record something in such an event.
-    pub fn let_go(
-        &mut self,
-        desc: &Description,
-        event: &Event,
-        number: u8,
-        written: Written,
-        room: &mut NodeLog,
-    )
+    /// Before an event of the node, or behind it: forgets what the node and the radio recorded, if that is to be forgotten, and then trades
+    /// the node's room for the spare one, if it trades.
+    pub fn let_go(&mut self, number: u8, written: Written, trades: bool, room: &mut NodeLog)
         requires node { number < length self.old.motes.items }
         requires log { (mote : MoteState) → slice_get self.old.motes.items number ≡ Some mote → length mote.node.log.entries < 3999999999 }
         requires air { length self.old.radio.air < 4000000000 }
@@ -116,7 +109,6 @@ impl Simulation {
         match written {
             Written::Kept => {}
             Written::Forgotten => {
-                let trades = may_tell(desc, event);
                 let node = &mut self.motes[usize::from(number)].node;
                 forget_told(node, trades, room);
                 self.radio.forget();
@@ -136,9 +128,20 @@ fn forget_told(node: &mut OpenNode, trades: bool, room: &mut NodeLog)
     ensures empty { IsEmpty room.new }
 {
     node.forget();
-    if !trades {
-        return;
+    if trades {
+        trade_room(node, room);
     }
+}
+
+/// Trades the room of the node, which forgot all, for the spare one. It isn't inlined: a log is long, and most events need no room.
+#[inline(never)]
+fn trade_room(node: &mut OpenNode, room: &mut NodeLog)
+    requires gone { node.old.gone ≡ gone_of node.old.log }
+    requires empty { IsEmpty room.old }
+    ensures same { node.new ≡ record node.old { log = record node.old.log { spare = room.old.spare } } }
+    ensures pace { (p : Pace) → HasPace node.old p → HasPace node.new p }
+    ensures empty { IsEmpty room.new }
+{
     node.trade(room);
 }
 
@@ -182,9 +185,9 @@ fn begin_mote(
     Ok(mote)
 }
 
-/// Whether the node may record something in the event. Of its timer's events and of most packets it records nothing, so it needs no
-/// room then.
-fn may_tell(desc: &Description, event: &Event) -> bool {
+/// Whether a node may record something in the event. Of its timer's events and of most packets it records nothing, so it needs no
+/// room then. No contract rests on it: a node makes room of its own if it has none.
+pub fn may_tell(desc: &Description, event: &Event) -> bool {
     match event {
         Event::Planned(_) => true,
         Event::Period { .. } => true,

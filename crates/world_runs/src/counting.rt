@@ -22,7 +22,7 @@ use mate_num::{NoMemory, Stamp};
 use radio_sim::Event;
 use report_text::{LogTally, RunTally, Summary};
 use sim_event::step;
-use sim_state::{Effect, Mote, Simulation, Written, forget_all, see_stores};
+use sim_state::{Effect, Mote, Simulation, Written, forget_all, may_tell, see_stores};
 use std::alloc::Global;
 use std::mem;
 use vm_desc::Description;
@@ -124,6 +124,7 @@ fn count_step(
     ensures empty { IsEmpty room.new }
     ensures plain { OnOk result (effect.new ≡ plain_effect) }
 {
+    let trades = may_tell(desc, event);
     let node = step(
         sim,
         desc,
@@ -132,11 +133,12 @@ fn count_step(
         event,
         at,
         Written::Forgotten,
+        trades,
         room,
         effect,
     )?;
     count_event(tally, sim, node);
-    sim.leave(desc, event, node, room);
+    sim.leave(node, trades, room);
     Ok(())
 }
 

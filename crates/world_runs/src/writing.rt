@@ -25,7 +25,7 @@ use mate_num::Stamp;
 use radio_sim::Event;
 use report_text::{Pass, WriteFault, stopped};
 use sim_event::step;
-use sim_state::{Effect, Simulation, Written};
+use sim_state::{Effect, Simulation, Written, may_tell};
 use std::alloc::Global;
 use vm_desc::Description;
 use world_run_laws::{reports_keep_the_promise, states_are_sound};
@@ -143,6 +143,7 @@ fn write_step<S: Sink>(
     ensures later { S.faults out.old ≤ S.faults out.new }
 {
     stamp_is_in_range(&at);
+    let trades = may_tell(desc, event);
     let Ok(node) = step(
         sim,
         desc,
@@ -151,6 +152,7 @@ fn write_step<S: Sink>(
         event,
         at,
         Written::Forgotten,
+        trades,
         room,
         effect,
     ) else {
@@ -162,6 +164,6 @@ fn write_step<S: Sink>(
     if let Err(fault) = write_piece(desc, sim, node, out) {
         return Err(stopped_at(at.event, stopped(fault)));
     }
-    sim.leave(desc, event, node, room);
+    sim.leave(node, trades, room);
     Ok(())
 }

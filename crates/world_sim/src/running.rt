@@ -55,6 +55,7 @@ pub fn run(
             &event,
             at,
             Written::Kept,
+            false,
             &mut room,
             &mut effect,
         )?;
