@@ -11,7 +11,6 @@ use Rattle.open_node.specs.Journal.{KeepsJournal}
 use Rattle.vm_desc.specs.declared.description.Description.{Description}
 use Rattle.world_rules.specs.World.{World}
 use Rattle.world_rules.specs.State.{Moment}
-use Rattle.world_rules.specs.Run.{journal}
 use Rattle.sim_state.specs.StandingAfter.{IsMoteAfter}
 use Rattle.sim_state.specs.declared.mote.Mote.{Mote}
 use Rattle.world_laws.specs.EventText.{TellJournals}

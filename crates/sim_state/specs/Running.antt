@@ -3,7 +3,6 @@ use Rattle.std.specs.Prelude.{◌≡◌, ℕ, suc, ◌<◌, ◌≤◌, List, len
 use Rattle.mate_num.specs.declared.call.Stamp.{Stamp}
 use Rattle.mate_journal.specs.NodeScript.{records_max}
 use Rattle.radio_sim.specs.declared.event.Event.{Event}
-use Rattle.radio_sim.specs.declared.event.Event.TheVariants as radio
 use Rattle.world_rules.specs.World.{World}
 use Rattle.world_rules.specs.State.{Moment, state}
 use Rattle.world_rules.specs.Cause.{Cause}

@@ -128,9 +128,10 @@ fn forget_told(node: &mut OpenNode, trades: bool, room: &mut NodeLog)
     ensures empty { IsEmpty room.new }
 {
     node.forget();
-    if trades {
-        trade_room(node, room);
+    if !trades {
+        return;
     }
+    trade_room(node, room);
 }
 
 /// Trades the room of the node, which forgot all, for the spare one. It isn't inlined: a log is long, and most events need no room.

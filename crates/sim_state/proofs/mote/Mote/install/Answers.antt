@@ -4,7 +4,7 @@ use Rattle.mate_journal.specs.Journal.{NodeState}
 use Rattle.vm_desc.specs.declared.description.Description.{Description}
 use Rattle.node_calls.specs.Installing.{InstallsBytes, Refuses}
 use Rattle.node_calls.specs.declared.installing.InstallFault.{InstallFault}
-use Rattle.open_node.specs.View.{NodeView, heard_of, Tells, IsSameNode}
+use Rattle.open_node.specs.View.{heard_of, Tells, IsSameNode}
 use Rattle.open_node.specs.Calls.{Pacing, TakesCapsule}
 use Rattle.open_node.proofs.CallLemmas.{same-on}
 use Rattle.sim_state.specs.declared.effect.Effect.{Effect}

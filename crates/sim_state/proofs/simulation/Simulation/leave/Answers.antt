@@ -39,5 +39,5 @@ returns-clause-kept c = λ kept.
     let found : slice_get s.motes.items c.args.number ≡ Some x = ap (slice_get s.motes.items) (sym from) ∙ slice_get-get_or s.motes.items c.from.result x high ∙ ap (λ (m : Mote). Some m) (sym c.index.ensures) in
     kept-still Forgotten c.args.self.now s c.args.number x go found low c.kept-kept.ensures.keeps kept
 
-pub returns-then-not-trades-clause-leaves : goal.returns-then-not-may_tell-clause-leaves
+pub returns-then-not-trades-clause-leaves : goal.returns-then-not-trades-clause-leaves
 returns-then-not-trades-clause-leaves c = inl refl
