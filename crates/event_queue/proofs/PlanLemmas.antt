@@ -7,7 +7,7 @@ use Rattle.std.proofs.lemmas.List.{append-nil}
 use Rattle.std.proofs.lemmas.List.Elements.{filter-append}
 use Rattle.event_queue.specs.Group.{is_in}
 use Rattle.event_queue.specs.declared.plan.Plan.{Plan}
-use Rattle.event_queue.specs.Plan.{numbered_at, times_left, planned_due, IsAscending, IsRightPlan, PlansLast, KeepsPlan, TakesPlanned}
+use Rattle.event_queue.specs.Plan.{numbered_at, times_left, planned_due, IsAscending, IsPlanAhead, PlansLast, KeepsPlan, TakesPlanned}
 
 -- the next item of the numbers from n on
 abbrev here : {T : Type 0} → (ℕ → T) → ℕ → ℕ → ℕ → List T
@@ -76,11 +76,11 @@ drop_length (suc n) (y ∷ ys) low = let rest = drop_length n ys (omega (arith, 
 
 -- a plan's calls
 
-pub planned_before : {T : Type 0} (numbered : ℕ → T) (p : Plan) (now until t : ℕ) → IsRightPlan now until p → t < now → planned_due numbered p t ≡ []
+pub planned_before : {T : Type 0} (numbered : ℕ → T) (p : Plan) (now until t : ℕ) → IsPlanAhead now until p → t < now → planned_due numbered p t ≡ []
 unfolding planned_due
 planned_before numbered p now until t right low = none_before numbered p.next now p.last (times_left p) t right.ascending low
 
-pub planned_after : {T : Type 0} (numbered : ℕ → T) (p : Plan) (now until t : ℕ) → IsRightPlan now until p → until < t → planned_due numbered p t ≡ []
+pub planned_after : {T : Type 0} (numbered : ℕ → T) (p : Plan) (now until t : ℕ) → IsPlanAhead now until p → until < t → planned_due numbered p t ≡ []
 unfolding planned_due
 planned_after numbered p now until t right late =
     let within = right.within in
@@ -92,7 +92,7 @@ unfolding planned_due
 planned_none {T} numbered p t none = ap (λ (ts : List ℕ). numbered_at numbered p.next ts t) (drop_none p.next p.times.items none)
 
 -- before the first time nothing comes
-pub planned_first : {T : Type 0} (numbered : ℕ → T) (p : Plan) (now until first t : ℕ) → IsRightPlan now until p → slice_get p.times.items p.next ≡ Some first → t < first → planned_due numbered p t ≡ []
+pub planned_first : {T : Type 0} (numbered : ℕ → T) (p : Plan) (now until first t : ℕ) → IsPlanAhead now until p → slice_get p.times.items p.next ≡ Some first → t < first → planned_due numbered p t ≡ []
 unfolding planned_due
 planned_first {T} numbered p now until first t right got low =
     let is : times_left p ≡ first ∷ drop (suc p.next) p.times.items = drop_first p.next p.times.items first got in
@@ -101,7 +101,7 @@ planned_first {T} numbered p now until first t right got low =
     ∙ none_before numbered p.next first p.last (first ∷ drop (suc p.next) p.times.items) t (omega arith, ascending.1, ascending.2) low
 
 -- the first time isn't past, nor after the end
-pub first_within : (p : Plan) (now until first : ℕ) → IsRightPlan now until p → slice_get p.times.items p.next ≡ Some first → (now ≤ first) × (first ≤ until)
+pub first_within : (p : Plan) (now until first : ℕ) → IsPlanAhead now until p → slice_get p.times.items p.next ≡ Some first → (now ≤ first) × (first ≤ until)
 first_within p now until first right got =
     let is : times_left p ≡ first ∷ drop (suc p.next) p.times.items = drop_first p.next p.times.items first got in
     let ascending : IsAscending now p.last (first ∷ drop (suc p.next) p.times.items) = subst (IsAscending now p.last) is right.ascending in
@@ -109,7 +109,7 @@ first_within p now until first right got =
     let within = right.within in
     (ascending.0, omega (arith, in_time, within))
 
-pub first_some : (p : Plan) (now until first : ℕ) → IsRightPlan now until p → slice_get p.times.items p.next ≡ Some first → p.next < length p.times.items
+pub first_some : (p : Plan) (now until first : ℕ) → IsPlanAhead now until p → slice_get p.times.items p.next ≡ Some first → p.next < length p.times.items
 first_some p now until first right got =
     let is = drop_first p.next p.times.items first got in
     let count = drop_length p.next p.times.items right.come in
@@ -117,13 +117,13 @@ first_some p now until first right got =
     omega (arith, count, longer)
 
 -- the plan goes with the wheel to a time that isn't after its first
-pub plan_on : (p : Plan) (now until first later : ℕ) → IsRightPlan now until p → slice_get p.times.items p.next ≡ Some first → later ≤ first → IsRightPlan later until p
+pub plan_on : (p : Plan) (now until first later : ℕ) → IsPlanAhead now until p → slice_get p.times.items p.next ≡ Some first → later ≤ first → IsPlanAhead later until p
 plan_on p now until first later right got low =
     let is : times_left p ≡ first ∷ drop (suc p.next) p.times.items = drop_first p.next p.times.items first got in
     let ascending : IsAscending now p.last (first ∷ drop (suc p.next) p.times.items) = subst (IsAscending now p.last) is right.ascending in
     record { ascending = subst (IsAscending later p.last) (sym is) (low, ascending.1, ascending.2); within = right.within; come = right.come; few = right.few }
 
-pub plan_over : (p : Plan) (now until later : ℕ) → IsRightPlan now until p → slice_get p.times.items p.next ≡ None → IsRightPlan later until p
+pub plan_over : (p : Plan) (now until later : ℕ) → IsPlanAhead now until p → slice_get p.times.items p.next ≡ None → IsPlanAhead later until p
 plan_over p now until later right none =
     record { ascending = subst (IsAscending later p.last) (sym (drop_none p.next p.times.items none)) tt; within = right.within; come = right.come; few = right.few }
 
@@ -131,7 +131,7 @@ plan_over p now until later right none =
 pub nothing_left : (p : Plan) → p.next ≡ 0 → p.times.items ≡ [] → slice_get p.times.items p.next ≡ None
 nothing_left p next times = ap (λ (ts : List ℕ). slice_get ts p.next) times
 
-pub plan_made : (p : Plan) (now until : ℕ) → p.next ≡ 0 → p.last ≡ 0 → p.times.items ≡ [] → IsRightPlan now until p
+pub plan_made : (p : Plan) (now until : ℕ) → p.next ≡ 0 → p.last ≡ 0 → p.times.items ≡ [] → IsPlanAhead now until p
 plan_made p now until next last times =
     let count : length p.times.items ≡ 0 = ap (λ (ts : List ℕ). length ts) times in
     record {
@@ -142,8 +142,8 @@ plan_made p now until next last times =
     }
 
 -- the same plan at the same time
-pub plan_at : (p : Plan) (now until later : ℕ) → later ≡ now → IsRightPlan now until p → IsRightPlan later until p
-plan_at p now until later same right = subst (λ (k : ℕ). IsRightPlan k until p) (sym same) right
+pub plan_at : (p : Plan) (now until later : ℕ) → later ≡ now → IsPlanAhead now until p → IsPlanAhead later until p
+plan_at p now until later same right = subst (λ (k : ℕ). IsPlanAhead k until p) (sym same) right
 
 -- its first comes
 pub planned_comes : {T : Type 0} (numbered : ℕ → T) (p q : Plan) (first : ℕ) → slice_get p.times.items p.next ≡ Some first → TakesPlanned p q → planned_due numbered p first ≡ numbered p.next ∷ planned_due numbered q first
@@ -164,7 +164,7 @@ planned_others {T} numbered p q first t got takes other =
     ∙ ap (λ (ts : List ℕ). numbered_at numbered (suc p.next) ts t) (sym left)
     ∙ ap (λ (k : ℕ). numbered_at numbered k (times_left q) t) (sym takes.next))
 
-pub plan_takes : (p q : Plan) (now until first : ℕ) → IsRightPlan now until p → slice_get p.times.items p.next ≡ Some first → TakesPlanned p q → IsRightPlan first until q
+pub plan_takes : (p q : Plan) (now until first : ℕ) → IsPlanAhead now until p → slice_get p.times.items p.next ≡ Some first → TakesPlanned p q → IsPlanAhead first until q
 plan_takes p q now until first right got takes =
     let is : times_left p ≡ first ∷ drop (suc p.next) p.times.items = drop_first p.next p.times.items first got in
     let ascending : IsAscending now p.last (first ∷ drop (suc p.next) p.times.items) = subst (IsAscending now p.last) is right.ascending in
@@ -180,7 +180,7 @@ plan_takes p q now until first right got takes =
     }
 
 -- one more is planned
-pushed : {T : Type 0} (numbered : ℕ → T) (p q : Plan) (now until time number t : ℕ) → IsRightPlan now until p → PlansLast p time q → length p.times.items ≡ number
+pushed : {T : Type 0} (numbered : ℕ → T) (p q : Plan) (now until time number t : ℕ) → IsPlanAhead now until p → PlansLast p time q → length p.times.items ≡ number
     → numbered_at numbered q.next (times_left q) t ≡ numbered_at numbered p.next (times_left p) t ++ here numbered number time t
 pushed {T} numbered p q now until time number t right puts count =
     let left : times_left q ≡ times_left p ++ time ∷ [] = ap (λ (ts : List ℕ). drop q.next ts) puts.times ∙ ap (λ (k : ℕ). drop k (p.times.items ++ time ∷ [])) puts.next ∙ drop_push p.next p.times.items time right.come in
@@ -188,19 +188,19 @@ pushed {T} numbered p q now until time number t right puts count =
     ap (λ (ts : List ℕ). numbered_at numbered q.next ts t) left ∙ ap (λ (k : ℕ). numbered_at numbered k (times_left p ++ time ∷ []) t) puts.next
     ∙ push_at numbered p.next time (times_left p) t ∙ ap (λ (k : ℕ). numbered_at numbered p.next (times_left p) t ++ here numbered k time t) all
 
-pub planned_last : {T : Type 0} (numbered : ℕ → T) (p q : Plan) (now until time number : ℕ) → IsRightPlan now until p → PlansLast p time q → length p.times.items ≡ number → planned_due numbered q time ≡ planned_due numbered p time ++ numbered number ∷ []
+pub planned_last : {T : Type 0} (numbered : ℕ → T) (p q : Plan) (now until time number : ℕ) → IsPlanAhead now until p → PlansLast p time q → length p.times.items ≡ number → planned_due numbered q time ≡ planned_due numbered p time ++ numbered number ∷ []
 unfolding planned_due
 planned_last {T} numbered p q now until time number right puts count =
     pushed numbered p q now until time number time right puts count ∙ ap (λ (xs : List T). numbered_at numbered p.next (times_left p) time ++ xs) (here-own numbered number time)
 
-pub planned_elsewhere : {T : Type 0} (numbered : ℕ → T) (p q : Plan) (now until time number t : ℕ) → IsRightPlan now until p → PlansLast p time q → length p.times.items ≡ number → t ≢ time → planned_due numbered q t ≡ planned_due numbered p t
+pub planned_elsewhere : {T : Type 0} (numbered : ℕ → T) (p q : Plan) (now until time number t : ℕ) → IsPlanAhead now until p → PlansLast p time q → length p.times.items ≡ number → t ≢ time → planned_due numbered q t ≡ planned_due numbered p t
 unfolding planned_due
 planned_elsewhere {T} numbered p q now until time number t right puts count other =
     pushed numbered p q now until time number t right puts count
     ∙ ap (λ (xs : List T). numbered_at numbered p.next (times_left p) t ++ xs) (here-other numbered number time t (λ same. other (sym same)))
     ∙ append-nil (numbered_at numbered p.next (times_left p) t)
 
-pub plan_puts : (p q : Plan) (now until time number : ℕ) → IsRightPlan now until p → PlansLast p time q → length p.times.items ≡ number → number < 4294967296 → p.last ≤ time → now ≤ time → time ≤ until → IsRightPlan now until q
+pub plan_puts : (p q : Plan) (now until time number : ℕ) → IsPlanAhead now until p → PlansLast p time q → length p.times.items ≡ number → number < 4294967296 → p.last ≤ time → now ≤ time → time ≤ until → IsPlanAhead now until q
 plan_puts p q now until time number right puts count small after ahead in_time =
     let left : times_left q ≡ times_left p ++ time ∷ [] = ap (λ (ts : List ℕ). drop q.next ts) puts.times ∙ ap (λ (k : ℕ). drop k (p.times.items ++ time ∷ [])) puts.next ∙ drop_push p.next p.times.items time right.come in
     let longer : length q.times.items ≡ length (p.times.items ++ time ∷ []) = ap (λ (ts : List ℕ). length ts) puts.times in
@@ -223,7 +223,7 @@ unfolding planned_due
 planned_kept {T} numbered p q t kept =
     ap (λ (ts : List ℕ). numbered_at numbered q.next (drop q.next ts) t) kept.times ∙ ap (λ (k : ℕ). numbered_at numbered k (drop k p.times.items) t) kept.next
 
-pub plan_kept : (p q : Plan) (now until : ℕ) → IsRightPlan now until p → KeepsPlan p q → IsRightPlan now until q
+pub plan_kept : (p q : Plan) (now until : ℕ) → IsPlanAhead now until p → KeepsPlan p q → IsPlanAhead now until q
 plan_kept p q now until right kept =
     let left : times_left q ≡ times_left p = ap (λ (ts : List ℕ). drop q.next ts) kept.times ∙ ap (λ (k : ℕ). drop k p.times.items) kept.next in
     let count : length q.times.items ≡ length p.times.items = ap (λ (ts : List ℕ). length ts) kept.times in

@@ -8,7 +8,7 @@ use Rattle.event_queue.specs.declared.plan.Plan.{Plan}
 use Rattle.event_queue.specs.declared.queue.Timed.{Timed}
 use Rattle.event_queue.specs.declared.wheel.Wheel.{Wheel}
 use Rattle.event_queue.specs.Group.{is_in}
-use Rattle.event_queue.specs.Plan.{planned_due, IsRightPlan, PlansLast, KeepsPlan, TakesPlanned}
+use Rattle.event_queue.specs.Plan.{planned_due, IsPlanAhead, PlansLast, KeepsPlan, TakesPlanned}
 use Rattle.event_queue.specs.Wheel.{wheel_due, IsWheel, PutsLast, KeepsView, TakesFirst, Turns, Cancels, SeeksNone, SeeksFirst, Seeks, ReachesTime, SeeksBefore}
 use Rattle.event_queue.specs.Agenda.{Agenda, inserted, scheduled, is_other, due_at, Adds, Comes}
 use Rattle.event_queue.specs.View.{in_order, queue_due, agenda_at, agenda_of, IsRightQueue}
@@ -149,7 +149,7 @@ put_now {T} group numbered until p w v q time item (Err e) view done = done.at �
 
 -- planning, where the wheel has nothing
 
-plans_due : {T : Type 0} (group : T → Option ℕ) (numbered : ℕ → T) (until : ℕ) (p o : Plan) (w : Wheel T) (time number : ℕ) → IsRightPlan w.at until p → ((t : ℕ) → wheel_due group w t ≡ []) → length p.times.items ≡ number → PlansLast p time o → PutsDue (queue_due group numbered p w) time (numbered number) (queue_due group numbered o w)
+plans_due : {T : Type 0} (group : T → Option ℕ) (numbered : ℕ → T) (until : ℕ) (p o : Plan) (w : Wheel T) (time number : ℕ) → IsPlanAhead w.at until p → ((t : ℕ) → wheel_due group w t ≡ []) → length p.times.items ≡ number → PlansLast p time o → PutsDue (queue_due group numbered p w) time (numbered number) (queue_due group numbered o w)
 plans_due {T} group numbered until p o w time number right nothing count put =
     let alone : (p : Plan) (t : ℕ) → queue_due group numbered p w t ≡ planned_due numbered p t = λ p t. ap (λ (xs : List T). planned_due numbered p t ++ xs) (nothing t) ∙ append-nil (planned_due numbered p t) in
     record {

@@ -21,7 +21,7 @@ IsAscending from last [] = Unit {0}
 IsAscending from last (t ∷ ts) = (from ≤ t) × (t ≤ last) × IsAscending t last ts
 
 -- what a plan keeps, where all before `now` came
-pub record IsRightPlan (now until : ℕ) (p : Plan) : Type 0 where
+pub record IsPlanAhead (now until : ℕ) (p : Plan) : Type 0 where
   pub ascending : IsAscending now p.last (times_left p)
   pub within : p.last ≤ until
   pub come : p.next ≤ length p.times.items

@@ -4,7 +4,7 @@ use Rattle.event_queue.specs.declared.queue.Timed.{Timed}
 use Rattle.event_queue.specs.declared.wheel.Wheel.{Wheel}
 use Rattle.event_queue.specs.Wheel.{wheel_due, IsWheel}
 use Rattle.event_queue.specs.declared.plan.Plan.{Plan}
-use Rattle.event_queue.specs.Plan.{planned_due, IsRightPlan}
+use Rattle.event_queue.specs.Plan.{planned_due, IsPlanAhead}
 use Rattle.event_queue.specs.Agenda.{Agenda}
 
 abbrev pub at_time : {T : Type 0} → ℕ → List T → List (Timed T)
@@ -31,4 +31,4 @@ pub record IsRightQueue {T : Type 0} (group : T → Option ℕ) (until : ℕ) (p
   pub below : until < 4194304
   pub ahead : w.at ≤ until
   pub none_after : (t : ℕ) → until < t → wheel_due group w t ≡ []
-  pub plan : IsRightPlan w.at until p
+  pub plan : IsPlanAhead w.at until p

@@ -1,6 +1,6 @@
 //! Numbered items that are planned ahead, in order of time.
 
-ghost use Rattle.std.specs.Prelude.{◌≡◌, ◌<◌, ◌≤◌, ℕ, [], length, slice_get, IsTrue, MatchResult};
+ghost use Rattle.std.specs.Prelude.{◌≡◌, ◌<◌, ◌≤◌, ◌==◌, ◌&&◌, ℕ, [], length, nat_le, slice_get, IsTrue, MatchResult};
 ghost use Rattle.event_queue.specs.Plan.{PlansLast, KeepsPlan, TakesPlanned};
 
 use mate_num::NoMemory;
@@ -43,7 +43,8 @@ impl Plan {
 
     /// Whether an item of this number goes behind the others at this time.
     pub fn takes(&self, time: u32, number: u32) -> bool
-        ensures { IsTrue result → (self.now.last ≤ time) × (length self.now.times.items ≡ number) }
+        ensures value { result ≡ (nat_le self.now.last time && (length self.now.times.items == number)) }
+        ensures behind { IsTrue result → (self.now.last ≤ time) × (length self.now.times.items ≡ number) }
     {
         self.last <= time && self.times.len() == number as usize
     }
