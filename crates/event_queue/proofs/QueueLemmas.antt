@@ -1,5 +1,5 @@
 -- The queue's calls, on the lists that clauses see.
-use Rattle.std.proofs.Common.{◌≡◌, ◌≢◌, ℕ, suc, ◌<◌, ◌≤◌, Bool, true, false, List, [], ◌∷◌, ◌++◌, refl, sym, ◌∙◌, ap, subst, arith, inl, inr, append_assoc}
+use Rattle.std.proofs.Common.{◌≡◌, ◌≢◌, ℕ, suc, ◌<◌, ◌≤◌, Bool, true, List, [], ◌∷◌, ◌++◌, refl, sym, ◌∙◌, ap, subst, arith, inl, inr, append_assoc}
 use Rattle.std.specs.Prelude.{if◌then◌else◌, Option, Some, None, filter, not, length, slice_get, is_some, IfNone, Result, Ok, Err, MatchResult, OnOk}
 use Rattle.std.proofs.lemmas.Bool.{cases_lt, cases_eq, le-leb, lt-leb, false≢true}
 use Rattle.std.proofs.lemmas.List.{append-nil}
@@ -232,10 +232,6 @@ pub sought_end : {T : Type 0} (group : T → Option ℕ) (end : ℕ) (old w : Wh
 sought_end group end old w so_far past =
     let to = so_far.to in
     record { right = so_far.right; at = omega (arith, to, past); none_before = λ t low. sym (so_far.same t) ∙ so_far.right.turning.past t (omega (arith, low, past)); same = so_far.same }
-
-pub none_found : {T : Type 0} (item : Option T) → is_some item ≡ false → item ≡ None
-none_found None e = refl
-none_found (Some x) e = absurd (false≢true (sym e))
 
 -- the first before the end is the first of all, and where none is, what is due at the end
 pub found_before : {T : Type 0} (group : T → Option ℕ) (end : ℕ) (old v : Wheel T) (item : Option T) → SeeksBefore group end old item v → is_some item ≡ true → Seeks group end old item v

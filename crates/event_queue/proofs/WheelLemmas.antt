@@ -637,7 +637,7 @@ starts {T} group w empty t = elim (cases_eq (t / 2048) (w.at / 2048)) [
   | inr ahead ↦ due_ahead group w t ahead ∙ ap (items_timed group w.generations w.entries.items (t % 2048)) (empty (far t))
 ]
 
-pub not_some : (o : Option ℕ) → false ≡ is_some o → o ≡ None
+pub not_some : {A : Type 0} (o : Option A) → false ≡ is_some o → o ≡ None
 not_some None e = refl
 not_some (Some x) e = absurd (false≢true e)
 
