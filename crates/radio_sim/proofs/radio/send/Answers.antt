@@ -9,7 +9,7 @@ use Rattle.radio_sim.proofs.WireLemmas.{further_none, further_push, further_both
 use Rattle.event_queue.specs.Agenda.{AddsAll, scheduled_all}
 use Rattle.radio_sim.specs.declared.event.Event.{Event}
 use Rattle.radio_sim.specs.Waiting.{radio_agenda}
-use Rattle.radio_sim.specs.Wires.{carried_by}
+use Rattle.radio_sim.specs.Wires.{carried_by, losts}
 use Rattle.radio_sim.proofs.WaitingLemmas.{none_long, schedules_events, adds_events, adds_none, ahead_more, delivered_none, delivered_flight}
 use Rattle.radio_sim.proofs.radio.send.Goals as goal
 
@@ -66,3 +66,11 @@ pub returns-clause-ahead : goal.returns-clause-ahead
 returns-clause-ahead c = λ ahead.
     let later = c.requires.ahead in
     ahead_more c.args.queue.now c.schedule.new.self (c.args.sending.at.time + c.args.delay) (waiting.Flight c.of.result) (omega (arith, later)) c.in_ok-schedule.ensures.now c.in_ok-schedule.ensures.list c.in_ok-schedule.ensures.due ahead
+
+pub returns-then-is_empty-clause-air : goal.returns-then-is_empty-clause-air
+returns-then-is_empty-clause-air c =
+    c.in_ok-carry.ensures.air ∙ ap (λ (xs : List Aired). xs ++ losts c.args.sending c.args.wires.now) c.in_ok-push.ensures
+
+pub returns-clause-air : goal.returns-clause-air
+returns-clause-air c =
+    c.in_ok-carry.ensures.air ∙ ap (λ (xs : List Aired). xs ++ losts c.args.sending c.args.wires.now) c.in_ok-push.ensures

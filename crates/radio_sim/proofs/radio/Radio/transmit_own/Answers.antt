@@ -1,6 +1,7 @@
-use Rattle.std.proofs.Common.{◌≡◌, ◌+◌, ◌<◌, ◌++◌, [], List, get_or, set, subst, sym, ◌∙◌, refl, rules, arith}
+use Rattle.std.proofs.Common.{◌≡◌, ◌+◌, ◌<◌, ◌++◌, [], List, ap, length, length-append, length-take, get_or, set, subst, sym, ◌∙◌, refl, rules, arith}
 use Rattle.std.proofs.lemmas.List.{get_or_default}
 use Rattle.event_queue.specs.Agenda.{AddsAll}
+use Rattle.mate_journal.specs.declared.air.Aired.{Aired}
 use Rattle.radio_sim.specs.declared.wire.Sending.{Sending}
 use Rattle.radio_sim.specs.declared.wire.Wire.{Wire}
 use Rattle.radio_sim.specs.Radio.{Ether, wires_of, transmitted, IsEtherOf}
@@ -45,3 +46,30 @@ returns-clause-stands c = λ world senders stood.
     stands_more world senders before _ c.args.node c.self.invariant.nodes low refl
     (turned_read wires c.args.node c.index_mut-wires.result.now c.turn.new.self c.self.invariant.nodes low c.index_mut-wires.ensures.value c.turn.ensures)
     (subst (λ (e : Ether). IsEtherOf world senders e) (sym c.self.view_is) stood)
+
+pub invariant_of-self : goal.invariant_of-self
+invariant_of-self c =
+    let right = c.self.invariant in
+    record {
+      now_is = right.now_is ∙ sym c.send-result.ensures.now;
+      ahead = c.send-result.ensures.ahead right.ahead;
+      gone_is = right.gone_is;
+      gone_few = right.gone_few;
+      counted = let kept = ap length c.send-result.ensures.kept.is in omega (arith, right.counted, kept, ap length c.truncate.ensures, c.len-before.ensures, length-append {A = Aired}, length-take {A = Aired});
+      near = right.near;
+      nodes = search rules;
+    }
+
+pub invariant_of-self-2 : goal.invariant_of-self-2
+invariant_of-self-2 c =
+    let right = c.self.invariant in
+    let told = ap length (if-ok c.send-result.result _ (sym c.is_err.ensures.value ∙ c.if-is_err.false) c.send-result.ensures.air) in
+    record {
+      now_is = right.now_is ∙ sym c.send-result.ensures.now;
+      ahead = c.send-result.ensures.ahead right.ahead;
+      gone_is = right.gone_is;
+      gone_few = right.gone_few;
+      counted = omega (arith, right.counted, told, length-append {A = Aired});
+      near = right.near;
+      nodes = search rules;
+    }
