@@ -1,5 +1,5 @@
 -- The lists of a report.
-use Rattle.std.proofs.Common.{◌≡◌, ℕ, zero, suc, ◌+◌, ◌<◌, List, [], ◌∷◌, ◌++◌, length, map, drop, set, get_or, refl, sym, ◌∙◌, ap, subst, arith, inl, inr, All}
+use Rattle.std.proofs.Common.{◌≡◌, ℕ, zero, suc, ◌+◌, ◌<◌, List, [], ◌∷◌, ◌++◌, length, map, drop, set, get_or, refl, sym, ◌∙◌, ap, subst, arith, inl, inr, All, length-append, length-drop}
 use Rattle.std.specs.Prelude.{Some, slice_get, unwrap_or}
 use Rattle.std.proofs.lemmas.Bool.{cases_eq}
 use Rattle.std.proofs.Math.Seq.{drop-cons, set-append_seam}
@@ -60,6 +60,12 @@ cons-behind (z ∷ xs) ys x = ap (λ zs. z ∷ zs) (cons-behind xs ys x)
 length-behind : (ms : List Mote) (m : Mote) → length (ms ++ m ∷ []) ≡ suc (length ms)
 length-behind [] m = refl
 length-behind (x ∷ ms) m = ap suc (length-behind ms m)
+
+pub put-low : (ms : List Mote) (first now : List Log) (n : ℕ) → n ≡ length ms → n < length first → now ≡ mote_logs ms ++ drop (length ms) first → n < length now
+put-low ms first now n is below was =
+    let long = length-logs ms in
+    let all = ap length was ∙ length-append (mote_logs ms) (drop (length ms) first) in
+    let rest = length-drop (length ms) first in omega (arith, is, below, long, all, rest)
 
 pub put-next : (ms : List Mote) (m : Mote) (first now new : List Log) (n : ℕ) (l : Log) → n ≡ length ms → n < length first → l ≡ m.node.log → now ≡ mote_logs ms ++ drop (length ms) first → new ≡ set now n l
     → new ≡ mote_logs (ms ++ m ∷ []) ++ drop (length (ms ++ m ∷ [])) first

@@ -1,5 +1,8 @@
-use Rattle.std.proofs.Common.{ℕ, Bool, List, Result, true, refl, sym, ◌∙◌, ap, subst, inl, inr}
+use Rattle.std.proofs.Common.{◌<◌, ◌≤◌, ℕ, length, arith, Bool, List, Result, true, refl, sym, ◌∙◌, ap, subst, inl, inr}
 use Rattle.std.specs.Prelude.{⊤}
+use Rattle.std.proofs.lemmas.Bool.{eqb-true, eqb-false}
+use Rattle.std.proofs.lemmas.List.{nil_from_length}
+use Rattle.std.proofs.lemmas.Result.{IfOk-from_err}
 use Rattle.mate_journal.specs.Journal.{NodeState}
 use Rattle.vm_desc.specs.declared.description.Description.{Description}
 use Rattle.node_calls.specs.Installing.{InstallsBytes, Refuses}
@@ -8,9 +11,10 @@ use Rattle.open_node.specs.View.{heard_of, Tells, IsSameNode}
 use Rattle.open_node.specs.Calls.{Pacing, TakesCapsule}
 use Rattle.open_node.proofs.CallLemmas.{same-on}
 use Rattle.sim_state.specs.declared.effect.Effect.{Effect}
-use Rattle.sim_state.specs.Motes.{plain_effect}
+use Rattle.sim_state.specs.Motes.{plain_effect, IsNotInstalled}
 use Rattle.sim_state.proofs.NodeLemmas.{tellable-same, heard-same, tells-behind}
 use Rattle.sim_state.proofs.MoteLemmas.{begins-reset}
+use Rattle.sim_state.proofs.mote.Mote.install.Goals.{then-version-held-via-then-version-held, then-version-held-via-else-version-held+then-is_empty}
 use Rattle.sim_state.proofs.mote.Mote.install.Goals as goal
 
 pub install_anywhere-requires-clause-timely : goal.install_anywhere-requires-clause-timely
@@ -51,3 +55,30 @@ returns-in-Err c =
       same = refl;
       effect = c.requires.plain;
     })
+
+pub returns-in_err-reserve : goal.returns-in_err-reserve
+returns-in_err-reserve c = IfOk-from_err _ _ c.from_residual.ensures.0
+
+pub returns-in_err-install_anywhere : goal.returns-in_err-install_anywhere
+returns-in_err-install_anywhere c = IfOk-from_err _ _ c.from_residual-in_err-install_anywhere.ensures.0
+
+pub returns-in_err-installed-in-Ok : goal.returns-in_err-installed-in-Ok
+returns-in_err-installed-in-Ok c = IfOk-from_err _ _ c.from_residual-in_err-installed-in-Ok.ensures.0
+
+pub installed-requires-clause-newer : goal.installed-requires-clause-newer
+installed-requires-clause-newer c = subst (λ (n : ℕ). n < c.args.version) c.held.ensures.value c.if-version-held.false
+
+pub install_anywhere-requires-clause-few : goal.install_anywhere-requires-clause-few
+install_anywhere-requires-clause-few c = (tellable-same c.args.self.now.node c.reserve.new.self c.args.at c.in_ok-reserve.ensures.same c.requires.tellable).few
+
+pub returns-then-version-held : goal.returns-then-version-held
+returns-then-version-held c =
+    let why : IsNotInstalled c.args.handler c.args.version c.args.image.now.items c.args.self.now =
+    elim c.then-version-held.branch [
+      | then-version-held-via-then-version-held w ↦ inl (subst (λ (n : ℕ). c.args.version ≤ n) c.held.ensures.value w.if-version-held.true)
+      | then-version-held-via-else-version-held+then-is_empty w ↦ inr (inl (nil_from_length c.args.image.now.items (eqb-true (length c.args.image.now.items) 0 (sym w.if-is_empty.ensures))))
+    ] in
+    inr (record { why = why; node = c.in_ok-reserve.ensures.same; same = refl; effect = c.requires.plain })
+
+pub installed-requires-clause-filled : goal.installed-requires-clause-filled
+installed-requires-clause-filled c = let some = eqb-false (length c.args.image.now.items) 0 (sym c.if-is_empty.ensures) in omega (arith, some)
