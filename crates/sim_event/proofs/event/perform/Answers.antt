@@ -1,4 +1,5 @@
 use Rattle.std.proofs.Common.{◌<◌, ℕ, refl, sym, ◌∙◌, subst, arith, rules}
+use Rattle.std.proofs.lemmas.Result.{IfOk-from_err}
 use Rattle.world_rules.specs.State.{state}
 use Rattle.world_run_laws.specs.Coming.{code_world}
 use Rattle.sim_state.specs.declared.mote.Mote.{Mote}
@@ -70,3 +71,15 @@ returns-clause-performed c = λ ms cause may.
     may own c.in_ok-have_turns.ensures.tells c.in_ok-have_turns.ensures.apart c.in_ok-have_turns.ensures.awaited
     (λ q taken ended. c.in_ok-finish.ensures c.args.programs.now (state (code_world c.args.desc.now c.args.world.now c.args.programs.now) ms) (came c.args.at.time cause own.tells.told c.in_ok-have_turns.ensures.tells.told q) refl may.cause may.node taken
     (subst (λ (n : ℕ). HasSettled (code_world c.args.desc.now c.args.world.now c.args.programs.now) (state (code_world c.args.desc.now c.args.world.now c.args.programs.now) ms) (came c.args.at.time cause own.tells.told c.in_ok-have_turns.ensures.tells.told q) n (record c.handle.new.mote { node = c.have_turns.new.node }) c.handle.new.effect) (sym c.told-from.ensures.count) ended))
+
+pub returns-in_err-handle-clause-performed : goal.returns-in_err-handle-clause-performed
+returns-in_err-handle-clause-performed c = IfOk-from_err _ _ c.from_residual.ensures.0
+
+pub returns-in_err-have_turns-clause-performed : goal.returns-in_err-have_turns-clause-performed
+returns-in_err-have_turns-clause-performed c = IfOk-from_err _ _ c.from_residual-in_err-have_turns.ensures.0
+
+pub returns-in_err-finish-clause-performed : goal.returns-in_err-finish-clause-performed
+returns-in_err-finish-clause-performed c = IfOk-from_err _ _ c.from_residual-in_err-finish.ensures.0
+
+pub finish-requires-clause-right : goal.finish-requires-clause-right
+finish-requires-clause-right c = c.in_ok-handle.ensures.right

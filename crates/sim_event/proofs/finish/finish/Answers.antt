@@ -1,17 +1,29 @@
-use Rattle.std.proofs.Common.{ℕ, List, [], ◌++◌, refl, sym, ap, subst}
+use Rattle.std.proofs.Common.{◌≡◌, ◌<◌, ◌≤◌, ℕ, List, [], ◌++◌, map, length, get_or, refl, sym, ◌∙◌, ap, subst, arith, length-append, append-nil}
+use Rattle.std.specs.Prelude.{Option, Some, None, slice_index_or}
+use Rattle.std.specs.Option.{option_to_list}
+use Rattle.std.proofs.Math.Nat.{mul-le-mul_left}
+use Rattle.std.proofs.lemmas.Result.{IfOk-from_err}
 use Rattle.mate_num.specs.declared.id.FunId.{FunId}
+use Rattle.mate_num.specs.declared.call.Stamp.{Stamp}
+use Rattle.mate_journal.specs.declared.air.Air.{Air}
+use Rattle.mate_journal.specs.declared.air.Aired.{Aired}
+use Rattle.mate_journal.specs.Entries.{IsEntryInRange}
 use Rattle.mate_journal.specs.Journal.{JournalEntry}
 use Rattle.open_node.specs.View.{heard_of}
 use Rattle.open_node.specs.Calls.{told_by_entries, TellFrom}
 use Rattle.packet_codec.specs.declared.packet.Packet.{Packet}
+use Rattle.radio_sim.specs.Radio.{Ether, wires_of}
+use Rattle.radio_sim.specs.declared.wire.Wire.{Wire}
+use Rattle.vm_desc.specs.declared.description.Description.{Description}
 use Rattle.world_rules.specs.World.{World, series_in}
 use Rattle.world_rules.specs.State.{node_at, messages, answers_due, calls_in}
-use Rattle.sim_air.specs.Air.{IsAirOf, SendsAll, timed_events}
-use Rattle.sim_air.specs.Changes.{AddsToAir}
+use Rattle.sim_air.specs.Air.{IsAirOf, SendsAll, aired_at, air_room, timed_events}
+use Rattle.sim_air.specs.Changes.{AddsToAir, if_begins}
 use Rattle.sim_air.specs.Calls.{AreCallsOf, HasSensors}
 use Rattle.journal_laws.specs.Waiting.{AreAwaited}
 use Rattle.world_run_laws.specs.Coming.{code_world}
 use Rattle.sim_state.proofs.StandingLemmas.{stands-same, stands-added}
+use Rattle.sim_event.specs.Pieces.{length_of}
 use Rattle.sim_event.proofs.FinishedLemmas.{finished-by}
 use Rattle.sim_event.proofs.finish.finish.Goals as goal
 
@@ -51,3 +63,40 @@ returns c = λ programs s m same_time same_event same_node taken settled.
           λ told. AreCallsOf (code_world c.args.desc.now c.args.world.now programs) c.args.number ((node_at (code_world c.args.desc.now c.args.world.now programs) s m).called ++ calls_in told) c.schedule_answers.new.calls in
           subst P tell.told (c.in_ok-schedule_answers.ensures.calls w called tell.by sensors calls);
     })
+
+-- at most what comes first and an interval
+noted-few : (at : Stamp) (node : ℕ) (o : Option Air) (p : Option ℕ) → length (map (aired_at at node) (option_to_list o) ++ map (aired_at at node) (if_begins p)) ≤ 2
+noted-few at node None None = omega arith
+noted-few at node None (Some n) = omega arith
+noted-few at node (Some a) None = omega arith
+noted-few at node (Some a) (Some n) = omega arith
+
+room-below : (node n : ℕ) (old new : Ether) (airs : List Aired) → new.air ≡ old.air ++ airs → new.wires ≡ old.wires → length airs ≤ 2 → length old.air ≤ 1000000 → length (wires_of old node) ≤ 4096 → n ≤ 100000 → air_room new node n < 4000000000
+room-below node n old new airs air wires two few narrow low =
+    let long = ap length air ∙ length-append old.air airs in
+    let wide = ap (λ (ws : List (List Wire)). length (slice_index_or ws node [])) wires in
+    let high : length (wires_of new node) ≤ 4096 = omega (arith, wide, narrow) in
+    let most = mul-le-mul_left n high in omega (arith, long, two, few, most, low)
+
+pub send_packets-requires-clause-few : goal.send_packets-requires-clause-few
+send_packets-requires-clause-few c =
+    let noted = c.in_ok-note_all.ensures in
+    let timed = c.in_ok-schedule_timed.ensures in
+    let begun = length_of c.args.effect.now.begins c.args.mote.now.timer in
+    let packets = c.as_slice.ensures.fits in
+    let entries = c.told_since-entries.ensures.count in
+    let short = c.requires.short in
+    room-below c.args.number _ c.args.radio.now c.schedule_timed.new.radio _ (timed.grows.air ∙ append-nil _ ∙ c.cancel.ensures.air ∙ noted.grows.air) (timed.wires ∙ c.cancel.ensures.wires ∙ noted.wires) (noted-few c.args.at c.args.number c.args.effect.now.first begun)
+    c.requires.few c.requires.wires (omega (arith, packets, entries, short))
+
+pub schedule_answers-requires-clause-range : goal.schedule_answers-requires-clause-range
+schedule_answers-requires-clause-range c = λ k e below.
+    subst (λ (d : Description). IsEntryInRange d (get_or c.told_since-entries.result.now k e).entry) c.requires.machine (c.told_since-entries.ensures.range k e below)
+
+pub schedule_answers-requires-clause-ahead : goal.schedule_answers-requires-clause-ahead
+schedule_answers-requires-clause-ahead c =
+    subst (λ (now : ℕ). now ≤ c.args.at.time)
+    (sym (c.in_ok-mote.ensures.adds.grows.now ∙ c.in_ok-send_packets.ensures.now ∙ c.in_ok-schedule_timed.ensures.grows.now ∙ c.cancel.ensures.now ∙ c.in_ok-note_all.ensures.grows.now)) c.requires.ahead
+
+pub returns-in_err-schedule_answers : goal.returns-in_err-schedule_answers
+returns-in_err-schedule_answers c = IfOk-from_err _ _ c.from_residual-in_err-schedule_answers.ensures.0

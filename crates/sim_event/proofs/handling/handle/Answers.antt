@@ -1,15 +1,20 @@
-use Rattle.std.proofs.Common.{◌≡◌, ◌<◌, List, length, Some, refl, sym, ◌∙◌, ap, subst, get_or, rules}
-use Rattle.std.specs.Prelude.{ℤ, slice_get}
+use Rattle.std.proofs.Common.{◌≡◌, ◌<◌, ℕ, List, [], length, Some, refl, sym, ◌∙◌, ap, subst, get_or, rules}
+use Rattle.std.specs.Prelude.{ℤ, slice_get, All}
 use Rattle.std.specs.Int.{w16}
 use Rattle.std.proofs.lemmas.Int.{to_z-of_z}
+use Rattle.std.proofs.lemmas.List.Elements.{All-nil, All-same}
 use Rattle.std.proofs.lemmas.Option.{slice_get_read, slice_get-get_or}
 use Rattle.std.proofs.lemmas.Result.{on_ok_weaker}
 use Rattle.arrayvec.specs.ArrayVec.{ArrayVec}
+use Rattle.packet_codec.specs.Packet.{IsRightPacket}
+use Rattle.packet_codec.specs.declared.packet.Packet.{Packet}
 use Rattle.radio_sim.specs.declared.event.Event.{Event}
 use Rattle.world_script.specs.declared.world.Link.{Link}
 use Rattle.world_script.specs.declared.world.Planned.{Planned}
 use Rattle.world_rules.specs.Effect.{of_line}
 use Rattle.world_rules.specs.World.{Post}
+use Rattle.sim_state.specs.Motes.{plain_effect}
+use Rattle.sim_state.specs.declared.effect.Effect.{Effect}
 use Rattle.sim_event.specs.Handling.{IsFitEvent, DoesBy}
 use Rattle.sim_event.proofs.CauseLemmas.{HandlesEvent, handles-planned, handles-period, handles-fire, handles-expire, handles-pump, handles-due, handles-deliver}
 use Rattle.sim_event.proofs.LineLemmas.{does-post}
@@ -87,3 +92,31 @@ returns-in-Deliver-clause-handled c =
     let r = c.receive.new.effect in
     on_ok_weaker c.receive.result
     (λ does. subst (λ (e : Event). HandlesEvent d script ps e c.args.at old new r) (sym c.in-Deliver.is) (handles-deliver d script ps c.args.at old new r place number bytes x there does)) c.receive.ensures.does
+
+plain-right : (n : ℕ) (r : Effect) → r ≡ plain_effect → All (IsRightPacket n) r.sends.items
+plain-right n r plain = All-same (IsRightPacket n) r.sends.items [] (ap (λ (x : Effect). x.sends.items) plain) (All-nil (IsRightPacket n))
+
+pub returns-in-Planned-clause-right : goal.returns-in-Planned-clause-right
+returns-in-Planned-clause-right c =
+    let Is : Packet → Type 0 = IsRightPacket (length c.args.desc.now.handlers.items) in
+    on_ok_weaker c.follow.result (λ silent. All-same Is c.follow.new.effect.sends.items [] silent (All-nil Is)) c.follow.ensures.silent
+
+pub returns-in-Period-clause-right : goal.returns-in-Period-clause-right
+returns-in-Period-clause-right c = on_ok_weaker c.post.result (λ _. plain-right _ c.args.effect.now c.requires.plain) c.post.ensures
+
+pub returns-in-Fire-clause-right : goal.returns-in-Fire-clause-right
+returns-in-Fire-clause-right c = subst (λ (n : ℕ). All (IsRightPacket n) c.fire.new.effect.sends.items) c.requires.handlers c.fire.ensures.right
+
+pub returns-in-Expire-clause-right : goal.returns-in-Expire-clause-right
+returns-in-Expire-clause-right c =
+    let Is : Packet → Type 0 = IsRightPacket (length c.args.desc.now.handlers.items) in
+    All-same Is c.expire.new.effect.sends.items [] (ap (λ (r : Effect). r.sends.items) c.expire.ensures.effect) (All-nil Is)
+
+pub returns-in-Pump-clause-right : goal.returns-in-Pump-clause-right
+returns-in-Pump-clause-right c = subst (λ (n : ℕ). All (IsRightPacket n) c.pump.new.effect.sends.items) c.requires.handlers c.pump.ensures.right
+
+pub returns-in-Due-clause-right : goal.returns-in-Due-clause-right
+returns-in-Due-clause-right c = on_ok_weaker c.answer.result (λ _. plain-right _ c.args.effect.now c.requires.plain) c.answer.ensures
+
+pub returns-in-Deliver-clause-right : goal.returns-in-Deliver-clause-right
+returns-in-Deliver-clause-right c = c.receive.ensures.right

@@ -1,8 +1,11 @@
-use Rattle.std.proofs.Common.{◌≡◌, ℕ, length, sym, ◌∙◌, subst}
+use Rattle.std.proofs.Common.{◌≡◌, ℕ, [], length, refl, sym, ◌∙◌, subst}
 use Rattle.std.specs.Prelude.{All}
+use Rattle.std.proofs.lemmas.List.Elements.{All-nil, All-same}
 use Rattle.std.proofs.lemmas.Result.{on_ok_weaker}
 use Rattle.packet_codec.specs.Packet.{IsRightPacket}
+use Rattle.packet_codec.specs.declared.packet.Packet.{Packet}
 use Rattle.capsule_exchange.proofs.KnowledgeLemmas.{handler_count}
+use Rattle.sim_event.specs.Handling.{IsFragmentOf}
 use Rattle.sim_event.proofs.HearLemmas.{AsksNothing, heard-silent, still-plain, does-vector, does-status, does-message}
 use Rattle.sim_event.proofs.handling.hear.Goals as goal
 
@@ -30,3 +33,27 @@ returns-in-App-clause-does c =
     on_ok_weaker c.post_received.result
     (λ told. does-message c.args.desc.now c.args.at c.args.mote.now c.post_received.new.mote _ c.args.packet.now c.in-App.payload c.hear-in-App.new.self c.requires.machine c.in-App.is c.hear-in-App.ensures.learned
     told (still-plain c.args.effect.now c.hear-in-App.new.asks c.requires.plain silent)) c.post_received.ensures
+
+pub hear_fragment-requires-clause-packet : goal.hear_fragment-requires-clause-packet
+hear_fragment-requires-clause-packet c = subst (λ (n : ℕ). IsRightPacket n c.args.packet.now) (sym c.requires.handlers) c.requires.packet
+
+pub hear_fragment-requires-clause-fragment : goal.hear_fragment-requires-clause-fragment
+hear_fragment-requires-clause-fragment c = subst (IsFragmentOf c.in-Fragment.version) (sym c.in-Fragment.is) refl
+
+pub returns-in-Status-clause-right : goal.returns-in-Status-clause-right
+returns-in-Status-clause-right c =
+    let before = c.requires.is_open in
+    let count : before.handlers ≡ length c.args.desc.now.handlers.items = sym (handler_count c.args.mote.now.exchange before.handlers before.happened before.known) ∙ c.requires.handlers in
+    subst (λ (n : ℕ). All (IsRightPacket n) c.hear.new.asks.items) count (c.hear.ensures.right before.handlers before.happened before.known before.is_open)
+
+pub returns-in-Fragment-clause-right : goal.returns-in-Fragment-clause-right
+returns-in-Fragment-clause-right c =
+    let Is : Packet → Type 0 = IsRightPacket (length c.args.desc.now.handlers.items) in
+    on_ok_weaker c.hear_fragment.result (λ silent. All-same Is c.hear_fragment.new.effect.sends.items [] silent (All-nil Is)) c.hear_fragment.ensures.silent
+
+pub returns-in-App-clause-right : goal.returns-in-App-clause-right
+returns-in-App-clause-right c =
+    let before = c.requires.is_open in
+    let count : before.handlers ≡ length c.args.desc.now.handlers.items = sym (handler_count c.args.mote.now.exchange before.handlers before.happened before.known) ∙ c.requires.handlers in
+    on_ok_weaker c.post_received.result
+    (λ _. subst (λ (n : ℕ). All (IsRightPacket n) c.hear-in-App.new.asks.items) count (c.hear-in-App.ensures.right before.handlers before.happened before.known before.is_open)) c.post_received.ensures

@@ -1,8 +1,10 @@
-use Rattle.std.proofs.Common.{◌≡◌, ◌<◌, ℕ, Bool, ◌∷◌, length, Some, sym, ◌∙◌, ap, subst}
+use Rattle.std.proofs.Common.{◌≡◌, ◌<◌, ℕ, Bool, List, ◌∷◌, length, inl, inr, Some, sym, ◌∙◌, ap, subst}
 use Rattle.std.specs.Prelude.{None, if◌then◌else◌}
 use Rattle.std.proofs.lemmas.Result.{on_ok_weaker}
 use Rattle.capsule_exchange.specs.Happenings.{Hears, completed_by}
 use Rattle.capsule_exchange.specs.Knowledge.{Whatever}
+use Rattle.packet_codec.specs.declared.packet.Packet.{Packet}
+use Rattle.sim_state.specs.declared.effect.Effect.{Effect}
 use Rattle.sim_event.proofs.ImageLemmas.{completed-none, completed-handler}
 use Rattle.sim_event.proofs.HearLemmas.{fragment-silent, heard-silent, still-plain, does-image, does-fragment}
 use Rattle.sim_event.proofs.handling.hear_fragment.Goals as goal
@@ -51,3 +53,18 @@ returns-clause-does c =
     let learned = c.hear-heard.ensures.learned before.handlers before.happened before.known in
     absurd (completed-none c.args.packet.now before.happened c.in-Some.handler by_h
     (sym (ap (λ (b : Bool). if b then Some c.complete_into.new.image else None) (sym c.if-complete_into.false) ∙ c.complete_into.ensures.image before.handlers (Hears c.args.packet.now ∷ before.happened) learned)))
+
+pub returns-in_default-clause-silent : goal.returns-in_default-clause-silent
+returns-in_default-clause-silent c =
+    let before = c.requires.is_open in
+    heard-silent before.handlers c.args.packet.now before.happened c.hear-heard.new.asks (fragment-silent c.args.version c.args.packet.now c.requires.fragment) (c.hear-heard.ensures.asks before.handlers before.happened before.known)
+
+pub returns-clause-silent : goal.returns-clause-silent
+returns-clause-silent c =
+    let before = c.requires.is_open in
+    heard-silent before.handlers c.args.packet.now before.happened c.hear-heard.new.asks (fragment-silent c.args.version c.args.packet.now c.requires.fragment) (c.hear-heard.ensures.asks before.handlers before.happened before.known)
+
+pub returns-then-complete_into-clause-silent : goal.returns-then-complete_into-clause-silent
+returns-then-complete_into-clause-silent c =
+    let items : Effect → List Packet = λ r. r.sends.items in
+    on_ok_weaker c.install.result (λ done. elim done [ inl x ↦ ap items x.effect | inr x ↦ ap items x.effect ]) c.install.ensures
