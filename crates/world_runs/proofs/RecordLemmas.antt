@@ -1,8 +1,9 @@
 -- Lists of logs that are the same but for their room.
-use Rattle.std.proofs.Common.{◌≡◌, ℕ, zero, suc, ◌<◌, List, [], ◌∷◌, ◌++◌, length, set, get_or, map, drop, Option, Some, None, All, refl, sym, ◌∙◌, ap, subst, arith}
+use Rattle.std.proofs.Common.{◌≡◌, ℕ, zero, suc, ◌<◌, List, [], ◌∷◌, ◌++◌, length, set, get_or, map, drop, Option, Some, None, All, refl, sym, ◌∙◌, ap, subst, arith, append-nil, map-id, length-append, length-drop}
 use Rattle.std.specs.Prelude.{slice_get, unwrap_or}
 use Rattle.std.specs.List.{AllZip}
 use Rattle.std.proofs.Math.Seq.{drop-cons, set-append_seam}
+use Rattle.std.proofs.lemmas.List.{drop_all}
 use Rattle.std.proofs.lemmas.Option.{slice_get-get_or}
 use Rattle.std.proofs.lemmas.List.Elements.{length_all_zip}
 use Rattle.arrayvec.specs.ArrayVec.{ArrayVec}
@@ -117,6 +118,17 @@ behind (z ∷ xs) ys x = ap (λ (zs : List Log). z ∷ zs) (behind xs ys x)
 long-behind : (xs : List Log) (x : Log) → length (xs ++ x ∷ []) ≡ suc (length xs)
 long-behind [] x = refl
 long-behind (y ∷ xs) x = ap suc (long-behind xs x)
+
+pub put-low : (xs first now : List Log) (n : ℕ) → n ≡ length xs → n < length first → now ≡ xs ++ drop (length xs) first → n < length now
+put-low xs first now n is below was =
+    let long = ap length was ∙ length-append xs (drop (length xs) first) in
+    let rest = length-drop (length xs) first in omega (arith, is, below, long, rest)
+
+pub put-all : (xs first now all : List Log) → map (λ y. y) xs ≡ all → length first ≡ length all → now ≡ xs ++ drop (length xs) first → now ≡ all
+put-all xs first now all is long was =
+    let same : xs ≡ all = sym (map-id xs) ∙ is in
+    let count = ap length same in
+    was ∙ ap (λ (ys : List Log). xs ++ ys) (drop_all (length xs) first (omega (arith, long, count))) ∙ append-nil xs ∙ same
 
 pub put-next : (xs first now new : List Log) (n : ℕ) (l : Log) → n ≡ length xs → n < length first → now ≡ xs ++ drop (length xs) first → new ≡ set now n l → new ≡ (xs ++ l ∷ []) ++ drop (length (xs ++ l ∷ [])) first
 put-next xs first now new n l is below was put =

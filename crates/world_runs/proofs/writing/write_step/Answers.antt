@@ -1,4 +1,4 @@
-use Rattle.std.proofs.Common.{◌≡◌, ◌-◌, length, sym, subst, arith}
+use Rattle.std.proofs.Common.{◌≡◌, ◌≤◌, ◌-◌, ℕ, suc, length, sym, subst, arith}
 use Rattle.report_text.specs.declared.pass.Pass.{Pass}
 use Rattle.world_run_laws.specs.Coming.{code_world}
 use Rattle.sim_state.proofs.RangeLemmas.{left-ranges, few-before}
@@ -9,12 +9,17 @@ use Rattle.world_runs.proofs.RecordingLemmas.{recorded-before, recorded-still, l
 use Rattle.world_runs.proofs.WritingLemmas.{memory-ends, step-goes, step-fails}
 use Rattle.world_runs.proofs.writing.write_step.Goals as goal
 
+number-before : (event n : ℕ) → event ≡ suc n → event - 1 ≡ n
+number-before event n is = omega (arith, is)
+
+number-least : (event n : ℕ) → event ≡ suc n → 1 ≤ event
+number-least event n is = omega (arith, is)
+
 -- memory was refused within the event: the report is of what stood before
 pub returns-in_default-clause-writes : goal.returns-in_default-clause-writes
 returns-in_default-clause-writes g c =
     let b = c.requires.stands in
-    let stamp = b.stamp in
-    let number : c.args.at.event - 1 ≡ length b.moments = omega (arith, stamp) in
+    let number = number-before c.args.at.event (length b.moments) b.stamp in
     subst (λ (p : Pass). EndsSo c.args.desc.now (code_world c.args.desc.now c.args.world.now c.args.programs.now) c.args.sim.now (g.S.Sink.written c.args.out.now) (g.S.Sink.faults c.args.out.now) (g.S.Sink.written c.args.out.now) (g.S.Sink.faults c.args.out.now) p c.args.records.now)
     (sym c.stopped_at.ensures)
     (λ out0 f0 written. memory-ends c.args.desc.now c.args.world.now c.args.programs.now b.moments c.args.sim.now (c.args.at.event - 1) b.come b.air b.nodes b.motes number c.requires.kept c.requires.ranges (few-before c.args.at.event c.stamp_is_in_range.ensures.event) c.args.records.now c.requires.recorded _ _ out0 f0 written)
@@ -30,8 +35,7 @@ record_event-requires-clause-before g c =
 pub returns-in_default-record_event-clause-writes : goal.returns-in_default-record_event-clause-writes
 returns-in_default-record_event-clause-writes g c =
     let b = c.requires.stands in
-    let stamp = b.stamp in
-    let number : c.args.at.event - 1 ≡ length b.moments = omega (arith, stamp) in
+    let number = number-before c.args.at.event (length b.moments) b.stamp in
     subst (λ (p : Pass). EndsSo c.args.desc.now (code_world c.args.desc.now c.args.world.now c.args.programs.now) c.args.sim.now (g.S.Sink.written c.args.out.now) (g.S.Sink.faults c.args.out.now) (g.S.Sink.written c.args.out.now) (g.S.Sink.faults c.args.out.now) p c.record_event.new.records)
     (sym c.stopped_at-in_default-record_event.ensures)
     (λ out0 f0 written. memory-ends c.args.desc.now c.args.world.now c.args.programs.now b.moments c.args.sim.now (c.args.at.event - 1) b.come b.air b.nodes b.motes number c.requires.kept c.requires.ranges (few-before c.args.at.event c.stamp_is_in_range.ensures.event) c.record_event.new.records
@@ -85,3 +89,18 @@ pub returns-in-Err-clause-later : goal.returns-in-Err-clause-later
 returns-in-Err-clause-later g c =
     let a = c.in-Ok.ensures.adds in
     (c.in-Err.ensures a.adds.after (at-hand-now c.args.at.event c.in-Ok.node c.args.sim.now a.mid c.step.new.sim a.lets_go a.adds).found).later
+
+pub overflow_sub-at : goal.overflow_sub-at
+overflow_sub-at g c = number-least c.args.at.event _ c.requires.stands.stamp
+
+pub overflow_sub-at-in_default-record_event : goal.overflow_sub-at-in_default-record_event
+overflow_sub-at-in_default-record_event g c = number-least c.args.at.event _ c.requires.stands.stamp
+
+pub returns-clause-kept : goal.returns-clause-kept
+returns-clause-kept g c = c.record_event.ensures.kept
+
+pub returns-in-Err-clause-kept : goal.returns-in-Err-clause-kept
+returns-in-Err-clause-kept g c = c.record_event.ensures.kept
+
+pub returns-in_default-record_event-clause-kept : goal.returns-in_default-record_event-clause-kept
+returns-in_default-record_event-clause-kept g c = c.record_event.ensures.kept
