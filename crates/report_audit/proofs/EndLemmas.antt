@@ -1,6 +1,6 @@
 -- The ends of invocations, seat by seat.
-use Rattle.std.proofs.Common.{◌≡◌, ◌<◌, ℕ, suc, ◌+◌, Bool, true, false, List, ◌∷◌, length, map, take, drop, drop-cons, Option, None, Some, refl, sym, ◌∙◌, ap, subst, inl, inr, arith}
-use Rattle.std.specs.Prelude.{◌&&◌, ◌||◌, ◌==◌, not, slice_index_or, unwrap_or, IfSome, MatchOption, if◌then◌else◌}
+use Rattle.std.proofs.Common.{◌≡◌, ◌<◌, ◌≤◌, ℕ, suc, ◌+◌, Bool, true, false, List, [], ◌∷◌, length, map, take, drop, drop-cons, drop_of_length-le, Option, None, Some, refl, sym, ◌∙◌, ap, subst, inl, inr, arith}
+use Rattle.std.specs.Prelude.{◌&&◌, ◌||◌, ◌==◌, not, slice_index_or, unwrap_or, IfSome, IsTrue, MatchOption, if◌then◌else◌}
 use Rattle.std.specs.List.{list_all}
 use Rattle.std.proofs.lemmas.Bool.Decides.{Decides-eqb, eqb_tells}
 use Rattle.std.proofs.lemmas.List.{get_or-map, length-map}
@@ -8,16 +8,20 @@ use Rattle.arrayvec.specs.ArrayVec.{ArrayVec}
 use Rattle.mate_num.specs.declared.call.End.{End}
 use Rattle.mate_num.specs.declared.outcome.Outcome.{Outcome}
 use Rattle.mate_num.specs.declared.store.Store.{Store}
+use Rattle.mate_journal.specs.Journal.{is_started, Invocation}
 use Rattle.mate_journal.specs.Machine.{Machine}
 use Rattle.audit_rules.specs.Granting.{ConflictTest}
-use Rattle.audit_rules.specs.Rerun.{run_on, is_undisturbed, ends_right, store_left}
+use Rattle.audit_rules.specs.Rerun.{run_on, is_so_far, is_undisturbed, ends_right, store_left}
 use Rattle.audit_rules.specs.Same.{same_end, same_calls}
 use Rattle.audit_rules.specs.Roll as told
 use Rattle.audit_rules.specs.Shown.{HasLengthsOf}
-use Rattle.audit_rules.specs.Views.{seat_in, roll_in}
+use Rattle.audit_rules.specs.Views.{stands_at, phase_in, seat_in, roll_in}
+use Rattle.audit_rules.specs.declared.phase.Phase.{Phase}
+use Rattle.audit_rules.specs.declared.phase.Phase.TheVariants as phase
+use Rattle.audit_rules.specs.declared.phase.Stage.TheVariants as stage
 use Rattle.audit_rules.specs.declared.roll.Roll.{Roll}
 use Rattle.audit_rules.specs.declared.seat.Seat.{Seat}
-use Rattle.audit_programs.proofs.LoopLemmas.{all-more}
+use Rattle.audit_programs.proofs.LoopLemmas.{all-more, all-done}
 
 pub same_number : (a b : ℕ) → a ≡ b → (a == b) ≡ true
 same_number a b is = (Decides-eqb a b).1 is
@@ -133,3 +137,59 @@ module _ (m : Machine) (conflict : ConflictTest) (images : List (ArrayVec ℕ)) 
         left_is = ended.left_is ∙ ap (λ (later : Store). unwrap_or left later) (left-other m store n (drop i zs) (drop (i + 1) zs) z (seats-next (seat_in images) roll.seats.items i s within is) other);
         lengths = ended.lengths;
       }
+
+-- all have ended rightly, and the store is what is left, if something is
+pub ended-all : (m : Machine) (conflict : ConflictTest) (images : List (ArrayVec ℕ)) (roll : Roll) (store : Store) (n : ℕ) (how : End) (i : ℕ) (left : Option Store) (after : Store) → HasEnded m conflict images roll store n how i left → length roll.seats.items ≤ i
+    → HasLengthsOf m store → after ≡ unwrap_or left store
+    → (true ≡ list_all (ends_right m conflict (roll_in images roll) store n how) (map (seat_in images) roll.seats.items)) × (IsTrue true → (after ≡ store_left m store n (map (seat_in images) roll.seats.items)) × HasLengthsOf m after)
+ended-all m conflict images roll store n how i left after ended past lengths is =
+    let zs : List told.Seat = map (seat_in images) roll.seats.items in
+    let long = length-map roll.seats.items (seat_in images) in
+    let none : drop i zs ≡ [] = drop_of_length-le zs (omega (arith, long, past)) in (
+      sym (all-done (seat_in images) (ends_right m conflict (roll_in images roll) store n how) roll.seats.items i past ended.all),
+      λ right. (
+        is ∙ sym (ended.left_is ∙ ap (λ (ys : List told.Seat). unwrap_or left (store_left m store n ys)) none),
+        subst (HasLengthsOf m) (sym is) (kept-lengths m left store ended.lengths lengths),
+      ),
+    )
+
+-- ---- an invocation beside it
+
+pub queued-as : (p : Phase) → stands_at stage.Queued p ≡ not (is_started (phase_in p))
+queued-as phase.Queued = refl
+queued-as _ = refl
+
+-- one of four tests holds
+abbrev either : Bool → Bool → Bool → Bool → Bool
+either own queued apart right = own || (queued || (apart || right))
+
+past-own : (own queued apart right : Bool) → own ≡ false → either false queued apart right ≡ either own queued apart right
+past-own own queued apart right e = ap (λ (b : Bool). either b queued apart right) (sym e)
+
+past-queued : (own queued apart right : Bool) → own ≡ false → false ≡ queued → either false false apart right ≡ either own queued apart right
+past-queued own queued apart right e f = ap (λ (b : Bool). either false b apart right) f ∙ past-own own queued apart right e
+
+module _ (m : Machine) (conflict : ConflictTest) (before after : Store) (n : ℕ) (i : Invocation) (s : told.Seat) where
+  pub undisturbed-own : s.number ≡ n → true ≡ is_undisturbed m conflict before after n i s
+  undisturbed-own same =
+      ap (λ (b : Bool). either b (not (is_started s.invocation.phase)) (not (conflict i.program s.invocation.program)) (is_so_far m before s.invocation && is_so_far m after s.invocation))
+      (sym (same_number s.number n same))
+
+  pub undisturbed-queued : (s.number ≡ n → ⊥) → true ≡ not (is_started s.invocation.phase) → true ≡ is_undisturbed m conflict before after n i s
+  undisturbed-queued differ queued =
+      let right : Bool = is_so_far m before s.invocation && is_so_far m after s.invocation in
+      ap (λ (b : Bool). either false b (not (conflict i.program s.invocation.program)) right) queued
+      ∙ past-own (s.number == n) (not (is_started s.invocation.phase)) (not (conflict i.program s.invocation.program)) right (other_number s.number n differ)
+
+  pub undisturbed-apart : (s.number ≡ n → ⊥) → false ≡ not (is_started s.invocation.phase) → false ≡ conflict i.program s.invocation.program → true ≡ is_undisturbed m conflict before after n i s
+  undisturbed-apart differ started apart =
+      let right : Bool = is_so_far m before s.invocation && is_so_far m after s.invocation in
+      ap (λ (b : Bool). either false false (not b) right) apart
+      ∙ past-queued (s.number == n) (not (is_started s.invocation.phase)) (not (conflict i.program s.invocation.program)) right (other_number s.number n differ) started
+
+  pub undisturbed-runs : (s.number ≡ n → ⊥) → false ≡ not (is_started s.invocation.phase) → true ≡ conflict i.program s.invocation.program
+      → (is_so_far m before s.invocation && is_so_far m after s.invocation) ≡ is_undisturbed m conflict before after n i s
+  undisturbed-runs differ started together =
+      let right : Bool = is_so_far m before s.invocation && is_so_far m after s.invocation in
+      ap (λ (b : Bool). either false false (not b) right) together
+      ∙ past-queued (s.number == n) (not (is_started s.invocation.phase)) (not (conflict i.program s.invocation.program)) right (other_number s.number n differ) started

@@ -2,7 +2,7 @@
 use Rattle.std.proofs.Common.{◌≡◌, ◌<◌, ◌≤◌, ◌⊎◌, ℕ, zero, suc, ◌+◌, Bool, true, false, List, [], ◌∷◌, ◌++◌, length, map, take, refl, sym, ◌∙◌, ap, inl, inr, arith}
 use Rattle.std.specs.Prelude.{◌&&◌, slice_index_or}
 use Rattle.std.proofs.lemmas.Bool.{cases_lt}
-use Rattle.std.proofs.lemmas.List.{take_more, get_or-map, length-map, map-append}
+use Rattle.std.proofs.lemmas.List.{take_more, take_all, get_or-map, length-map, map-append}
 use Rattle.audit_rules.specs.Shown.{all_below}
 
 pub below-more : (test : ℕ → Bool) (v : ℕ) → test v ≡ true → all_below test v ≡ true → all_below test (v + 1) ≡ true
@@ -41,3 +41,16 @@ map-at {A} {B} {C} f g xs ys i x y same within is_x is_y =
     ∙ ap (λ (zs : List C). slice_index_or zs i y) same
     ∙ get_or-map g (map f xs) i (f x) y (omega (arith, long, within))
     ∙ ap g (get_or-map f xs i x (f x) within ∙ ap f (sym is_x))
+
+-- all elements of a list that is mapped
+pub map-done : {A B C : Type 0} (f : A → B) (g : B → C) (xs : List A) (i : ℕ) (ys : List C) → length xs ≤ i → ys ≡ map g (take i (map f xs)) → ys ≡ map g (map f xs)
+map-done {A} {B} {C} f g xs i ys past so_far =
+    let long = length-map xs f in
+    so_far ∙ ap (map g) (take_all i (map f xs) (omega (arith, long, past)))
+
+pub map-below : {A B C : Type 0} (f : A → B) (g : B → C) (xs : List A) (ys : List C) (i : ℕ) → ys ≡ map g (map f xs) → i < length xs → i < length ys
+map-below {A} {B} {C} f g xs ys i same within =
+    let long = length-map xs f in
+    let longer = length-map (map f xs) g in
+    let as_long = ap (λ (zs : List C). length zs) same in
+    omega (arith, long, longer, as_long, within)

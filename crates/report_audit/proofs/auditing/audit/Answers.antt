@@ -2,7 +2,7 @@ use Rattle.std.proofs.Common.{Option, sym, subst, arith}
 use Rattle.std.specs.Prelude.{IsSomeAnd}
 use Rattle.mate_journal.specs.Log.{Log}
 use Rattle.mate_journal.specs.Tidy.{IsTidyLog}
-use Rattle.audit_programs.proofs.LoopLemmas.{shown, of-all}
+use Rattle.audit_programs.proofs.LoopLemmas.{shown, past-shown, of-all}
 use Rattle.audit_rules.specs.Tests.{failed_by}
 use Rattle.audit_rules.specs.Verdicts.{LogFails}
 use Rattle.audit_rules.proofs.TestLemmas.{failed-told}
@@ -50,3 +50,21 @@ loop-node-preserved c =
           (found-none d ps l (failed_by d ps l) c.in_ok-failed.failed c.in_ok-failed.ensures.law c.in_default.is (failed-told d ps l c.requires.right tidy));
       kept = c.in_ok-failed.ensures.kept;
     }
+
+pub first_failed-requires-clause-right : goal.first_failed-requires-clause-right
+first_failed-requires-clause-right c = c.requires.right
+
+pub first_failed-requires-clause-kept : goal.first_failed-requires-clause-kept
+first_failed-requires-clause-kept c = c.loop-node.invariant.kept
+
+pub overflow_cast-result : goal.overflow_cast-result
+overflow_cast-result c =
+    let r = shown c.args.report.now.nodes c.nodes-nodes.result.now c.loop-node.node c.index-nodes-node.result c.nodes-nodes.ensures c.loop-node-test.true c.index-nodes-node.is in
+    let low = r.0 in
+    let high = c.requires.tidy.nodes_high in
+    omega (arith, low, high)
+
+pub returns : goal.returns
+returns c =
+    let past = past-shown c.args.report.now.nodes c.nodes-nodes.result.now c.loop-node.node c.nodes-nodes.ensures c.loop-node-test.false in
+    λ k below. c.loop-node.invariant.nodes k (omega (arith, below, past))

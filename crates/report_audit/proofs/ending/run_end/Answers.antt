@@ -1,11 +1,12 @@
-use Rattle.std.proofs.Common.{◌≡◌, ℕ, false, Option, Some, refl, sym, ◌∙◌, ◌+◌, subst}
+use Rattle.std.proofs.Common.{◌≡◌, ℕ, false, Option, Some, refl, sym, ◌∙◌, ◌+◌, ap, subst}
+use Rattle.std.specs.Prelude.{unwrap_or}
 use Rattle.mate_num.specs.declared.store.Store.{Store}
 use Rattle.audit_rules.specs.Rerun.{ends_right, run_on}
 use Rattle.audit_rules.specs.Tests.{conflict_of}
 use Rattle.audit_rules.specs.Views.{seat_in, roll_in}
-use Rattle.audit_programs.specs.Trials.{machine_for}
-use Rattle.audit_programs.proofs.LoopLemmas.{shown, all-fails}
-use Rattle.report_audit.proofs.EndLemmas.{HasEnded, ended-here, ended-other}
+use Rattle.audit_programs.specs.Trials.{machine_for, IsSeatReady}
+use Rattle.audit_programs.proofs.LoopLemmas.{shown, past-shown, of-all, all-fails}
+use Rattle.report_audit.proofs.EndLemmas.{HasEnded, ended-here, ended-other, ended-all}
 use Rattle.report_audit.proofs.ending.run_end.Goals as goal
 use Rattle.report_audit.proofs.ending.run_end.Goals.{then-seat-number+in_ok-right+else-not-right, else-seat-number}
 
@@ -48,3 +49,39 @@ loop-seat-preserved c =
           (ended-other m conflict images roll store c.args.number c.args.how.now i c.loop-seat.left before c.seat-item.result r.0 r.1 w.if-seat-number.false)
     ] in
     record { all = now.all; left = now.left_is; lengths = now.lengths }
+
+pub loop-seat-init : goal.loop-seat-init
+loop-seat-init c = record { all = refl; left = refl; lengths = tt }
+
+pub ends_right-requires-clause-ended : goal.ends_right-requires-clause-ended
+ends_right-requires-clause-ended c =
+    let seats = c.args.roll.now.roll.seats.items in
+    let i = c.loop-seat.seat-index in
+    let r = shown seats c.as_slice-seat-items.result.now i c.seat-item.result c.as_slice-seat-items.ensures.value c.loop-seat-test.true c.seat-item.is in
+    of-all (IsSeatReady c.args.trial.now c.args.roll.now) seats i c.seat-item.result c.requires.ready r.0 r.1
+
+pub returns-in-Some : goal.returns-in-Some
+returns-in-Some c =
+    let t = c.args.trial.now in
+    let m = machine_for t in
+    let conflict = conflict_of t.desc.now in
+    let roll = c.args.roll.now.roll in
+    let store = c.args.store.now in
+    let i = c.loop-seat.seat-index in
+    let ended : HasEnded m conflict t.log.now.images roll store c.args.number c.args.how.now i c.loop-seat.left = record { all = c.loop-seat.invariant.all; left_is = c.loop-seat.invariant.left; lengths = c.loop-seat.invariant.lengths } in
+    ended-all m conflict t.log.now.images roll store c.args.number c.args.how.now i c.loop-seat.left c.in-Some.after ended
+    (past-shown roll.seats.items c.as_slice-seat-items.result.now i c.as_slice-seat-items.ensures.value c.loop-seat-test.false) c.requires.lengths
+    (ap (λ (o : Option Store). unwrap_or o store) (sym c.in-Some.is))
+
+pub returns-in_default : goal.returns-in_default
+returns-in_default c =
+    let t = c.args.trial.now in
+    let m = machine_for t in
+    let conflict = conflict_of t.desc.now in
+    let roll = c.args.roll.now.roll in
+    let store = c.args.store.now in
+    let i = c.loop-seat.seat-index in
+    let ended : HasEnded m conflict t.log.now.images roll store c.args.number c.args.how.now i c.loop-seat.left = record { all = c.loop-seat.invariant.all; left_is = c.loop-seat.invariant.left; lengths = c.loop-seat.invariant.lengths } in
+    ended-all m conflict t.log.now.images roll store c.args.number c.args.how.now i c.loop-seat.left store ended
+    (past-shown roll.seats.items c.as_slice-seat-items.result.now i c.as_slice-seat-items.ensures.value c.loop-seat-test.false) c.requires.lengths
+    (ap (λ (o : Option Store). unwrap_or o store) (sym c.in_default.is))
