@@ -1,3 +1,4 @@
+use Rattle.std.proofs.Common.{◌≡◌, ℕ, ◌+◌, suc, List, ◌∷◌, length, ◌∙◌, ap, length-append, arith}
 use Rattle.report_reader.specs.LightLine.{bulky_line}
 use Rattle.report_reading.proofs.TextLemmas.{at_first, at_next, reads_end, reads_bad, reads_failed, reads_last}
 use Rattle.report_reading.proofs.text.read_lines.Goals as goal
@@ -32,3 +33,38 @@ loop-line-preserved c =
 
 pub returns : goal.returns
 returns c = reads_end c.args.desc.now c.args.bytes.now c.loop-line.left.now c.loop-line.parts c.bad_line.result c.bad_line.ensures c.loop-line.invariant c.in_default.ensures
+
+pub read_last-requires : goal.read_last-requires
+read_last-requires c =
+    let at = c.loop-line.invariant in
+    let count = at.read.count in
+    let few = at.few in
+    omega (arith, count, few)
+
+pub take-requires-clause-node : goal.take-requires-clause-node
+take-requires-clause-node c = c.in-Some-light_line_of.ensures.right.node
+
+pub take-requires-clause-few : goal.take-requires-clause-few
+take-requires-clause-few c =
+    let at = c.loop-line.invariant in
+    let cut = c.in-Some.ensures in
+    let long : length c.loop-line.left.now ≡ length c.in-Some.line.now + suc (length c.in-Some.behind.now) = ap (λ (xs : List ℕ). length xs) cut.1 ∙ length-append c.in-Some.line.now (10 ∷ c.in-Some.behind.now) in
+    let count = at.read.count in
+    let few = at.few in
+    omega (arith, long, count, few)
+
+pub take-requires-clause-read : goal.take-requires-clause-read
+take-requires-clause-read c = (c.args.desc.now, c.loop-line.invariant.ls, c.loop-line.invariant.read)
+
+pub loop-line-smaller : goal.loop-line-smaller
+loop-line-smaller c =
+    let cut = c.in-Some.ensures in
+    let long : length c.loop-line.left.now ≡ length c.in-Some.line.now + suc (length c.in-Some.behind.now) = ap (λ (xs : List ℕ). length xs) cut.1 ∙ length-append c.in-Some.line.now (10 ∷ c.in-Some.behind.now) in
+    omega (arith, long)
+
+pub bad_line-requires : goal.bad_line-requires
+bad_line-requires c =
+    let at = c.loop-line.invariant in
+    let count = at.read.count in
+    let few = at.few in
+    omega (arith, count, few)
