@@ -113,21 +113,21 @@ fn statement<'a, S: Sink>(
             simple(bodies, place, stmt, printer, out);
             None
         }
-        Stmt::If(test, block, None) => {
+        Stmt::If(test, block, other) => {
             if_head(bodies, place, test, printer, out);
-            Some(Rest {
-                place,
-                stmts: block.as_slice(),
-                close: Close::EndIf,
-            })
-        }
-        Stmt::If(test, block, Some(other)) => {
-            if_head(bodies, place, test, printer, out);
-            Some(Rest {
-                place,
-                stmts: block.as_slice(),
-                close: Close::Else(other.as_slice()),
-            })
+            let stmts = block.as_slice();
+            match other {
+                None => Some(Rest {
+                    place,
+                    stmts,
+                    close: Close::EndIf,
+                }),
+                Some(other) => Some(Rest {
+                    place,
+                    stmts,
+                    close: Close::Else(other.as_slice()),
+                }),
+            }
         }
         Stmt::For(head, block, word) => {
             for_head(bodies, place, head, printer, out);
