@@ -1,29 +1,25 @@
 -- The programs of a made world.
-use Rattle.std.proofs.Common.{◌≡◌, ℕ, zero, suc, ◌+◌, ◌*◌, ◌<◌, ◌≤◌, Bool, true, false, List, [], ◌∷◌, ◌++◌, length, map, replicate, Option, Some, None, Result, Ok, Err, refl, sym, ◌∙◌, ap, subst, arith, codes, inl, inr, length-append, append_assoc}
+use Rattle.std.proofs.Common.{◌≡◌, ℕ, zero, suc, ◌+◌, ◌*◌, ◌<◌, ◌≤◌, Bool, true, false, List, [], ◌∷◌, ◌++◌, length, map, replicate, Option, Some, None, Result, Ok, Err, refl, sym, ◌∙◌, ap, subst, arith, codes, inl, inr, length-append}
 use Rattle.std.specs.Prelude.{slice_get, slice_index_or, All, IsSomeAnd, ⊤}
 use Rattle.std.specs.List.{range_with_len, list_all}
 use Rattle.std.proofs.lemmas.Bool.{cases_lt, and_parts}
-use Rattle.std.proofs.lemmas.List.{length-replicate, length_push}
+use Rattle.std.proofs.lemmas.List.{length-replicate, length_push, get_or_default}
 use Rattle.std.proofs.lemmas.List.Elements.{All-nil, All-cons, All-append, All-weaker}
 use Rattle.world_maker.specs.Source.{source_of, source_with, source_head, assignment, first_sensor}
 use Rattle.world_maker.proofs.NameLemmas.{name_is_one, sensor_name}
 use Rattle.vm_desc.specs.Names.{is_name}
-use Rattle.vm_desc.proofs.DescriptionLemmas.{items_of}
+use Rattle.vm_desc.proofs.DescriptionLemmas.{items_of, bounds_of}
 use Rattle.mate_num.specs.declared.bounds.TheConstants.{CODE_MAX, STACK_MAX}
-use Rattle.mate_num.specs.declared.id.HandlerId.{HandlerId}
 use Rattle.mate_journal.specs.declared.program.Program.{Program}
-use Rattle.mate_refusals.specs.SourceCauses.{IsBadSource}
 use Rattle.mate_refusals.proofs.CauseLemmas.{refusal_told, refused-by}
 use Rattle.mate_refusals.specs.declared.refusal.Refusal.{Refusal}
-use Rattle.mate_refusals.specs.declared.refusal.Refusal.TheVariants.{NoMemory}
 use Rattle.ts_compiler.specs.Compiled.{IsUncompiled}
 use Rattle.mate_steps.specs.SourceCode.{compiled_tree, IsCompiledOf}
 use Rattle.mate_steps.specs.Sources.{compiled, compiled_bytes}
-use Rattle.mate_steps.specs.Steps.{Then, goes_on, stops, obtained}
+use Rattle.mate_steps.specs.Steps.{goes_on, stops, obtained}
 use Rattle.mate_steps.specs.declared.code.CompiledScript.{CompiledScript}
 use Rattle.mate_steps.proofs.AcceptanceLemmas.{one_tree, apart}
 use Rattle.node_programs.specs.Right.{IsRightProgram, AreRightPrograms}
-use Rattle.script_programs.specs.Programs.{IsInstalled}
 use Rattle.world_maker.specs.Sound.{IsSoundSource}
 use Rattle.ts_checker.specs.Accepted.{IsAccepted}
 use Rattle.ts_compiler.specs.declared.fault.CompileFault.{CompileFault}
@@ -127,6 +123,44 @@ name-front x ys (suc n) (suc h) low = name-front x ys n h (omega (arith, low))
 name-behind : (x : List ℕ) (ys : List (List ℕ)) (n h : ℕ) → slice_index_or (replicate n x ++ ys) (n + h) [] ≡ slice_index_or ys h []
 name-behind x ys zero h = let e : 0 + h ≡ h = omega arith in ap (λ (k : ℕ). slice_index_or ys k []) e
 name-behind x ys (suc n) h = let e : suc n + h ≡ suc (n + h) = omega arith in ap (λ (k : ℕ). slice_index_or (x ∷ replicate n x ++ ys) k []) e ∙ name-behind x ys n h
+
+-- ---- both sources of a made world, each once for each handler
+
+pub record HasSources (d : Description) (sources : List (List ℕ)) : Type 0 where
+  pub low : 0 < length sources
+  pub high : length d.handlers.items < length sources
+  pub first : (x : List ℕ) → x ≡ slice_index_or sources 0 x → x ≡ source_of d 1
+  pub second : (x : List ℕ) → x ≡ slice_index_or sources (length d.handlers.items) x → x ≡ source_of d 2
+
+pub sources_are : (d : Description) (sources : List (List ℕ)) → sources ≡ maker.made_sources d → HasSources d sources
+sources_are d sources are =
+    let n : ℕ = length d.handlers.items in
+    let both : List (List ℕ) = maker.made_sources d in
+    let some : 1 ≤ n = (bounds_of d).handlers_low in
+    let a = length-append (replicate n (source_of d 1)) (replicate n (source_of d 2)) in
+    let b = length-replicate n (source_of d 1) in
+    let c = length-replicate n (source_of d 2) in
+    let low : 0 < length both = omega (arith, some, a, b, c) in
+    let high : n < length both = omega (arith, some, a, b, c) in
+    let here : n + 0 ≡ n = omega arith in
+    subst (HasSources d) (sym are) (record {
+      low = low;
+      high = high;
+      first = λ x is. is ∙ get_or_default both 0 x [] low ∙ name-front (source_of d 1) (replicate n (source_of d 2)) n 0 some;
+      second = λ x is. is ∙ get_or_default both n x [] high ∙ ap (λ (k : ℕ). slice_index_or both k []) (sym here)
+          ∙ name-behind (source_of d 1) (replicate n (source_of d 2)) n 0 ∙ name-of (source_of d 2) n 0 some;
+    })
+
+-- programs of the first one and then of the second one
+pub versions_are : (d : Description) (fold : Bool) (old one two : List Program) (s t : List ℕ) → old ≡ [] → s ≡ source_of d 1 → t ≡ source_of d 2
+    → AreOfVersion d fold 1 s (length d.handlers.items) old one → AreOfVersion d fold 2 t (length d.handlers.items) one two → AreOfVersions d fold two
+versions_are d fold old one two s t none first second a b = record {
+  first = a.more;
+  second = b.more;
+  is = b.is ∙ ap (λ (ps : List Program). ps ++ b.more) (a.is ∙ ap (λ (ps : List Program). ps ++ a.more) none);
+  are_first = subst (λ (bs : List ℕ). AreOf d fold 1 bs (length d.handlers.items) a.more) first a.are;
+  are_second = subst (λ (bs : List ℕ). AreOf d fold 2 bs (length d.handlers.items) b.more) second b.are;
+}
 
 -- ---- lines
 
