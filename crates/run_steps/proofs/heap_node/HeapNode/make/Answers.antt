@@ -1,5 +1,11 @@
-use Rattle.std.proofs.Common.{◌≡◌, subst}
-use Rattle.open_node.specs.View.{HasPlaces}
+use Rattle.std.proofs.Common.{◌≡◌, ◌≤◌, length, subst, sym}
+use Rattle.mate_num.specs.declared.bounds.TheConstants.{CONTEXTS_MAX}
+use Rattle.vm_desc.specs.Whole.{context_count}
+use Rattle.script_reader.specs.Steps.{IsRightStep}
+use Rattle.open_node.specs.View.{NodeView, HasPlaces, Tells}
+use Rattle.node_programs.specs.Right.{AreRightPrograms}
+use Rattle.node_programs.specs.ScriptSteps.{step_of}
+use Rattle.run_steps.specs.Running.{IsReadyFor, MakesOn}
 use Rattle.open_node.proofs.CallLemmas.{places-told}
 use Rattle.run_steps.proofs.KeptLemmas.{ranges-told-as, goes-on-as}
 use Rattle.run_steps.proofs.heap_node.HeapNode.make.Goals as goal
@@ -28,3 +34,28 @@ pub make_step-requires-clause-places : goal.make_step-requires-clause-places
 make_step-requires-clause-places c =
     let e : c.self.inside.node.value ≡ c.deref_mut.result.now = cc in
     subst HasPlaces e c.self.invariant.places
+
+pub make_step-requires-clause-ready : goal.make_step-requires-clause-ready
+make_step-requires-clause-ready c =
+    let old : c.args.self.now ≡ c.deref_mut.result.now = cc in
+    subst (λ (v : NodeView). IsReadyFor v c.args.at) old c.requires.ready
+
+pub make_step-requires-clause-right : goal.make_step-requires-clause-right
+make_step-requires-clause-right c =
+    let old : c.args.self.now ≡ c.deref_mut.result.now = cc in
+    subst (λ (v : NodeView). IsRightStep v.description (length c.args.programs.now) c.args.step.now) old c.requires.right
+
+pub make_step-requires-clause-programs : goal.make_step-requires-clause-programs
+make_step-requires-clause-programs c =
+    let old : c.args.self.now ≡ c.deref_mut.result.now = cc in
+    subst (λ (v : NodeView). AreRightPrograms v.description c.args.programs.now) old c.requires.programs
+
+pub make_step-requires-clause-contexts : goal.make_step-requires-clause-contexts
+make_step-requires-clause-contexts c =
+    let old : c.args.self.now ≡ c.deref_mut.result.now = cc in
+    subst (λ (v : NodeView). context_count v.description ≤ CONTEXTS_MAX) old c.requires.contexts
+
+pub returns-clause-tells : goal.returns-clause-tells
+returns-clause-tells c =
+    let old : c.args.self.now ≡ c.deref_mut.result.now = cc in
+    subst (λ (v : NodeView). Tells v c.make_step.new.node c.args.at (MakesOn v (step_of c.args.programs.now c.args.step.now))) (sym old) c.make_step.ensures
