@@ -20,7 +20,9 @@ pub fn words(rt: &(impl Env + AllocGlobal)) -> Result<Vec<String>, Refusal>
     };
     let mut words = Vec::new(rt.alloc());
     for word in args.skip(1) {
-        words.push(word).map_err(|_| Refusal::NoMemory)?;
+        let Ok(()) = words.push(word) else {
+            return Err(Refusal::NoMemory);
+        };
     }
     Ok(words)
 }
