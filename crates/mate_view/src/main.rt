@@ -1,8 +1,8 @@
 //! The program `mate-view`: pictures and tables of the reports that `mate` writes.
 #![tactic(auto)]
 
+use command_refusals::{Refusal, Status, words};
 use mate_files::{OsFiles, OsSink, Sink};
-use mate_refusals::{Refusal, Status, words};
 use std::io::{BufWriter, Read, Write};
 use std::process::ExitCode;
 use std::rt::Files;

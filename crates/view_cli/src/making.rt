@@ -2,15 +2,15 @@
 
 use crate::request::{Request, Rows, View};
 use crate::stop::Stop;
+use command_programs::world_of;
+use command_steps::machine_of;
 use mate_files::{Files, Sink};
-use mate_steps::machine_of;
-use script_programs::world_of;
 use std::alloc::Global;
 use std::io::Read;
 use view_pictures::{Window, draw_spread, draw_timeline};
 use view_records::{Ink, Source};
 use view_tables::{Form, write_calls, write_events, write_spread, write_stats};
-use vm_desc::Description;
+use vm_shape::Description;
 
 /// Makes a view of the report that `reader` gives. Files are read first, then the report. Rows are written as they
 /// are read; everything else once the report is read whole, so that nothing is written for a report with a bad line.

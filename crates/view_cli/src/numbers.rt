@@ -1,7 +1,7 @@
 //! Numbers and lists of nodes in words.
 
 use mate_num::NODES_MAX;
-use report_reader::numbers::{below, unsigned};
+use report_line_reader::numbers::{below, unsigned};
 
 /// The number in a word, below 2^64, with no sign and no 0 before it; `none` if there is no word.
 pub fn number_or(word: Option<&str>, none: u64) -> Option<u64> {

@@ -5,7 +5,7 @@ use crate::request::{Request, Rows, View};
 use clap::error::ErrorKind;
 use clap::parser::ValueSource;
 use clap::{Arg, ArgAction, ArgMatches, Command, Error};
-use mate_refusals::Refusal;
+use command_refusals::Refusal;
 use std::alloc::{AllocError, Global};
 use view_pictures::{Window, all_nodes};
 use view_tables::Form;

@@ -1,7 +1,7 @@
 //! Why a view isn't made, as the program says it.
 
+use command_refusals::{Refusal, Status};
 use mate_files::{Pen, Sink};
-use mate_refusals::{Refusal, Status};
 use view_records::ViewFault;
 
 /// Why a view isn't made.

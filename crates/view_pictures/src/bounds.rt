@@ -2,10 +2,10 @@
 //! from where it was injected.
 
 use mate_num::NODES_MAX;
+use script_steps::{Link, What, World};
 use std::alloc::Global;
 use view_records::ViewFault;
-use vm_desc::Description;
-use world_script::{Link, What, World};
+use vm_shape::Description;
 
 /// The time by which a node has to hold a version.
 #[derive(Clone, Copy)]

@@ -7,7 +7,7 @@ use mate_files::Sink;
 use mate_num::HandlerId;
 use view_records::Ink;
 use view_records::words::handler_name;
-use vm_desc::Description;
+use vm_shape::Description;
 
 /// How high the legend of a timeline is, in pixels.
 pub const LEGEND: u64 = 66;

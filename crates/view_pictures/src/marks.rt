@@ -3,7 +3,7 @@
 use crate::window::Window;
 use mate_journal::{Air, DropCause, Entry};
 use mate_num::{HandlerId, Stamp};
-use report_reader::{Line, Told};
+use report_line_reader::{Line, Told};
 use std::alloc::Global;
 use view_records::{Flight, Flights, Nodes, Stretch, ViewFault};
 

@@ -12,13 +12,13 @@ use crate::titles::write_when;
 use crate::window::Window;
 use mate_files::Sink;
 use mate_num::{HandlerId, NODES_MAX, Stamp};
-use report_reading::last_line::LastLine;
+use report_text::last_line::LastLine;
+use script_steps::World;
 use std::alloc::Global;
 use std::io::Read;
 use view_records::words::handler_name;
 use view_records::{Ink, Source, ViewFault};
-use vm_desc::Description;
-use world_script::World;
+use vm_shape::Description;
 
 /// How much room is above the first handler, in pixels.
 const HEAD: u64 = 60;

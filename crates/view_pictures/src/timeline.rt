@@ -13,12 +13,12 @@ use crate::titles::write_title;
 use crate::window::Window;
 use mate_files::Sink;
 use mate_num::{CONTEXTS_MAX, ContextId, HandlerId};
-use report_reading::last_line::LastLine;
+use report_text::last_line::LastLine;
 use std::alloc::Global;
 use std::io::Read;
 use view_records::words::handler_name;
 use view_records::{Ink, Phase, Source, Stretch, StretchEnd, ViewFault};
-use vm_desc::Description;
+use vm_shape::Description;
 
 /// Draws the timeline of a report, once it is read whole. If it has too many marks, those up to a time are drawn, and
 /// the picture says so.

@@ -3,10 +3,10 @@
 use crate::marks::{Mark, What};
 use mate_files::Sink;
 use mate_num::{HandlerId, Stamp};
-use report_text::words::{drop_word, fault_word};
+use report_writer::words::{drop_word, fault_word};
 use view_records::words::{function_name, handler_name};
 use view_records::{Ink, Phase, Stretch, StretchEnd};
-use vm_desc::Description;
+use vm_shape::Description;
 
 /// Writes the title of a mark.
 pub fn write_title<S: Sink>(desc: &Description, mark: &Mark, ink: &mut Ink<S>) {

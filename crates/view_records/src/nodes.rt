@@ -4,7 +4,7 @@ use crate::fault::ViewFault;
 use crate::stretch::{Live, Phase, Stretch, StretchEnd};
 use mate_journal::Entry;
 use mate_num::{CONTEXTS_MAX, HANDLERS_MAX, NODES_MAX, Stamp};
-use report_reader::{Line, Told};
+use report_line_reader::{Line, Told};
 use std::alloc::Global;
 
 /// The live invocations, by node and context, and the versions that nodes hold.

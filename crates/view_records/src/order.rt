@@ -3,9 +3,9 @@
 use crate::fault::ViewFault;
 use mate_journal::Air;
 use mate_num::NODES_MAX;
-use report_reader::{Bulk, LightLine, LightTold};
-use report_reading::last_line::LastLine;
-use report_reading::place::{Place, admits_next, place_after};
+use report_line_reader::{Bulk, LightLine, LightTold};
+use report_text::last_line::LastLine;
+use report_text::place::{Place, admits_next, place_after};
 
 /// How far the lines of a report have come.
 #[derive(Drop)]

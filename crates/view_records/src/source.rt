@@ -3,13 +3,13 @@
 use crate::fault::ViewFault;
 use crate::lines::{Lines, Next};
 use crate::order::Order;
-use report_reader::{Bulk, Line, light_line_of, with_bulk};
-use report_reading::last_line::{LastLine, last_line_of};
+use report_line_reader::{Bulk, Line, light_line_of, with_bulk};
+use report_text::last_line::{LastLine, last_line_of};
 use std::alloc::Global;
 use std::io::Read;
-use vm_desc::Description;
+use vm_shape::Description;
 
-/// A report of any length that is read line by line, by the rules of `report_reading`.
+/// A report of any length that is read line by line, by the rules of `report_text`.
 #[derive(Drop)]
 pub struct Source<R> {
     lines: Lines<R>,

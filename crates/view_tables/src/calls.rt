@@ -7,7 +7,7 @@ use std::alloc::Global;
 use std::io::Read;
 use view_records::words::{function_name, handler_name};
 use view_records::{Ink, Nodes, Phase, Source, Stretch, StretchEnd, ViewFault};
-use vm_desc::Description;
+use vm_shape::Description;
 
 const COLUMNS: &str =
     "node,invocation,handler,context,function,asked_event,asked_time,ended_event,ended_time,wait,end,value";

@@ -3,12 +3,12 @@
 use crate::row::{Form, Row, write_head};
 use mate_files::Sink;
 use mate_num::{HandlerId, Stamp};
-use report_reader::Told;
+use report_line_reader::Told;
 use std::alloc::Global;
 use std::io::Read;
 use view_records::words::handler_name;
 use view_records::{Ink, Nodes, Source, ViewFault};
-use vm_desc::Description;
+use vm_shape::Description;
 
 const COLUMNS: &str = "event,time,node,handler,version,newest,holders,nodes";
 

@@ -4,12 +4,12 @@ use crate::row::{Form, Row};
 use crate::sums::{FUNCTION_COLUMNS, Grid, HANDLER_COLUMNS, NODE_COLUMNS, Sums};
 use mate_files::Sink;
 use mate_num::{FunId, HandlerId};
-use report_reading::last_line::LastLine;
+use report_text::last_line::LastLine;
 use std::alloc::Global;
 use std::io::Read;
 use view_records::words::{function_name, handler_name};
 use view_records::{Ink, Nodes, Source, ViewFault};
-use vm_desc::Description;
+use vm_shape::Description;
 
 /// How wide the first column is, in characters.
 const FIRST: usize = 16;

@@ -2,7 +2,7 @@
 
 use mate_journal::{Air, Entry};
 use mate_num::{HANDLERS_MAX, NODES_MAX};
-use report_reader::{Line, Told};
+use report_line_reader::{Line, Told};
 use std::alloc::Global;
 use view_records::{Phase, Stretch, StretchEnd, ViewFault};
 
