@@ -6,6 +6,6 @@ pub mod open_node;
 pub mod shared_machine;
 pub mod standing;
 
-pub use node_open::{OpenNode, SETTLING_ENTRIES, TURN_ENTRIES};
+pub use open_node::{OpenNode, SETTLING_ENTRIES, TURN_ENTRIES};
 pub use shared_machine::SharedMachine;
 pub use standing::{Asked, NotReady, Standing};
