@@ -1,51 +1,39 @@
-# Read by ./mate, ./mate-view, ./explain and scripts/build: `build_program TOP [CRATE]` builds a program of the checkout TOP, that of the crate
-# `mate` where none is named, if that is needed, and puts its path into $program.
+# Read where scripts/look.sh doesn't know the program any more: `seek_program` finds or builds the program $name of the checkout $top, and puts its path into $program.
 #
-# A program is named by a sum over all that it is made from: the texts of the crates that it stands on, HANDLES and the
-# kit. So one that exists under its name is never old, whatever the times of files say, and all checkouts of a user share it.
+# A program is named by a sum over all texts that it is made from. dist/ holds the programs of the last landing, with the sums of their texts: where the checkout's
+# texts have that sum, the program there is taken, after a look at its own sum. Else the program is built by proof, and kept in the user's cache by the sum of its
+# texts and of the kit. So a program is never old, whatever the times of files say, and all checkouts of a user share what was built.
 # The cache holds
-#   programs/SUM/      a program, and the names of the libraries that it was made from
+#   programs/KEY/      a program, and the names of the libraries that it was made from
 #   libraries/NAME-SUM/  a proved crate (scripts/prove-crates)
-#   checkouts/PATH/    what the last look at a checkout saw: while it sees the same, nothing is read
+#   checkouts/PATH,NAME/    what the last look at a checkout saw (scripts/look.sh)
 #   work/, lock        a copy of the crates that are proved now, which may be edited meanwhile; who proves holds the lock
 #   kit                the line of the kit that was used last
-# Where something of this can't be done, the status is 125, which is none of the program's.
 set -u
-name=mate
-failed=125
+platform=x86_64-linux
+uid=$(id -u)
 
-say() {
-    echo "$name: $*" >&2
+# Puts the crate of the program $name into $crate.
+find_crate() {
+    while read -r word crate; do
+        [ "$word" != "$name" ] || return 0
+    done <"$top/scripts/programs"
+    say "scripts/programs has no program of this name"
+    return 125
 }
 
-# Puts the user's cache into $cache. Without a home there is no place for it: a folder that others can write isn't taken.
-find_cache() {
-    cache=${MATE_CACHE-}
-    case $cache in
-    /*) return ;;
-    ?*) cache=$PWD/$cache; return ;;
-    esac
-    cache=${XDG_CACHE_HOME-}
-    case $cache in
-    # (a relative one is to be ignored, by its own definition)
-    /*) ;;
-    *) cache=${HOME-}
-        [ -n "$cache" ] || cache=$(getent passwd "$(id -u)" | cut -d: -f6)
-        case $cache in
-        /*) cache=$cache/.cache ;;
-        *) say "HOME isn't set, so there is no folder for programs: set it, or MATE_CACHE"; return $failed ;;
-        esac ;;
-    esac
-    cache=$cache/mate-build
+# The names of the programs, a line each.
+program_names() {
+    sed -n 's/^\([a-z][a-z-]*\) .*/\1/p' "$top/scripts/programs"
 }
 
-# The crates that the program stands on, itself first, by crates.txt.
+# The crates that the program of the crate $crate (or of several) stands on, itself first, by crates.txt.
 needed_crates() {
-    awk -F: -v program="$name" '
+    awk -F: -v program="$crate" '
         { sub(/#.*/, "") }
         NF > 1 { split($1, head, " "); below[head[1]] = $2 }
         END {
-            queue[last = 1] = program
+            last = split(program, queue, " ")
             for (i = 1; i <= last; i++) {
                 crate = queue[i]
                 if (!(crate in below) || crate in seen || crate !~ /^[a-z][a-z0-9_]*$/) continue
@@ -57,93 +45,256 @@ needed_crates() {
         }' "$1/crates.txt"
 }
 
-# The folders of a checkout's crates/ that a program is made from, ended by NUL: sources, definitions and proofs, and data.
+# TOP CRATE ..: the folders of crates/ that these crates are made from, ended by NUL: sources, definitions and proofs, and data.
 parts_of() {
-    needed_crates "$1" | while read -r crate; do
+    from=$1
+    shift
+    for crate_of_part; do
         for part in src specs proofs data; do
-            [ ! -d "$1/crates/$crate/$part" ] || printf '%s\0' "$crate/$part"
+            [ ! -d "$from/crates/$crate_of_part/$part" ] || printf '%s\0' "$crate_of_part/$part"
         done
     done
 }
 
-# Finds the kit: its command in $rt, the file of its line in $kit_file, and the line in $kit. Without a kit, $kit stays that of
-# the last look, or is that of the kit that was used last for any checkout.
+# TOP CRATE ..: the lines of crates.txt of these crates, each behind those below it, as they are there.
+lines_of() {
+    lines_from=$1
+    shift
+    awk -v crates="$*" 'BEGIN { count = split(crates, it, " "); for (i = 1; i <= count; i++) needed[it[i]] }
+        /:/ { split($1, head, ":") } /:/ && head[1] in needed' "$lines_from/crates.txt"
+}
+
+# TOP: what the program's sum is of: HANDLES, the crates' lines of crates.txt, and a line for each text with its sum.
+texts_of() {
+    from=$1
+    # shellcheck disable=SC2046
+    set -- $(needed_crates "$1")
+    (
+        cd "$from/crates" && cat ../HANDLES 2>/dev/null
+        lines_of "$from" "$@"
+        parts_of "$from" "$@" | xargs -0 -r sh -c 'find "$@" -type f \( -name "*.rt" -o -name "*.antt" -o -path "*/data/*" \) -print0' sh |
+            LC_ALL=C sort -z | xargs -0 -r sha256sum
+    )
+}
+
+# TOP: the sum of these texts.
+sum_of() {
+    texts_of "$1" | sha256sum | cut -c1-32
+}
+
+# The crate of each program and the sum of its texts, a line each.
+program_sums() {
+    for name in $(program_names); do
+        find_crate && echo "$crate $(sum_of "$top")" || return
+    done
+}
+
+# SUMS: notes beside each program that the gate built which texts it was built from, if these are still the checkout's; scripts/dist wants to know.
+note_proved() {
+    [ "$1" = "$(program_sums)" ] || return 0
+    printf '%s\n' "$1" | while read -r of sum; do
+        printf '%s\n' "$sum" "$kit" >"$top/crates/$of/out/proved" || return
+    done
+}
+
+# TOP: a line for each crate of the program with a sum of its own texts, to tell which one differs.
+crate_sums() {
+    texts_of "$1" | awk '
+        / \*?[a-z][a-z0-9_]*\// { path = $0; sub(/^[^ ]* [ *]/, "", path); sub(/\/.*/, "", path); print path, $0; next }
+        { split($0, head, /[ :]/); print (/^[a-z][a-z0-9_]*[ :]/ ? head[1] : "HANDLES"), $0 }' | LC_ALL=C sort | {
+        at='' lines=''
+        while read -r word line; do
+            if [ "$word" != "$at" ]; then
+                [ -z "$at" ] || printf '%s %s\n' "$at" "$(printf %s "$lines" | sha256sum | cut -c1-32)"
+                at=$word lines=''
+            fi
+            lines="$lines$line
+"
+        done
+        printf '%s %s\n' "$at" "$(printf %s "$lines" | sha256sum | cut -c1-32)"
+    }
+}
+
+# Refuses what the kit refuses, too: links among the texts, which a sum and a look wouldn't see through, and what is neither a file nor a folder.
+refuse_links() {
+    # shellcheck disable=SC2046
+    odd=$(set -- $(needed_crates "$top")
+        cd "$top" && {
+            find crates crates.txt HANDLES $(printf 'crates/%s ' "$@") -maxdepth 0 ! -type d ! -type f -print -quit
+            cd crates && parts_of "$top" "$@" | xargs -0 -r sh -c 'find "$@" ! -type d ! -type f -printf "crates/%p\n" -quit' sh
+        } 2>/dev/null | head -n 1 | tr '\000-\011\013-\037\177' '?')
+    [ -z "$odd" ] || { say "$odd is a link, or no plain file or folder: put the file or folder itself there"; return 125; }
+}
+
+# Finds the kit: its command in $rt, the folder of what this is in $rt_folder, the file of its line in $kit_file, and the line in $kit. Without a kit, $kit is the
+# line of the one that was used last for any checkout.
 find_kit() {
-    kit_file=
+    kit_file='' kit='' rt_folder=''
     if rt=$(command -v rt); then
-        kit_file=$(dirname -- "$(dirname -- "$(readlink -f -- "$rt")")")/KIT-ID
-        if [ -r "$kit_file" ]; then read -r kit <"$kit_file"; else kit_file='' kit=$(rt version | head -n 1); fi
+        rt_folder=$(readlink -f -- "$rt")
+        rt_folder=${rt_folder%/*}
+        kit_file=${rt_folder%/*}/KIT-ID
+        if [ -r "$kit_file" ]; then IFS= read -r kit <"$kit_file"; else kit_file='' kit=$(rt version | head -n 1); fi
     else
         rt=
-        [ -n "$kit" ] || { [ -r "$cache/kit" ] && read -r kit <"$cache/kit"; }
+        [ ! -f "$cache/kit" ] || IFS= read -r kit <"$cache/kit"
     fi
 }
 
-# A sum of the texts below a folder that has crates.txt and crates/, and of the kit's line.
-sum_of() {
-    {
-        echo "$kit"
-        cat "$1/HANDLES" 2>/dev/null
-        needed_crates "$1" | while read -r crate; do
-            grep "^$crate *[: ]" "$1/crates.txt"
-        done
-        (cd "$1/crates" && parts_of "$1" |
-            xargs -0 -r sh -c 'find "$@" -type f \( -name "*.rt" -o -name "*.antt" -o -path "*/data/*" \) -print0' sh |
-            LC_ALL=C sort -z | xargs -0 -r sha256sum)
-    } | sha256sum | cut -c1-32
-}
-
-# All files and folders whose change may change that sum, as paths from crates/ or whole ones, ended by NUL.
+# HALF: all files and folders of every second crate whose change may change the sum, as paths from crates/ or whole ones, ended by NUL.
 places_of() {
-    printf '%s\0' ../HANDLES ../crates.txt ${rt:+"$rt"} ${kit_file:+"$kit_file"}
-    needed_crates "$1" | tr '\n' '\0'
-    (cd "$1/crates" && parts_of "$1" | xargs -0 -r sh -c 'find "$@" -print0' sh)
+    # shellcheck disable=SC2046
+    set -- "$1" $(needed_crates "$top" | awk -v half="$1" 'NR % 2 == half % 2')
+    [ "$1" = 2 ] || printf '%s\0' ../HANDLES ../crates.txt ../scripts/programs
+    shift
+    [ $# -eq 0 ] || printf '%s\0' "$@"
+    (cd "$top/crates" && parts_of "$top" "$@" | xargs -0 -r sh -c 'find "$@" -print0' sh)
 }
 
-# What the file system tells of the places on standard input: while this stays, so does the sum.
-states_of() {
-    (cd "$1/crates" && find -files0-from - -maxdepth 0 -printf '%i %C@\n') 2>/dev/null
-}
-
-# The first lines of a look, which it begins with: the sum, the kit's command and its line.
-head_of_look() {
-    printf '%s\n%s\n%s\n' "$sum" "$rt" "$kit"
-}
-
-# Whether all is as the last look saw it; then $program is the program.
-is_as_seen() {
-    kit=
-    [ -r "$seen/look" ] && [ -r "$seen/places" ] || return 1
-    { read -r sum && read -r rt && read -r kit; } <"$seen/look" || return 1
-    program=$cache/programs/$sum/$name
-    [ -x "$program" ] || return 1
-    # another kit is seen, and one that is gone is not missed
-    found=$(command -v rt) && [ "$found" != "$rt" ] && return 1
-    { head_of_look; states_of "$top" <"$seen/places"; } | cmp -s - "$seen/look"
-}
-
-# Notes that these states had this sum, for the next call; where that can't be written, the next call reads all texts again.
-note_look() {
-    [ -n "$states" ] && (
+# Begins a look, before any text is read: notes the states of all places in a new folder of $seen, which is put into $look. Where that can't be, nothing is noted,
+# and the next call reads all texts again.
+begin_look() {
+    look=
+    [ -n "$cache" ] && have_cache 2>/dev/null || return 0
+    look=$( (umask 022; mkdir -p "$seen" && is_own "$cache" "$cache/." "$cache/checkouts" "$seen" && mktemp -d "$seen/XXXXXX") 2>/dev/null) || { look=; return 0; }
+    (
         umask 022
-        mkdir -p "$seen" && printf %s "$top" >"$seen/top.$$" && mv "$seen/top.$$" "$seen/top" && places_of "$top" >"$seen/places.$$" &&
-            { head_of_look; states_of "$top" <"$seen/places.$$"; } >"$seen/look.$$" &&
-            [ "$(sed 1,3d "$seen/look.$$")" = "$states" ] && mv "$seen/places.$$" "$seen/places" && mv "$seen/look.$$" "$seen/look"
-    ) 2>/dev/null || rm -f "$seen/top.$$" "$seen/places.$$" "$seen/look.$$" 2>/dev/null
+        chmod 755 "$look"
+        for half in 1 2; do
+            places_of $half >"$look/places.$half" && states_of "$look/places.$half" >"$look/states.$half" || exit
+        done
+        # A text that is changed once it was read must get another time than it has now. So the clock of the file system, whose ticks are 10 ms at most, has to be
+        # past all times that are there; one that has whole seconds alone needs two of them.
+        awk -v now="$(date +%s.%N)" '
+            $3 > newest { newest = $3 }
+            $3 !~ /[.]0*$/ { is_fine = 1 }
+            END { age = now - newest; exit age > (is_fine ? 0.05 : 2.1) ? 0 : is_fine && age > -0.05 ? 1 : 2 }' "$look/states.1" "$look/states.2"
+        case $? in
+        0) ;;
+        1) sleep 0.1 ;;
+        *) exit 1 ;;
+        esac
+    ) 2>/dev/null || drop_look
 }
 
-# Copies all that the program is made from to $2.
-copy_texts() {
-    rm -rf "$2/crates" && mkdir -p "$2/crates" && cp -p "$1/HANDLES" "$2/" && echo "$kit" >"$2/kit" || return 1
-    : >"$2/crates.txt"
-    for crate in $(needed_crates "$1"); do
-        mkdir "$2/crates/$crate" || return 1
-        for part in src specs proofs data; do
-            [ ! -d "$1/crates/$crate/$part" ] || cp -Rp "$1/crates/$crate/$part" "$2/crates/$crate/" || return 1
+drop_look() {
+    [ -z "$look" ] || rm -rf "$look"
+    look=
+}
+
+# Ends it: if all places are as they were, later calls take $program while they stay so.
+note_look() {
+    [ -n "$look" ] || return 0
+    (
+        umask 022
+        for half in 1 2; do
+            states_of "$look/places.$half" | cmp -s - "$look/states.$half" || exit
         done
-        grep "^$crate *[: ]" "$1/crates.txt" >>"$2/crates.txt"
+        printf '%s\0' "$program" ${rt:+"$rt"} ${kit_file:+"$kit_file"} >"$look/more"
+        states_of "$look/more" >"$look/state" && [ "${state:-$(head -n 1 "$look/state")}" = "$(head -n 1 "$look/state")" ] &&
+            cat "$look/more" >>"$look/places.2" && cat "$look/state" >>"$look/states.2" && rm "$look/more" "$look/state" &&
+            printf '%s\n' "$top" >"$seen/top" && printf '%s\n' "${look##*/}" "$sum" "$program" "$rt" "$kit" >"$look.new" && mv "$look.new" "$seen/look" || exit
+        for old in "$seen"/??????; do
+            [ "$old" = "$look" ] || rm -rf "$old"
+        done
+    ) 2>/dev/null || drop_look
+}
+
+# Makes the folder of the cache. It is refused if it, or a folder or link on the way to it, is another user's or can be written by others: what stands there could be
+# anyone's.
+have_cache() {
+    [ -n "$cache" ] || { say "HOME isn't set, so there is no folder for programs: set it, or MATE_CACHE"; return 125; }
+    near=$cache
+    while [ -n "$near" ] && [ ! -e "$near" ] && [ ! -h "$near" ]; do near=${near%/*}; done
+    if [ "$near" = "$cache" ]; then set -- "$cache/."; else set --; fi
+    is_own "${near:-/}" "$@" || {
+        say "the folder $cache, or one on the way to it, is another user's, or others can write to it: set MATE_CACHE to a folder of your own, or take their right to write away"
+        return 125
+    }
+    (umask 022; mkdir -p "$cache") 2>/dev/null && [ -w "$cache" ] || { say "the folder $cache can't be written"; return 125; }
+}
+
+# Whether dist/ has a program of this name: then the sum of its texts is in $recorded, its own in $own, and the line of the kit that proved it in $line.
+seek_recorded() {
+    dist=dist/$platform recorded='' own='' line=''
+    [ -f "$top/$dist/programs" ] || return 1
+    while read -r word recorded own line; do
+        [ "$word" != "$name" ] || return 0
+    done <"$top/$dist/programs"
+    return 1
+}
+
+# Puts the program of dist/ into $program, if the checkout's texts are those that it was built from. Else $because says what differs.
+seek_dist() {
+    because=
+    seek_recorded && [ "$(uname -sm)" = 'Linux x86_64' ] || return 1
+    [ "$recorded" = "$sum" ] || { because=texts; return 1; }
+    program=$top/$dist/$name
+    # (its state before it is read, which the look compares)
+    state=
+    [ -z "$look" ] || state=$(printf '%s\0' "$program" >"$look/more" && states_of "$look/more")
+    if [ -h "$program" ] || [ "$(sha256sum 2>/dev/null <"$program" | cut -d' ' -f1)" != "$own" ]; then
+        say "$dist/$name is damaged: its SHA-256 isn't the one that $dist/programs records (\`git checkout -- $dist\` brings it back)"
+        return 1
+    fi
+    rt='' kit_file='' kit=$line
+    # (where nothing may be executed in a checkout, a copy is)
+    [ -x "$program" ] || {
+        [ -n "$cache" ] && find_key && [ ! -h "$cache/programs" ] && [ ! -h "$made" ] && keep_program "$program" "$name" &&
+            is_own "$cache" "$cache/." "$cache/programs" "$made" "$made/$name" && program=$made/$name state=
+    }
+}
+
+# Puts the folder of the cache for a program of these texts by this kit into $made.
+find_key() {
+    made=$cache/programs/$(printf '%s\n' "$kit" "$sum" | sha256sum | cut -c1-32)
+}
+
+# FILE NAME: copies a file into $made.
+keep_program() {
+    (umask 022; mkdir -p "$made" && cp "$1" "$made/$2.new" && chmod 755 "$made/$2.new" && mv "$made/$2.new" "$made/$2") ||
+        { say "the program can't be copied to $made"; return 125; }
+}
+
+# Puts the program of the cache into $program, if it has been built of the checkout's texts.
+seek_built() {
+    [ -n "$cache" ] || return 1
+    find_kit
+    find_key
+    [ -x "$made/$name" ] || return 1
+    is_own "$cache" "$cache/." "$cache/programs" "$made" "$made/$name" || return
+    program=$made/$name state=
+}
+
+# What differs from the texts of dist/, in $because: a phrase, or nothing where there is no such program.
+find_cause() {
+    [ "$because" = texts ] || return 0
+    differing=$(crate_sums "$top" | grep -vxF -f "$top/$dist/crates" | cut -d' ' -f1)
+    first=$(printf '%s\n' "$differing" | head -n 1)
+    others=$(($(printf '%s\n' "$differing" | wc -l) - 1))
+    case $first in
+    HANDLES) because=HANDLES ;;
+    *) because="the text of crates/$first" ;;
+    esac
+    [ $others -eq 0 ] || because="$because (and of $others more)"
+    because="$because isn't the one that $dist/$name was built from"
+}
+
+# FROM TO: copies all that the program is made from.
+copy_texts() {
+    # (what is read-only in a checkout is so in a copy)
+    [ ! -d "$2" ] || chmod -R u+w "$2"
+    from=$1 to=$2
+    # shellcheck disable=SC2046
+    set -- $(needed_crates "$1")
+    rm -rf "$to/crates" "$to/HANDLES" && mkdir -p "$to/crates" && cp "$from/HANDLES" "$to/" && echo "$kit" >"$to/kit" && lines_of "$from" "$@" >"$to/crates.txt" || return 1
+    for copied; do
+        mkdir "$to/crates/$copied" || return 1
+        for part in src specs proofs data; do
+            [ ! -d "$from/crates/$copied/$part" ] || cp -R "$from/crates/$copied/$part" "$to/crates/$copied/" || return 1
+        done
     done
-    chmod -R u+w "$2/crates"
+    chmod -R u+w "$to"
 }
 
 # $MATE_JOBS, or one job a processor, and one for each 2.5 GB of free memory.
@@ -153,28 +304,37 @@ jobs() {
         END { print (asked + 0 > 0 ? int(asked) : jobs < 1 ? 1 : jobs < most ? jobs : most) }' /proc/meminfo
 }
 
-# Takes the lock of the cache.
+# FILE TO: copies a program without its table of symbols, by the kit's own LLVM, so that the bytes are the same wherever this is done.
+strip_program() {
+    tool=$(mktemp -d) || return
+    ln -s "${rt_folder%/*}/toolchain/bin/clang" "$tool/llvm-strip" && "$tool/llvm-strip" --strip-all --keep-section=.comment -o "$2" "$1"
+    set -- $?
+    rm -rf "$tool"
+    return "$1"
+}
+
+# Takes the lock of the cache, once nothing in it is a link or another's.
 lock_cache() {
-    command -v flock >/dev/null || { say "the command flock isn't on the PATH"; return $failed; }
-    (umask 022; mkdir -p "$cache" && : >>"$cache/lock") 2>/dev/null || { say "the folder $cache can't be written"; return $failed; }
+    command -v flock >/dev/null || { say "the command flock isn't on the PATH"; return 125; }
+        odd=$(find "$cache" \( -type l -o ! -uid "$uid" -o -perm /022 \) -print -quit 2>/dev/null)
+    [ -z "$odd" ] || { say "$odd is a link, or another user's, or others can write to it: remove it"; return 125; }
+    # (in a shell of its own, since one that can't be opened ends a shell)
+    (: >>"$cache/lock") 2>/dev/null || { say "the folder $cache can't be written"; return 125; }
     exec 9>>"$cache/lock"
-    flock 9 || { say "the lock $cache/lock can't be had"; return $failed; }
+    flock 9 || { say "the lock $cache/lock can't be had"; return 125; }
 }
 
 # Removes what is so many days old, but what a checkout that still exists has used last; $cache/lock is held.
 clean_cache() {
     used="
 "
-    for look in "$cache"/checkouts/*/look; do
-        { top_of=$(cat "${look%/look}/top") && read -r sum_seen <"$look"; } 2>/dev/null || continue
-        if [ -x "$top_of/mate" ]; then
-            used="$used$sum_seen
-$(cat "$cache/programs/$sum_seen/libraries" 2>/dev/null)
+    for noted in "$cache"/checkouts/*; do
+        { IFS= read -r _ && read -r _ && IFS= read -r used_program; } <"$noted/look" && [ -x "$used_program" ] && read -r top_of <"$noted/top" && [ -x "$top_of/mate" ] || { rm -rf "$noted"; continue; }
+        used_program=${used_program%/*}
+        used="$used${used_program##*/}
+$(cat "$used_program/libraries")
 "
-        else
-            rm -rf "${look%/look}"
-        fi
-    done
+    done 2>/dev/null
     for kept in "$cache"/programs/* "$cache"/libraries/*; do
         case $used in *"
 ${kept##*/}
@@ -184,34 +344,45 @@ ${kept##*/}
     return 0
 }
 
+# WORD ..: runs scripts/prove-crates, in a process group of its own, so that a stopped script stops all that it started.
+prove() {
+    setsid python3 "$top/scripts/prove-crates" "$@" &
+    prover=$!
+    trap 'env kill -TERM -- "-$prover" 2>/dev/null; exit 130' INT TERM HUP QUIT
+    wait "$prover"
+    set -- $?
+    trap - INT TERM HUP QUIT
+    [ "$1" -eq 0 ] || { say "the build failed"; return 125; }
+}
+
+# Sees that all is there which a proof needs.
+can_prove() {
+    [ -n "$rt" ] || { say "${1-}the command rt of the Rattle kit isn't on the PATH${2-}"; return 125; }
+    for needed in python3 setsid; do
+        command -v "$needed" >/dev/null || { say "the command $needed isn't on the PATH"; return 125; }
+    done
+}
+
 # Builds the program whose texts are those of the checkout by now; $cache/lock is held.
 build() {
     work=$cache/work
     umask 022
-    copy_texts "$top" "$work" || { say "the crates can't be copied to $work"; return $failed; }
+    copy_texts "$top" "$work" || { say "the crates can't be copied to $work"; return 125; }
     # the copy is what is built, whatever becomes of the checkout meanwhile
     sum=$(sum_of "$work")
-    [ ! -x "$cache/programs/$sum/$name" ] || return 0
-    # in a process group of its own, so that a stopped script stops all that it started
-    setsid python3 "$top/scripts/prove-crates" "$work" "$name" "$(jobs)" "$cache/libraries" &
-    prover=$!
-    trap 'env kill -TERM -- "-$prover" 2>/dev/null; exit 130' INT TERM HUP QUIT
-    wait "$prover"
-    status=$?
-    trap - INT TERM HUP QUIT
-    [ "$status" -eq 0 ] || { say "the build failed"; return $failed; }
-    made=$cache/programs/$sum
-    { mkdir -p "$made" && cp "$work/built/$name" "$made/$name.new" && cp "$work/built/libraries" "$made/" && mv "$made/$name.new" "$made/$name" &&
-        echo "$kit" >"$cache/kit"; } || { say "the program can't be copied to $made"; return $failed; }
+    find_key
+    program=$made/$name
+    [ ! -x "$program" ] || return 0
+    prove --because "$because" "$work" "$(jobs)" "$cache/libraries" "$crate" || return
+    mkdir -p "$made" && strip_program "$work/built/$crate" "$work/built/$crate.stripped" || { say "the program can't be stripped of its symbols"; return 125; }
+    keep_program "$work/built/libraries" libraries && keep_program "$work/built/$crate.stripped" "$name" && echo "$kit" >"$cache/kit" || return 125
     clean_cache 30
 }
 
 # Sees that all is there which a build needs, and builds.
 build_locked() {
-    [ -n "$rt" ] || { say "the command rt of the Rattle kit isn't on the PATH, and the program isn't built"; return $failed; }
-    for needed in python3 setsid; do
-        command -v "$needed" >/dev/null || { say "the command $needed isn't on the PATH"; return $failed; }
-    done
+    have_cache && find_cause && can_prove "${because:-the program must be built}, and " "${because:+; $dist/$name runs the program as it was}" || return
+    because=${because:+"$because; $dist/$name runs the program as it was"}
     lock_cache || return
     mask=$(umask)
     build
@@ -221,23 +392,13 @@ build_locked() {
     return $built
 }
 
-build_program() {
-    top=$1 name=${2:-mate}
-    find_cache || return
-    # (a path is a file's name with other signs between its folders, or too long for one)
-    seen=$top
-    # shellcheck disable=SC2086 (it is split at its slashes)
-    if [ ${#seen} -gt 200 ]; then seen=$(printf %s "$seen" | cksum); else seen=$(IFS=/; set -f; set -- $seen; IFS=%; printf '%s\n' "$*"); fi
-    [ "$name" = mate ] || seen=$seen,$name
-    seen=$cache/checkouts/$seen
-    is_as_seen && return
-    find_kit
-    states=$(places_of "$top" | states_of "$top")
+seek_program() {
+    find_crate && refuse_links || return
+    begin_look
     sum=$(sum_of "$top")
     asked=$sum
-    [ -x "$cache/programs/$sum/$name" ] || build_locked || return
-    program=$cache/programs/$sum/$name
+    seek_dist || seek_built || build_locked || { drop_look; return 125; }
     # (what changed meanwhile is seen by the next call)
-    [ "$sum" != "$asked" ] || note_look
+    if [ "$sum" = "$asked" ]; then note_look; else drop_look; fi
     return 0
 }

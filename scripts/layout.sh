@@ -1,46 +1,63 @@
-# Read by scripts/install and scripts/package: `lay_out TOP PROGRAM VERSION PREFIX VIEW` puts all that a user needs below PREFIX, and
-# `take_away PREFIX` removes it. VIEW is the program `mate-view`, or empty where it isn't there.
-#   bin/mate, bin/mate-explain            the program, and the one that explains
-#   bin/mate-view                         the program that makes pictures and tables of reports
-#   bin/mate-sweep                        the one that runs a world many times (`scripts/sweep`)
-#   share/mate/                           documents, examples and editors, with links, so that what they show runs there
-#   share/man, share/bash-completion      the manual page, and completion for bash
+# Read by scripts/install and scripts/package, behind scripts/look.sh and scripts/build.sh: what a user needs, as a tree of files and links.
+#   bin/NAME                    the programs of scripts/programs; mate-explain (./explain) and mate-sweep (scripts/sweep)
+#   share/mate/                 documents, examples and editors (the files of scripts/installed), with links, so that what they show runs there
+#   share/man, share/bash-completion, share/zsh, share/fish    manual pages, and completion
 set -u
 
-# TOP FOLDER ..: the files of these folders that belong to the checkout, ended by NUL.
-files_of() {
-    (cd "$1" && shift && { git ls-files -z -- "$@" 2>/dev/null | grep -z . || find "$@" -path '*/out' -prune -o -type f ! -name '.*' -print0; } | LC_ALL=C sort -z)
+# Puts the paths of all programs, each that of a variable of its name as $MATE_VIEW or else the one that scripts/build gives, into $paths, a line each; and what they
+# were built from into $texts.
+find_programs() {
+    paths=
+    for name in $(program_names); do
+        eval "program=\${$(printf %s "$name" | tr a-z- A-Z_)-}"
+        [ -n "$program" ] || { find_program; } || return
+        paths="$paths$program
+"
+    done
+    name=mate
+    find_crate && sum=$(sum_of "$top") || return
+    if seek_recorded && [ "$recorded" = "$sum" ]; then kit=$line; else find_kit; fi
+    texts="texts $(printf %.12s "$sum"), $kit"
 }
 
+# TO: makes the tree in a new folder.
 lay_out() {
     (
         umask 022
-        share=$4/share/mate completions=$4/share/bash-completion/completions
-        mkdir -p "$4/bin" "$4/share/man/man1" "$completions" && rm -rf "$share" && mkdir -p "$share" || exit
-        files_of "$1" docs examples editors scripts/explain scripts/sweep explain README.md |
-            (cd "$1" && xargs -0 -r cp -P --parents --no-preserve=all -t "$share") || exit
-        rm -rf "$share/editors/tests"
-        chmod 755 "$share/explain" "$share/scripts/sweep" && echo "$3" >"$share/VERSION" || exit
-        # (a program that runs is replaced, and not written over)
-        cp --no-preserve=all "$2" "$4/bin/mate.new" && chmod 755 "$4/bin/mate.new" && mv "$4/bin/mate.new" "$4/bin/mate" || exit
-        ln -sf ../share/mate/explain "$4/bin/mate-explain" && ln -sf ../../bin/mate "$share/mate" || exit
-        ln -sf ../share/mate/scripts/sweep "$4/bin/mate-sweep" || exit
-        mv "$share/docs/mate.1" "$4/share/man/man1/mate.1" && ln -s ../../man/man1/mate.1 "$share/docs/mate.1" || exit
-        mv "$share/editors/bash/mate.bash" "$completions/mate" && ln -s ../../../bash-completion/completions/mate "$share/editors/bash/mate.bash" || exit
-        ln -sf mate "$completions/mate-explain" && mv "$share/docs/mate-view.1" "$4/share/man/man1/mate-view.1" &&
-            ln -s ../../man/man1/mate-view.1 "$share/docs/mate-view.1" || exit
-        [ -z "$5" ] || {
-            cp --no-preserve=all "$5" "$4/bin/mate-view.new" && chmod 755 "$4/bin/mate-view.new" && mv "$4/bin/mate-view.new" "$4/bin/mate-view" &&
-                ln -sf ../../bin/mate-view "$share/mate-view" && ln -sf mate "$completions/mate-view"
-        }
-    )
+        share=$1/share/mate
+        mkdir -p "$1/bin" "$share" "$1/share/man/man1" "$1/share/bash-completion/completions" "$1/share/zsh/site-functions" "$1/share/fish/vendor_completions.d" || exit
+        (cd "$top" && xargs cp --parents --no-preserve=all -t "$share") <"$top/scripts/installed" || exit
+        chmod 755 "$share/explain" "$share/scripts/sweep" && printf '%s\n%s\n' "$version" "$texts" >"$share/scripts/version" || exit
+        for name in $(program_names); do
+            program=${paths%%
+*} paths=${paths#*
 }
-
-take_away() {
-    [ -f "$1/share/mate/VERSION" ] || { echo "there is no mate below $1" >&2; return 1; }
-    rm -rf "$1/share/mate" && rm -f "$1/bin/mate" "$1/bin/mate-explain" "$1/bin/mate-view" "$1/bin/mate-sweep" "$1/share/man/man1/mate.1" \
-        "$1/share/man/man1/mate-view.1" "$1/share/bash-completion/completions/mate-view" "$1/share/bash-completion/completions/mate" "$1/share/bash-completion/completions/mate-explain" || return
-    # (folders that held nothing else)
-    (cd "$1" && rmdir -p share/man/man1 share/bash-completion/completions bin 2>/dev/null)
-    return 0
+            cp --no-preserve=all "$program" "$1/bin/$name" && chmod 755 "$1/bin/$name" && ln -s "../../bin/$name" "$share/$name" || exit
+        done
+        # (a script, unless there is a program of its name)
+        [ -e "$1/bin/mate-explain" ] || ln -s ../share/mate/explain "$1/bin/mate-explain" || exit
+        [ -e "$1/bin/mate-sweep" ] || ln -s ../share/mate/scripts/sweep "$1/bin/mate-sweep" || exit
+        cd "$share" || exit
+        for page in docs/*.1; do
+            mv "$page" ../man/man1/ && ln -s "../../man/man1/${page##*/}" "$page" || exit
+        done
+        for file in editors/bash/*.bash; do
+            [ -f "$file" ] || continue
+            mv "$file" "../bash-completion/completions/$(basename "$file" .bash)" && ln -s "../../../bash-completion/completions/$(basename "$file" .bash)" "$file" || exit
+        done
+        for file in editors/zsh/_*; do
+            [ -f "$file" ] || continue
+            mv "$file" ../zsh/site-functions/ && ln -s "../../../zsh/site-functions/${file##*/}" "$file" || exit
+        done
+        for file in editors/fish/*.fish; do
+            [ -f "$file" ] || continue
+            mv "$file" ../fish/vendor_completions.d/ && ln -s "../../../fish/vendor_completions.d/${file##*/}" "$file" || exit
+        done
+        # (shells look for a file of the command's name)
+        cd .. || exit
+        for name in ../bin/*; do
+            name=${name##*/}
+            [ -e "bash-completion/completions/$name" ] || ln -s mate "bash-completion/completions/$name" || exit
+        done
+    )
 }

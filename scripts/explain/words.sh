@@ -32,7 +32,10 @@ show_help() {
     echo 'VM is the file of a machine, or `builtin`. Flags may come anywhere before `--`. What each line means: docs/GUIDE.md.'
 }
 
-# Which program it is: by the sum of the texts that it was proved from, and the kit.
+# The version, and which program it is: by the sum of the texts that it was proved from, and the kit (which an install has in the second line of scripts/version).
 show_version() {
-    if [ -n "${MATE-}" ]; then echo "mate ($program)"; elif [ -r "$top/VERSION" ]; then cat "$top/VERSION"; else echo "mate ${sum:0:12}, $kit"; fi
+    local version of=''
+    { read -r version && read -r of; } <"$top/scripts/version"
+    if [ -n "${MATE-}" ]; then of=$program; elif [ -n "${sum-}" ]; then of="texts ${sum:0:12}, $kit"; fi
+    echo "mate $version${of:+ ($of)}"
 }
