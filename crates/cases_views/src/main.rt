@@ -6,7 +6,7 @@ use mate_files::{MemSink, OsFiles, Sink};
 use std::io::Write;
 use std::rt::Files;
 use std::{fs, io};
-use view_cli::{Request, Stop, read, view};
+use view_cli::{Request, Stop, VERSION, Words, read, view};
 use view_records::Ink;
 
 fn main(rt: HostRuntime) -> io::Result<()> {
@@ -27,7 +27,11 @@ fn answer(rt: &(impl Files + Print + AllocGlobal), case: &str) -> io::Result<()>
     let mut err = MemSink::new(rt.alloc());
     let mut ink = Ink::new(MemSink::new(rt.alloc()));
     let status = match read(rt.alloc(), &words) {
-        Ok(request) => written(rt, &request, &mut ink, &mut err),
+        Ok(Words::View(request)) => written(rt, &request, &mut ink, &mut err),
+        Ok(Words::Version) => {
+            println!(rt; "mate-view {VERSION}")?;
+            Status::Ok
+        }
         Err(refusal) => refusal.refuse(&mut err),
     };
     let written = ink.into_sink();
@@ -44,11 +48,11 @@ fn written<T: Files + AllocGlobal, S: Sink, E: Sink>(
     err: &mut E,
 ) -> Status {
     let Ok(report) = fs::open(rt, request.report) else {
-        return Stop::Unread.tell(request.report, err);
+        return Stop::Unread.tell(rt.alloc(), request.report, request.machine, err);
     };
     let mut files = OsFiles::new(rt.alloc(), rt);
     match view(rt.alloc(), request, &mut files, report, ink) {
         Ok(()) => Status::Ok,
-        Err(stop) => stop.tell(request.report, err),
+        Err(stop) => stop.tell(rt.alloc(), request.report, request.machine, err),
     }
 }
