@@ -208,7 +208,11 @@ fn draw_bound<S: Sink>(
             "s warn",
             x.saturating_add(60),
             y.saturating_add(9),
-            "missed",
+            if is_given(promise) {
+                "missed"
+            } else {
+                "missed, not promised"
+            },
         );
     }
 }
