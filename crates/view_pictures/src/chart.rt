@@ -36,6 +36,15 @@ struct Point {
     value: i32,
 }
 
+/// How many values a buffer has.
+fn count_of(values: &[i16]) -> i32 {
+    let mut count = 0i32;
+    for _value in values {
+        count = count.saturating_add(1);
+    }
+    count
+}
+
 /// The least and the greatest value of a row, if it has one.
 #[derive(Clone, Copy)]
 struct Range {
@@ -85,7 +94,7 @@ impl Points {
             self.points.push(Point {
                 row,
                 at,
-                value: buffer.len() as i32,
+                value: count_of(buffer.as_slice()),
             })?;
             row = row.saturating_add(1);
         }

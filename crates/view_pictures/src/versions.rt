@@ -107,7 +107,7 @@ impl Versions {
         if self.more {
             let _ = flow.next(30);
         }
-        flow.y / 18 + 1
+        (flow.y / 18).saturating_add(1)
     }
 
     /// Draws the share of all nodes that hold each version, as steps.
