@@ -53,6 +53,14 @@ struct Range {
     any: bool,
 }
 
+/// A row that is drawn: its number, its values, and its top in pixels.
+#[derive(Clone, Copy)]
+struct Row {
+    number: usize,
+    range: Range,
+    top: u64,
+}
+
 /// The points of a report within a window.
 #[derive(Drop)]
 struct Points {
@@ -195,14 +203,22 @@ fn draw<S: Sink>(
     write_heading("Stores", &part.last, ink);
     write_part(part, count, ink);
     write_scale(&part.scale, part.unit(), HEAD, bottom, ink);
-    let mut top = HEAD;
-    let mut row = 0usize;
+    let mut row = Row {
+        number: 0,
+        range: Range {
+            low: 0,
+            high: 0,
+            any: false,
+        },
+        top: HEAD,
+    };
     for range in ranges {
+        row.range = *range;
         if is_drawn(range) {
-            draw_row(desc, part, points, row, range, top, ink);
-            top = top.saturating_add(HEIGHT);
+            draw_row(desc, part, points, &row, ink);
+            row.top = row.top.saturating_add(HEIGHT);
         }
-        row = row.saturating_add(1);
+        row.number = row.number.saturating_add(1);
     }
     write_text(
         ink,
@@ -244,26 +260,25 @@ fn draw_row<S: Sink>(
     desc: &Description,
     part: &Part,
     points: &[Point],
-    row: usize,
-    range: &Range,
-    top: u64,
+    row: &Row,
     ink: &mut Ink<S>,
 ) {
+    let (top, range) = (row.top, row.range);
     write_band((top / HEIGHT) % 2 == 1, top, HEIGHT, ink);
     begin_text(ink, "t", 100, top.saturating_add(24));
     ink.text("node ");
-    ink.number((row / ROWS_A_NODE) as u64);
+    ink.number((row.number / ROWS_A_NODE) as u64);
     ink.text(" ");
-    ink.text(name_of(desc, row % ROWS_A_NODE));
+    ink.text(name_of(desc, row.number % ROWS_A_NODE));
     end_text(ink);
-    write_value("e s", range.high, top.saturating_add(12), ink);
+    write_value(range.high, top.saturating_add(12), ink);
     if range.low != range.high {
-        write_value("e s", range.low, top.saturating_add(38), ink);
+        write_value(range.low, top.saturating_add(38), ink);
     }
-    draw_line(part, points, row, range, top, ink);
+    draw_line(part, points, row, ink);
     for point in points {
-        if point.row == row && shows(part, point) {
-            draw_dot(part, point, range, top, ink);
+        if point.row == row.number && shows(part, point) {
+            draw_dot(part, point, row, ink);
         }
     }
 }
@@ -281,8 +296,8 @@ fn name_of(desc: &Description, place: usize) -> &str {
     }
 }
 
-fn write_value<S: Sink>(class: &str, value: i32, y: u64, ink: &mut Ink<S>) {
-    begin_text(ink, class, LEFT * 10 - 60, y);
+fn write_value<S: Sink>(value: i32, y: u64, ink: &mut Ink<S>) {
+    begin_text(ink, "e s", LEFT * 10 - 60, y);
     if value < 0 {
         ink.text("-");
     }
@@ -297,32 +312,27 @@ fn shows(part: &Part, point: &Point) -> bool {
 }
 
 /// The height of a value in its row, in pixels.
-fn height_of(value: i32, range: &Range, top: u64) -> u64 {
+fn height_of(value: i32, row: &Row) -> u64 {
+    let range = row.range;
     let span = u64::from(range.high.abs_diff(range.low)).max(1);
     let above = u64::from(value.abs_diff(range.low));
-    top.saturating_add(HEIGHT - 7)
+    row.top
+        .saturating_add(HEIGHT - 7)
         .saturating_sub(above.saturating_mul(HEIGHT - 14) / span)
 }
 
 /// Draws the line through the points of a row.
-fn draw_line<S: Sink>(
-    part: &Part,
-    points: &[Point],
-    row: usize,
-    range: &Range,
-    top: u64,
-    ink: &mut Ink<S>,
-) {
+fn draw_line<S: Sink>(part: &Part, points: &[Point], row: &Row, ink: &mut Ink<S>) {
     let mut begun = false;
     for point in points {
-        if point.row == row && shows(part, point) {
+        if point.row == row.number && shows(part, point) {
             if !begun {
-                begin_of(ink, "path", "value", (row % 8) as u8);
+                begin_of(ink, "path", "value", colour_of(row.number));
             }
             ink.text(if begun { "L" } else { " d=\"M" });
             write_tenths(ink, part.tenths(point.at));
             ink.text(" ");
-            ink.number(height_of(point.value, range, top));
+            ink.number(height_of(point.value, row));
             begun = true;
         }
     }
@@ -331,10 +341,15 @@ fn draw_line<S: Sink>(
     }
 }
 
-fn draw_dot<S: Sink>(part: &Part, point: &Point, range: &Range, top: u64, ink: &mut Ink<S>) {
-    begin_of(ink, "circle", "dot", (point.row % 8) as u8);
+/// The colour of a row, by its number.
+fn colour_of(row: usize) -> u8 {
+    (row % 8) as u8
+}
+
+fn draw_dot<S: Sink>(part: &Part, point: &Point, row: &Row, ink: &mut Ink<S>) {
+    begin_of(ink, "circle", "dot", colour_of(row.number));
     attribute_in_tenths(ink, "cx", part.tenths(point.at));
-    attribute(ink, "cy", height_of(point.value, range, top));
+    attribute(ink, "cy", height_of(point.value, row));
     ink.text(" r=\"2\"><title>");
     if point.value < 0 {
         ink.text("-");

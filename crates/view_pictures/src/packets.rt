@@ -1,7 +1,7 @@
 //! The packets of a timeline, each drawn.
 
 use crate::lanes::{Lane, Lanes};
-use crate::marks::{Bytes, Mark, What};
+use crate::marks::{Mark, What};
 use crate::signs;
 use crate::svg::{begin, write_ends};
 use crate::timeline::{Seen, end_mark};
@@ -19,17 +19,7 @@ pub fn draw_packets<S: Sink>(
 ) {
     for mark in marks {
         if let Some(lane) = lanes.find(mark.node) {
-            match mark.what {
-                What::Came { kind, to, .. } => {
-                    draw_came(desc, seen, lanes, mark, &lane, kind, to, ink)
-                }
-                What::Lost { to, .. } => {
-                    let x = seen.tenths(mark.from);
-                    signs::lost(to < mark.node, x, lane.middle(), ink);
-                    end_mark(desc, mark, "path", ink);
-                }
-                _ => {}
-            }
+            draw_way(desc, seen, lanes, mark, &lane, ink);
         }
     }
     for lane in lanes.lanes.as_slice() {
@@ -37,23 +27,32 @@ pub fn draw_packets<S: Sink>(
     }
 }
 
-fn draw_came<S: Sink>(
+/// Draws the way of a packet to a node that gets it, or that it is lost for.
+fn draw_way<S: Sink>(
     desc: &Description,
     seen: &Seen,
     lanes: &Lanes,
     mark: &Mark,
     lane: &Lane,
-    kind: PacketKind,
-    to: u8,
     ink: &mut Ink<S>,
 ) {
-    let Some(receiver) = lanes.find(to) else {
-        return;
-    };
-    begin(ink, "line", signs::came_class(kind));
-    let (sent, got) = (seen.tenths(mark.from), seen.tenths(mark.to));
-    write_ends(ink, sent, lane.middle(), got, receiver.middle());
-    end_mark(desc, mark, "line", ink);
+    let sent = seen.tenths(mark.from);
+    match mark.what {
+        What::Came { kind, to, .. } => {
+            let Some(receiver) = lanes.find(to) else {
+                return;
+            };
+            begin(ink, "line", signs::came_class(kind));
+            let got = seen.tenths(mark.to);
+            write_ends(ink, sent, lane.middle(), got, receiver.middle());
+            end_mark(desc, mark, "line", ink);
+        }
+        What::Lost { to, .. } => {
+            signs::lost(to < mark.node, sent, lane.middle(), ink);
+            end_mark(desc, mark, "path", ink);
+        }
+        _ => {}
+    }
 }
 
 /// Draws the signs of a node's packets. Those that would hide one another stand side by side.
@@ -70,25 +69,13 @@ fn draw_sent<S: Sink>(
             if let What::Sent { bytes, heard, .. } = mark.what {
                 if seen.shows(mark.from) {
                     last = beside(seen.tenths(mark.from), last, 60);
-                    draw_packet(desc, mark, &bytes, heard, last, lane, ink);
+                    let kind = PacketKind::of(bytes.as_slice());
+                    signs::packet(kind, heard, last, lane.middle(), ink);
+                    end_mark(desc, mark, "path", ink);
                 }
             }
         }
     }
-}
-
-fn draw_packet<S: Sink>(
-    desc: &Description,
-    mark: &Mark,
-    bytes: &Bytes,
-    heard: bool,
-    x: u64,
-    lane: &Lane,
-    ink: &mut Ink<S>,
-) {
-    let kind = PacketKind::of(bytes.as_slice());
-    signs::packet(kind, heard, x, lane.middle(), ink);
-    end_mark(desc, mark, "path", ink);
 }
 
 /// Where a sign stands that belongs to `x`, behind the last one at `last` by `width`, if that isn't far from it.
