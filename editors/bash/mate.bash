@@ -43,25 +43,32 @@ _mate_view() {
     local LC_ALL=C word=${COMP_WORDS[COMP_CWORD]} before=${COMP_WORDS[COMP_CWORD - 1]} view='' i
     COMPREPLY=()
     for ((i = 1; i < COMP_CWORD; i++)); do
-        case ${COMP_WORDS[i]} in timeline | spread | csv | stats) view=${COMP_WORDS[i]}; break ;; esac
+        case ${COMP_WORDS[i]} in timeline | spread | csv | waits | store | stats) view=${COMP_WORDS[i]}; break ;; esac
     done
     case $before in
         --vm) mapfile -t COMPREPLY < <(compgen -W builtin -- "$word"; compgen -f -X '!*.toml' -- "$word"; compgen -d -- "$word"); return ;;
         --what) mapfile -t COMPREPLY < <(compgen -W 'events spread calls' -- "$word"); return ;;
         --world) mapfile -t COMPREPLY < <(compgen -f -- "$word"); return ;;
+        --only)
+            # the kinds behind the last comma
+            local list=${word%"${word##*,}"}
+            mapfile -t COMPREPLY < <(compgen -P "$list" -W 'invocations installs drops resets vectors statuses fragments messages losses noise intervals' -- "${word##*,}")
+            return ;;
         --from | --to | --nodes) return ;;
     esac
     if [[ $word == -* ]]; then
-        local options='--vm'
+        local options='--vm --version'
         case $view in
-            timeline) options='--vm --from --to --nodes --events' ;;
+            timeline) options='--vm --from --to --nodes --only --events' ;;
             spread) options='--vm --world --from --to --nodes --events' ;;
             csv) options='--vm --what --json' ;;
-            stats) options='--vm --json' ;;
+            waits) options='--vm --json' ;;
+            store) options='--vm --json --svg --from --to --nodes --events' ;;
+            stats) options='--vm --from --to --events --json' ;;
         esac
         mapfile -t COMPREPLY < <(compgen -W "$options" -- "$word")
     elif [[ -z $view ]]; then
-        mapfile -t COMPREPLY < <(compgen -W 'timeline spread csv stats' -- "$word")
+        mapfile -t COMPREPLY < <(compgen -W 'timeline spread csv waits store stats' -- "$word")
     else
         mapfile -t COMPREPLY < <(compgen -f -- "$word")
     fi

@@ -53,8 +53,9 @@ impl<R: Read> Source<R> {
 
     /// Takes the last line, of this length.
     fn end(&mut self, length: usize) -> Result<(), ViewFault> {
-        let Some(last) = last_line_of(self.lines.line(length)) else {
-            return Err(self.order.bad_line(1));
+        let line = self.lines.line(length);
+        let Some(last) = last_line_of(line) else {
+            return Err(self.order.bad_record(line));
         };
         self.order.end(&last)?;
         self.lines.take(length);

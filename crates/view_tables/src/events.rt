@@ -31,7 +31,7 @@ pub fn write_events<R: Read, S: Sink>(
         };
         write_event(desc, form, source.count(), &nodes, &line, ink);
         ink.check()?;
-        nodes.follow(&line, &mut ended)?;
+        nodes.follow(desc, &line, &mut ended)?;
         ended.clear();
     }
     ink.check()

@@ -28,7 +28,7 @@ pub fn write_spread<R: Read, S: Sink>(
         let Some(line) = source.next(desc)? else {
             break;
         };
-        nodes.follow(&line, &mut ended)?;
+        nodes.follow(desc, &line, &mut ended)?;
         ended.clear();
         if let Told::Installed {
             handler,
