@@ -157,6 +157,8 @@ begin_look() {
     look=
     [ -n "$cache" ] && have_cache 2>/dev/null || return 0
     look=$( (umask 022; mkdir -p "$seen" && is_own "$cache" "$cache/." "$cache/checkouts" "$seen" && mktemp -d "$seen/XXXXXX") 2>/dev/null) || { look=; return 0; }
+    by=find
+    printf '/\0' | find -files0-from - -maxdepth 0 >/dev/null 2>&1 || by=stat
     (
         umask 022
         chmod 755 "$look"
@@ -177,6 +179,11 @@ begin_look() {
     ) 2>/dev/null || drop_look
 }
 
+# FILE: the states of the places that it has.
+states_of() {
+    (tell_states "$1")
+}
+
 drop_look() {
     [ -z "$look" ] || rm -rf "$look"
     look=
@@ -193,7 +200,7 @@ note_look() {
         printf '%s\0' "$program" ${rt:+"$rt"} ${kit_file:+"$kit_file"} >"$look/more"
         states_of "$look/more" >"$look/state" && [ "${state:-$(head -n 1 "$look/state")}" = "$(head -n 1 "$look/state")" ] &&
             cat "$look/more" >>"$look/places.2" && cat "$look/state" >>"$look/states.2" && rm "$look/more" "$look/state" &&
-            printf '%s\n' "$top" >"$seen/top" && printf '%s\n' "${look##*/}" "$sum" "$program" "$rt" "$kit" >"$look.new" && mv "$look.new" "$seen/look" || exit
+            printf '%s\n' "$top" >"$seen/top" && printf '%s\n' "${look##*/}" "$by" "$sum" "$program" "$rt" "$kit" >"$look.new" && mv "$look.new" "$seen/look" || exit
         for old in "$seen"/??????; do
             [ "$old" = "$look" ] || rm -rf "$old"
         done
@@ -329,7 +336,7 @@ clean_cache() {
     used="
 "
     for noted in "$cache"/checkouts/*; do
-        { IFS= read -r _ && read -r _ && IFS= read -r used_program; } <"$noted/look" && [ -x "$used_program" ] && read -r top_of <"$noted/top" && [ -x "$top_of/mate" ] || { rm -rf "$noted"; continue; }
+        { IFS= read -r _ && read -r _ && read -r _ && IFS= read -r used_program; } <"$noted/look" && [ -x "$used_program" ] && read -r top_of <"$noted/top" && [ -x "$top_of/mate" ] || { rm -rf "$noted"; continue; }
         used_program=${used_program%/*}
         used="$used${used_program##*/}
 $(cat "$used_program/libraries")

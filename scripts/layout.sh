@@ -58,6 +58,7 @@ lay_out() {
         for name in ../bin/*; do
             name=${name##*/}
             [ -e "bash-completion/completions/$name" ] || ln -s mate "bash-completion/completions/$name" || exit
+            [ -e "fish/vendor_completions.d/$name.fish" ] || ln -s mate.fish "fish/vendor_completions.d/$name.fish" || exit
         done
     )
 }

@@ -85,16 +85,23 @@ is_own() {
     }
 }
 
-# FILE: the states of the places that it has, ended by NUL, as paths from crates/ or whole ones.
-states_of() {
-    (CDPATH='' cd -- "$top/crates" && { LC_ALL=C find -files0-from "$1" -maxdepth 0 -printf '%D %i %C@\n' || LC_ALL=C xargs -0 -a "$1" stat -c '%d %i %.9Z'; }) 2>/dev/null
+# FILE: becomes the command that tells the states of the places that the file has, ended by NUL, as paths from crates/ or whole ones. $by is find, or stat where find
+# takes no such file.
+tell_states() {
+    CDPATH='' cd -- "$top/crates" || exit
+    LC_ALL=C
+    export LC_ALL
+    case $by in
+    find) exec find -files0-from "$1" -maxdepth 0 -printf '%D %i %C@\n' ;;
+    *) exec xargs -0 -a "$1" stat -c '%d %i %.9Z' ;;
+    esac 2>/dev/null
 }
 
 # Whether all is as the last look saw it; then $program is the program.
 is_as_seen() {
     kit='' rt=''
     [ -f "$seen/look" ] || return 1
-    { IFS= read -r look && IFS= read -r sum && IFS= read -r program && IFS= read -r rt && IFS= read -r kit; } <"$seen/look" || { kit=''; return 1; }
+    { IFS= read -r look && IFS= read -r by && IFS= read -r sum && IFS= read -r program && IFS= read -r rt && IFS= read -r kit; } <"$seen/look" || { kit=''; return 1; }
     look=$seen/$look
     [ -x "$program" ] || return 1
     case $program in
@@ -106,9 +113,9 @@ is_as_seen() {
     esac
     own=$!
     # (two halves, since two processors need half the time)
-    states_of "$look/places.1" | cmp -s - "$look/states.1" &
+    tell_states "$look/places.1" | cmp -s - "$look/states.1" &
     half=$!
-    states_of "$look/places.2" | cmp -s - "$look/states.2"
+    tell_states "$look/places.2" | cmp -s - "$look/states.2"
     other=$?
     wait $half && wait $own && [ $other -eq 0 ]
 }
