@@ -13,7 +13,7 @@ unprivileged() {
     mkdir "$home/top" "$home/tmp" && cp -R --parents "${folders[@]}" "$home/top/" || exit 1
     [ -z "$program" ] || { kept=$home/mate; cp -L "$program" "$kept" && chmod 755 "$kept" || exit 1; }
     chmod -R a+rX "$home" && chown -R 65534:65534 "$home" || exit 1
-    local as=(setpriv --reuid 65534 --regid 65534 --clear-groups --no-new-privs env -u SUDO_USER HOME="$home" TMPDIR="$home/tmp" MATE="$kept" "PATH=$PATH:/usr/bin:/bin")
+    local as=(setpriv --reuid 65534 --regid 65534 --clear-groups --no-new-privs env -u SUDO_USER HOME="$home" TMPDIR="$home/tmp" MATE="$kept" "PATH=$PATH")
     if (cd "$home/top" && "${as[@]}" bash -c 'cd "$1" && : >"$HOME/tmp/x" && python3 -c ""' - "$home/top") >/dev/null 2>&1; then
         (cd "$home/top" && "${as[@]}" "scripts/${0##*/}" "$@")
         status=$?
