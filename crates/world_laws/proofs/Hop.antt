@@ -17,9 +17,9 @@ use Rattle.world_rules.specs.Cause.{Cause}
 use Rattle.world_rules.specs.Cause as event
 use Rattle.script_steps.specs.declared.world.Link.{Link}
 use Rattle.world_rules.specs.World.{World, handlers, receiver, leaves, links_from, loss, stream_word}
-use Rattle.world_rules.specs.Effect.{Node, NodeEffect, Installing, node_effect, of_packet, event_node, resets}
+use Rattle.world_rules.specs.Effect.{Node, NodeEffect, Installing, of_packet, event_node, resets}
 use Rattle.world_rules.specs.State.{Moment, WorldState, Scheduled, Sending, numbered_sendings, sendings, is_lost, deliveries, next_period, new_interval, packets_of, messages, schedules, node_at, effect_at, after_moment, state}
-use Rattle.world_rules.specs.Run.{MayCome, HaveCome, IsDone}
+use Rattle.world_rules.specs.Run.{HaveCome, IsDone}
 use Rattle.world_laws.specs.Hops.{HasLink}
 use Rattle.world_laws.specs.Newest.{Version, IsWorldVersion}
 use Rattle.world_laws.specs.Slots.{IsSparing}

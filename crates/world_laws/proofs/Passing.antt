@@ -1,10 +1,10 @@
 -- A version passes over an open window, and along a path of them.
 use Rattle.std.proofs.Common.{◌≡◌, ◌<◌, ◌≤◌, ℕ, ◌+◌, ◌*◌, Bool, true, false, cond, List, [], ◌∷◌, ◌++◌, map, length, refl, sym, ◌∙◌, ap, subst, arith, inl, inr, ◌⊎◌}
-use Rattle.std.specs.Prelude.{Option, Some, None, nat_lt, slice_get, ◌==◌, if◌then◌else◌}
+use Rattle.std.specs.Prelude.{nat_lt, slice_get, ◌==◌, if◌then◌else◌}
 use Rattle.std.specs.List.{filter}
 use Rattle.std.proofs.lemmas.Bool.{cases_lt, ltb-false}
 use Rattle.std.proofs.lemmas.Bool.Decides.{eqb_tells}
-use Rattle.mate_num.specs.Lists.{Among, Each}
+use Rattle.mate_num.specs.Lists.{Among}
 use Rattle.vm_shape.specs.Limits.{longest}
 use Rattle.capsule_codec.specs.Fragments.{count_of}
 use Rattle.mate_journal.specs.Machine.{HeldProgram}
@@ -12,7 +12,7 @@ use Rattle.packet_codec.specs.declared.packet.Packet.{Packet}
 use Rattle.packet_codec.specs.declared.packet.Packet.TheVariants.{Vector, Status, Fragment, App}
 use Rattle.trickle_timer.specs.Intervals as trickle
 use Rattle.trickle_timer.specs.declared.timer.Fire.TheVariants as fire
-use Rattle.capsule_exchange.specs.Happenings.{Happening, Hears, Installs, held_version, held_image, heard_since, version_in, greatest, target_version, complete_version}
+use Rattle.capsule_exchange.specs.Happenings.{Happening, Hears, Installs, held_version, held_image, heard_since, version_in, greatest, complete_version}
 use Rattle.world_rules.specs.Cause.{Cause}
 use Rattle.world_rules.specs.Cause as event
 use Rattle.world_rules.specs.World.{World, handlers}
@@ -22,7 +22,7 @@ use Rattle.world_rules.specs.Run.{HaveCome, IsDone}
 use Rattle.world_laws.specs.Newest.{Version, IsWorldVersion}
 use Rattle.world_laws.specs.Versions.{WasInjected, IsOneImage}
 use Rattle.world_laws.specs.HopBound.{version_of}
-use Rattle.world_laws.specs.Passing.{Hop, IsHop, LetsPass, up_to, held_at, IsBetween, IsHeardBetween, IsOpenWindow, Leg, end_of, LeadTo, HaveWindows, IsRightNetwork, WindowsPass, PathsPass, InjectionsPass}
+use Rattle.world_laws.specs.Passing.{Hop, IsHop, LetsPass, up_to, held_at, IsBetween, IsHeardBetween, IsOpenWindow, Leg, end_of, IsRightNetwork, WindowsPass, PathsPass, InjectionsPass}
 use Rattle.world_laws.proofs.Points.{among-next, earlier-come, nodes-here, nodes-other}
 use Rattle.world_laws.proofs.Happens.{Happens, nothing, injected, heard, completed, forgot, sent, happens}
 use Rattle.world_laws.proofs.Collect.{IsTame, AreTame, complete-stays, complete-other}

@@ -1,5 +1,5 @@
 -- What a node that keeps silent has heard.
-use Rattle.std.proofs.Common.{◌≡◌, ◌<◌, ◌≤◌, ℕ, ◌+◌, ◌*◌, min, Bool, true, false, List, [], ◌∷◌, ◌++◌, refl, sym, ◌∙◌, ap, subst, arith, inl, inr, ◌⊎◌}
+use Rattle.std.proofs.Common.{◌≡◌, ◌≤◌, ℕ, min, Bool, true, false, List, [], ◌∷◌, ◌++◌, refl, sym, ◌∙◌, ap, subst, arith, inl, inr, ◌⊎◌}
 use Rattle.std.specs.Prelude.{Option, Some, None, nat_lt, nat_le, bytes_eq, ◌&&◌, if◌then◌else◌, slice_get}
 use Rattle.std.specs.Option.{option_map_or}
 use Rattle.std.proofs.lemmas.Bool.{leb-true}
@@ -17,13 +17,13 @@ use Rattle.trickle_timer.specs.declared.timer.Fire.TheVariants as fire
 use Rattle.capsule_exchange.specs.Happenings.{Happening, held_versions, completed_by, next_slot}
 use Rattle.world_rules.specs.Cause.{Cause}
 use Rattle.world_rules.specs.Cause as event
-use Rattle.world_rules.specs.World.{World, PlannedLine, Want, Inject, handlers, receiver}
+use Rattle.world_rules.specs.World.{World, PlannedLine, Want, Inject, handlers}
 use Rattle.world_rules.specs.Effect.{Node, NodeEffect, no_effect, node_effect, of_line, of_packet, of_fragment, of_point, of_slot, event_node}
 use Rattle.world_rules.specs.State.{Moment, node_at, effect_at, node_after, timer_after, state}
 use Rattle.world_rules.specs.Run.{HaveCome}
-use Rattle.world_laws.specs.Times.{IsRightSet, last_time}
+use Rattle.world_laws.specs.Times.{IsRightSet}
 use Rattle.world_laws.specs.Silence.{HeardItsOwn, CountedIsHeard, SilentHeardTheirOwn}
-use Rattle.world_laws.proofs.Points.{nodes-here, nodes-other, last-before, run-timed}
+use Rattle.world_laws.proofs.Points.{nodes-here, nodes-other, run-timed}
 
 -- ---- which event is counted
 

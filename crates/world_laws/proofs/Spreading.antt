@@ -17,9 +17,9 @@ use Rattle.world_laws.specs.Newest.{Version, IsWorldVersion, IsNewest}
 use Rattle.world_laws.specs.Spread.{IsOpenWorld, IsQuiet, AreQuiet, HoldsVersion, HopsInTime, SpreadsInTime}
 use Rattle.world_laws.specs.Passing.{Hop, IsHop}
 use Rattle.world_laws.proofs.Points.{among-next, earlier-come}
-use Rattle.world_laws.proofs.Tame.{IsTameNode, IsTameWorld, run-tame}
+use Rattle.world_laws.proofs.Tame.{IsTameWorld, run-tame}
 use Rattle.world_laws.proofs.Installs.{newer-than, held_never_falls}
-use Rattle.world_laws.proofs.Hop.{Lets, LetAll, link-at, not_lost}
+use Rattle.world_laws.proofs.Hop.{LetAll, link-at, not_lost}
 use Rattle.world_laws.proofs.Stages.{speaks-loud, hop_passes}
 
 newest-earlier : (w : World) (v : Version) (before later : List Moment) → IsNewest w v (later ++ before) → IsNewest w v before

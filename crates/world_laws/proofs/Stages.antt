@@ -14,7 +14,7 @@ use Rattle.packet_codec.specs.declared.packet.Packet.TheVariants.{Vector}
 use Rattle.trickle_timer.specs.Intervals as trickle
 use Rattle.trickle_timer.specs.declared.timer.Fire.{Fire}
 use Rattle.trickle_timer.specs.declared.timer.Fire.TheVariants as fire
-use Rattle.capsule_exchange.specs.Happenings.{Happening, Hears, held_version, held_image, held_versions, heard_since, target_version, TargetFragment, part_in, target_parts, complete_version, completed_by, asks_after, is_marked_slot, next_slot, fragment_for}
+use Rattle.capsule_exchange.specs.Happenings.{Happening, Hears, held_version, held_versions, heard_since, target_version, TargetFragment, part_in, target_parts, complete_version, completed_by, asks_after, is_marked_slot, next_slot, fragment_for}
 use Rattle.world_rules.specs.Cause as event
 use Rattle.world_rules.specs.World.{World, handlers, links_from}
 use Rattle.world_rules.specs.Effect.{of_fragment, of_point, of_slot, event_node}
