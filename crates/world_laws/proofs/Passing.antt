@@ -22,7 +22,7 @@ use Rattle.world_rules.specs.Run.{HaveCome, IsDone}
 use Rattle.world_laws.specs.Newest.{Version, IsWorldVersion}
 use Rattle.world_laws.specs.Versions.{WasInjected, IsOneImage}
 use Rattle.world_laws.specs.HopBound.{version_of}
-use Rattle.world_laws.specs.Passing.{Hop, IsHop, LetsPass, up_to, held_at, IsBetween, IsHeardBetween, IsOpenWindow, Leg, end_of, IsRightNetwork, WindowsPass, PathsPass, InjectionsPass}
+use Rattle.world_laws.specs.Passing.{Hop, IsHop, LetsPass, up_to, version_at, IsBetween, IsHeardBetween, IsOpenWindow, Leg, path_end, IsRightNetwork, WindowsPass, PathsPass, InjectionsPass}
 use Rattle.world_laws.proofs.Points.{among-next, earlier-come, nodes-here, nodes-other}
 use Rattle.world_laws.proofs.Happens.{Happens, nothing, injected, heard, completed, forgot, sent, happens}
 use Rattle.world_laws.proofs.Collect.{IsTame, AreTame, complete-stays, complete-other}
@@ -87,13 +87,11 @@ tame-of w ms v (App payload) one was of most = tt
 each-tame : (w : World) (ms : List Moment) (v : Version) (limit : ℕ) (ps : List Packet) → IsOneImage w → WasInjected w ms v.handler v.version v.image → limit ≤ v.version
     → greatest (filter (nat_lt limit) (map (version_in v.handler) ps)) ≤ v.version → AreOfInjected w ms ps → AreTame v ps
 each-tame w ms v limit [] one was low most all = tt
-each-tame w ms v limit (p ∷ ps) one was low most all = by (nat_lt limit (version_in v.handler p)) refl most where
-  rest : List ℕ
-  rest = filter (nat_lt limit) (map (version_in v.handler) ps)
-
-  by : (b : Bool) → nat_lt limit (version_in v.handler p) ≡ b → greatest (cond b (version_in v.handler p ∷ filter (nat_lt limit) (map (version_in v.handler) ps)) (filter (nat_lt limit) (map (version_in v.handler) ps))) ≤ v.version → AreTame v (p ∷ ps)
-  by true is top = (tame-of w ms v p one was all.0 (omega (arith, top)), each-tame w ms v limit ps one was low (omega (arith, top)) all.1)
-  by false is top = (tame-of w ms v p one was all.0 (let over : version_in v.handler p ≤ limit = ltb-false _ _ is in omega (arith, over, low)), each-tame w ms v limit ps one was low top all.1)
+each-tame w ms v limit (p ∷ ps) one was low most all = by (nat_lt limit (version_in v.handler p)) refl most (λ top. each-tame w ms v limit ps one was low top all.1) where
+  by : (b : Bool) → nat_lt limit (version_in v.handler p) ≡ b → greatest (cond b (version_in v.handler p ∷ filter (nat_lt limit) (map (version_in v.handler) ps)) (filter (nat_lt limit) (map (version_in v.handler) ps))) ≤ v.version
+      → (greatest (filter (nat_lt limit) (map (version_in v.handler) ps)) ≤ v.version → AreTame v ps) → AreTame v (p ∷ ps)
+  by true is top rest = (tame-of w ms v p one was all.0 (omega (arith, top)), rest (omega (arith, top)))
+  by false is top rest = (tame-of w ms v p one was all.0 (let over : version_in v.handler p ≤ limit = ltb-false _ _ is in omega (arith, over, low)), rest top)
 
 -- ---- a window
 
@@ -185,65 +183,65 @@ world-version w ms h version image net was =
 
 -- where the sender holds something
 from-held : (w : World) (ms : List Moment) (h : ℕ) (x : Hop) (start by : ℕ) → IsRightNetwork w → HaveCome w ms → IsHop w x → start ≤ by → IsOpenWindow w ms h x start by → IsDone (state w ms) by
-    → 1 ≤ held_at w ms x.from h start → WasInjected w (up_to start ms) h (held_at w ms x.from h start) (held_image h ((state w (up_to start ms)).nodes x.from).exchange)
-    → held_at w ms x.from h start ≤ held_at w ms x.to h by
+    → 1 ≤ version_at w ms x.from h start → WasInjected w (up_to start ms) h (version_at w ms x.from h start) (held_image h ((state w (up_to start ms)).nodes x.from).exchange)
+    → version_at w ms x.from h start ≤ version_at w ms x.to h by
 from-held w ms h x start by net come hop forward window done some was =
-    subst (λ (xs : List Moment). held_at w ms x.from h start ≤ held_version h ((state w xs).nodes x.to).exchange) (sym cut.split)
-    (elim (cases_lt (held_version h ((state w (up_to start ms)).nodes x.to).exchange) (held_at w ms x.from h start)) [
+    subst (λ (xs : List Moment). version_at w ms x.from h start ≤ held_version h ((state w xs).nodes x.to).exchange) (sym cut.split)
+    (elim (cases_lt (held_version h ((state w (up_to start ms)).nodes x.to).exchange) (version_at w ms x.from h start)) [
       | inr least ↦ kept least
-      | inl less ↦ over-window w ms start by cut v x net come hop (world-version w (up_to start ms) h (held_at w ms x.from h start) (held_image h ((state w (up_to start ms)).nodes x.from).exchange) net was) (refl, refl)
+      | inl less ↦ over-window w ms start by cut v x net come hop (world-version w (up_to start ms) h (version_at w ms x.from h start) (held_image h ((state w (up_to start ms)).nodes x.from).exchange) net was) (refl, refl)
           (lets-all w ms start by cut v x net come (refl, refl) some was window.passes) done (opened less) window.heard
     ]) where
       cut : Part start by ms
       cut = part start by ms forward
 
       v : Version
-      v = record { handler = h; version = held_at w ms x.from h start; image = held_image h ((state w (up_to start ms)).nodes x.from).exchange }
+      v = record { handler = h; version = version_at w ms x.from h start; image = held_image h ((state w (up_to start ms)).nodes x.from).exchange }
 
       come_base : HaveCome w (up_to start ms)
       come_base = come-up-to w start ms come
 
-      kept : held_at w ms x.from h start ≤ held_version h ((state w (up_to start ms)).nodes x.to).exchange
-          → held_at w ms x.from h start ≤ held_version h ((state w ((part start by ms forward).later ++ up_to start ms)).nodes x.to).exchange
+      kept : version_at w ms x.from h start ≤ held_version h ((state w (up_to start ms)).nodes x.to).exchange
+          → version_at w ms x.from h start ≤ held_version h ((state w ((part start by ms forward).later ++ up_to start ms)).nodes x.to).exchange
       kept least =
           let come_cut : HaveCome w ((part start by ms forward).later ++ up_to start ms) = subst (λ (xs : List Moment). HaveCome w xs) (part start by ms forward).split (come-up-to w by ms come) in
           let grows : held_version h ((state w (up_to start ms)).nodes x.to).exchange ≤ held_version h ((state w ((part start by ms forward).later ++ up_to start ms)).nodes x.to).exchange
           = held_never_falls w x.to h (up_to start ms) (part start by ms forward).later come_cut in
           omega (arith, least, grows)
 
-      opened : held_version h ((state w (up_to start ms)).nodes x.to).exchange < held_at w ms x.from h start
-          → IsOpenTo (record { handler = h; version = held_at w ms x.from h start; image = held_image h ((state w (up_to start ms)).nodes x.from).exchange }) ((state w (up_to start ms)).nodes x.to).exchange
+      opened : held_version h ((state w (up_to start ms)).nodes x.to).exchange < version_at w ms x.from h start
+          → IsOpenTo (record { handler = h; version = version_at w ms x.from h start; image = held_image h ((state w (up_to start ms)).nodes x.from).exchange }) ((state w (up_to start ms)).nodes x.to).exchange
       opened less = record {
-        heard_tame = each-tame w (up_to start ms) (record { handler = h; version = held_at w ms x.from h start; image = held_image h ((state w (up_to start ms)).nodes x.from).exchange })
+        heard_tame = each-tame w (up_to start ms) (record { handler = h; version = version_at w ms x.from h start; image = held_image h ((state w (up_to start ms)).nodes x.from).exchange })
             (held_version h ((state w (up_to start ms)).nodes x.to).exchange) (heard_since h ((state w (up_to start ms)).nodes x.to).exchange) net.plan.one_image was
             (omega (arith, less)) window.aims (((run-injected w (up_to start ms) net.plan.one_image come_base).nodes x.to).heard_of h);
         none_waits = none-waits w h x.to (up_to start ms);
       }
 
 pub windows_pass : (w : World) → IsRightNetwork w → WindowsPass w
-windows_pass w net ms h x start by come hop forward window done = elim (cases_lt 0 (held_at w ms x.from h start)) [
+windows_pass w net ms h x start by come hop forward window done = elim (cases_lt 0 (version_at w ms x.from h start)) [
   | inr none ↦ omega (arith, none)
   | inl some ↦ held (((run-injected w (up_to start ms) net.plan.one_image (come-up-to w start ms come)).nodes x.from).holds h) (omega (arith, some))
 ] where
-  held : HoldsInjected w (up_to start ms) ((state w (up_to start ms)).nodes x.from).exchange h → 1 ≤ held_at w ms x.from h start → held_at w ms x.from h start ≤ held_at w ms x.to h by
-  held (inl none) some = let zero_is : held_at w ms x.from h start ≡ 0 = none.0 in omega (arith, zero_is)
+  held : HoldsInjected w (up_to start ms) ((state w (up_to start ms)).nodes x.from).exchange h → 1 ≤ version_at w ms x.from h start → version_at w ms x.from h start ≤ version_at w ms x.to h by
+  held (inl none) some = let zero_is : version_at w ms x.from h start ≡ 0 = none.0 in omega (arith, zero_is)
   held (inr was) some = from-held w ms h x start by net come hop forward window done some was
 
 -- ---- a path
 
-end-after : (xs : List Leg) (t : ℕ) → t ≤ end_of xs t
+end-after : (xs : List Leg) (t : ℕ) → t ≤ path_end xs t
 end-after [] t = omega arith
-end-after (x ∷ xs) t = let rest : t + x.wait + x.lasts ≤ end_of xs (t + x.wait + x.lasts) = end-after xs (t + x.wait + x.lasts) in omega (arith, rest)
+end-after (x ∷ xs) t = let rest : t + x.wait + x.lasts ≤ path_end xs (t + x.wait + x.lasts) = end-after xs (t + x.wait + x.lasts) in omega (arith, rest)
 
 pub paths_pass : (w : World) → IsRightNetwork w → PathsPass w
-paths_pass w net ms h a b t [] come lead windows done = subst (λ (k : ℕ). held_at w ms a h t ≤ held_at w ms k h t) lead (omega arith)
+paths_pass w net ms h a b t [] come lead windows done = subst (λ (k : ℕ). version_at w ms a h t ≤ version_at w ms k h t) lead (omega arith)
 paths_pass w net ms h a b t (x ∷ xs) come lead windows done =
-    let waited : held_at w ms a h t ≤ held_at w ms x.hop.from h (t + x.wait)
-    = subst (λ (k : ℕ). held_at w ms k h t ≤ held_at w ms x.hop.from h (t + x.wait)) lead.0 (held-rises w ms x.hop.from h t (t + x.wait) come (omega arith)) in
-    let ends : t + x.wait + x.lasts ≤ end_of xs (t + x.wait + x.lasts) = end-after xs (t + x.wait + x.lasts) in
-    let passed : held_at w ms x.hop.from h (t + x.wait) ≤ held_at w ms x.hop.to h (t + x.wait + x.lasts)
+    let waited : version_at w ms a h t ≤ version_at w ms x.hop.from h (t + x.wait)
+    = subst (λ (k : ℕ). version_at w ms k h t ≤ version_at w ms x.hop.from h (t + x.wait)) lead.0 (held-rises w ms x.hop.from h t (t + x.wait) come (omega arith)) in
+    let ends : t + x.wait + x.lasts ≤ path_end xs (t + x.wait + x.lasts) = end-after xs (t + x.wait + x.lasts) in
+    let passed : version_at w ms x.hop.from h (t + x.wait) ≤ version_at w ms x.hop.to h (t + x.wait + x.lasts)
     = windows_pass w net ms h x.hop (t + x.wait) (t + x.wait + x.lasts) come lead.1 (omega arith) windows.0 (λ u early. done u (omega (arith, early, ends))) in
-    let rest : held_at w ms x.hop.to h (t + x.wait + x.lasts) ≤ held_at w ms b h (end_of xs (t + x.wait + x.lasts))
+    let rest : version_at w ms x.hop.to h (t + x.wait + x.lasts) ≤ version_at w ms b h (path_end xs (t + x.wait + x.lasts))
     = paths_pass w net ms h x.hop.to b (t + x.wait + x.lasts) xs come lead.2 windows.1 done in
     omega (arith, waited, passed, rest)
 
@@ -254,7 +252,7 @@ injections_pass w net newer before m i b p xs come cause injects lead windows do
     let grows : held_version p.handler.0 ((state w (m ∷ before)).nodes (event_node w m.cause)).exchange ≤ held_version p.handler.0 ((state w (found.0 ++ m ∷ before)).nodes (event_node w m.cause)).exchange
     = held_never_falls w (event_node w m.cause) p.handler.0 (m ∷ before) found.0 come_then in
     let first : held_version p.handler.0 ((state w (m ∷ before)).nodes (event_node w m.cause)).exchange ≡ p.version = inject-held w (state w before) m i p cause injects in
-    let holds : p.version ≤ held_at w (newer ++ m ∷ before) (event_node w m.cause) p.handler.0 m.time
+    let holds : p.version ≤ version_at w (newer ++ m ∷ before) (event_node w m.cause) p.handler.0 m.time
     = subst (λ (ms : List Moment). p.version ≤ held_version p.handler.0 ((state w ms).nodes (event_node w m.cause)).exchange) (sym found.1) (omega (arith, grows, first)) in
     let passed = paths_pass w net (newer ++ m ∷ before) p.handler.0 (event_node w m.cause) b m.time xs come lead windows done in
     omega (arith, holds, passed)

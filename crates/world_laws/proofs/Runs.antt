@@ -8,7 +8,7 @@ use Rattle.world_rules.specs.World.{World}
 use Rattle.world_rules.specs.State.{Moment, state}
 use Rattle.world_rules.specs.Run.{HaveCome, IsDone}
 use Rattle.world_laws.specs.Times.{last_time}
-use Rattle.world_laws.specs.Passing.{up_to, held_at, IsBetween}
+use Rattle.world_laws.specs.Passing.{up_to, version_at, IsBetween}
 use Rattle.world_laws.proofs.Points.{earlier-come}
 use Rattle.world_laws.proofs.Installs.{held_never_falls}
 use Rattle.world_laws.proofs.HopBound.{times-rise, head-is, tail-is}
@@ -47,10 +47,10 @@ up-to-last t (m ∷ before) = by (nat_le m.time t) refl (up-to-last t before) wh
 
 pub done-up-to : (w : World) (t : ℕ) (ms : List Moment) → HaveCome w ms → IsDone (state w ms) t → IsDone (state w (up_to t ms)) t
 done-up-to w t [] come done = done
-done-up-to w t (m ∷ before) come done = by (nat_le m.time t) refl where
-  by : (b : Bool) → nat_le m.time t ≡ b → IsDone (state w (if b then m ∷ before else up_to t before)) t
-  by true is = done
-  by false is = done-up-to w t before come.0 (λ u early. come.1.next.none_before u (let past : t < m.time = leb-false _ _ is in omega (arith, early, past)))
+done-up-to w t (m ∷ before) come done = by (nat_le m.time t) refl (λ d. done-up-to w t before come.0 d) where
+  by : (b : Bool) → nat_le m.time t ≡ b → (IsDone (state w before) t → IsDone (state w (up_to t before)) t) → IsDone (state w (if b then m ∷ before else up_to t before)) t
+  by true is rest = done
+  by false is rest = rest (λ u early. come.1.next.none_before u (let past : t < m.time = leb-false _ _ is in omega (arith, early, past)))
 
 pub come-up-to : (w : World) (t : ℕ) (ms : List Moment) → HaveCome w ms → HaveCome w (up_to t ms)
 come-up-to w t ms come = earlier-come w (up_to t ms) (behind t ms).later (subst (λ (xs : List Moment). HaveCome w xs) (behind t ms).split come)
@@ -81,10 +81,10 @@ part s e ms less =
     record { later = cut.later; split = cut.split ∙ ap (λ (xs : List Moment). cut.later ++ xs) (up-to-again s e ms less); after = cut.after }
 
 -- what a node holds doesn't fall
-pub held-rises : (w : World) (ms : List Moment) (k h s e : ℕ) → HaveCome w ms → s ≤ e → held_at w ms k h s ≤ held_at w ms k h e
+pub held-rises : (w : World) (ms : List Moment) (k h s e : ℕ) → HaveCome w ms → s ≤ e → version_at w ms k h s ≤ version_at w ms k h e
 held-rises w ms k h s e come less =
     let cut : Part s e ms = part s e ms less in
-    subst (λ (xs : List Moment). held_at w ms k h s ≤ held_version h ((state w xs).nodes k).exchange) (sym cut.split)
+    subst (λ (xs : List Moment). version_at w ms k h s ≤ held_version h ((state w xs).nodes k).exchange) (sym cut.split)
     (held_never_falls w k h (up_to s ms) cut.later (subst (λ (xs : List Moment). HaveCome w xs) cut.split (come-up-to w e ms come)))
 
 pub each-middle : (P : Moment → Type 0) (newer older : List Moment) (m : Moment) → Each P (newer ++ m ∷ older) → P m

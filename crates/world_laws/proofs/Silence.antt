@@ -44,10 +44,10 @@ counted-fragment w hs c packet None is = cc
 counted-fragment w hs c packet (Some h) is = cc
 
 counted-vector : (w : World) (hs : List Happening) (link number : ℕ) (versions : ArrayVec ℕ) → Some (packet_event (bytes_eq versions.items (held_versions (handlers w) hs))) ≡ Some trickle.Consistent → IsOwn w hs (event.Deliver link number (Vector versions))
-counted-vector w hs link number versions is = elim (bytes_eq-Decides versions.items (held_versions (handlers w) hs)) [
-  | inl same ↦ (link, number, versions, refl, same.1)
-  | inr other ↦ (let clash : Some trickle.Inconsistent ≡ Some trickle.Consistent = sym (ap (λ (b : Bool). Some (packet_event b)) other.0) ∙ is in cc)
-]
+counted-vector w hs link number versions is = by (bytes_eq versions.items (held_versions (handlers w) hs)) refl is where
+  by : (b : Bool) → bytes_eq versions.items (held_versions (handlers w) hs) ≡ b → Some (packet_event b) ≡ Some trickle.Consistent → IsOwn w hs (event.Deliver link number (Vector versions))
+  by true same given = (link, number, versions, refl, (bytes_eq-Decides versions.items (held_versions (handlers w) hs)).0 same)
+  by false other given = cc
 
 counted-packet : (w : World) (hs : List Happening) (link number : ℕ) (packet : Packet) → (of_packet w hs packet).timer ≡ Some trickle.Consistent → IsOwn w hs (event.Deliver link number packet)
 counted-packet w hs link number (Vector versions) is = counted-vector w hs link number versions is
@@ -76,7 +76,7 @@ counted w n (event.Due node c inv value) is = cc
 -- ---- what the count is after an event
 
 -- the event is counted; or packets were counted in the running interval before
-Counts : Node → NodeEffect → ℕ → Type 0
+abbrev Counts : Node → NodeEffect → ℕ → Type 0
 Counts n e time = (e.timer ≡ Some trickle.Consistent) ⊎ ((1 ≤ n.timer.running.heard) × ((timer_after n e time).running.begin ≡ n.timer.running.begin))
 
 counts : (n : Node) (e : NodeEffect) (time : ℕ) → 1 ≤ (timer_after n e time).running.heard → Counts n e time
@@ -119,10 +119,11 @@ counted_is_heard w set (m ∷ before) k below come some = elim (eqb_tells k (eve
   | inr other ↦ (let same : ((state w (m ∷ before)).nodes k) ≡ ((state w before).nodes k) = nodes-other w (state w before) m k other.1 in
       subst (λ (n : Node). HeardItsOwn w (m ∷ before) k n.timer.running.begin) (sym same)
       (heard-before w m before k ((state w before).nodes k).timer.running.begin (counted_is_heard w set before k below come.0 (subst (λ (n : Node). 1 ≤ n.timer.running.heard) same some))))
-  | inl same ↦ here same.1
+  | inl same ↦ here same.1 (λ low. counted_is_heard w set before k below come.0 low)
 ] where
-  here : k ≡ event_node w m.cause → HeardItsOwn w (m ∷ before) k ((state w (m ∷ before)).nodes k).timer.running.begin
-  here same = by (counts n (effect_at w (state w before) m) m.time (subst (λ (x : Node). 1 ≤ x.timer.running.heard) now some)) where
+  here : k ≡ event_node w m.cause → (1 ≤ ((state w before).nodes k).timer.running.heard → HeardItsOwn w before k ((state w before).nodes k).timer.running.begin)
+      → HeardItsOwn w (m ∷ before) k ((state w (m ∷ before)).nodes k).timer.running.begin
+  here same rest = by (counts n (effect_at w (state w before) m) m.time (subst (λ (x : Node). 1 ≤ x.timer.running.heard) now some)) where
     n : Node
     n = node_at w (state w before) m
 
@@ -153,7 +154,7 @@ counted_is_heard w set (m ∷ before) k below come some = elim (eqb_tells k (eve
         }
     by (inr was) = subst (λ (t : ℕ). HeardItsOwn w (m ∷ before) k t) (ap (λ (x : Node). x.timer.running.begin) old ∙ sym was.1 ∙ sym (ap (λ (x : Node). x.timer.running.begin) now))
         (heard-before w m before k ((state w before).nodes k).timer.running.begin
-        (counted_is_heard w set before k below come.0 (subst (λ (x : Node). 1 ≤ x.timer.running.heard) (sym old) was.0)))
+        (rest (subst (λ (x : Node). 1 ≤ x.timer.running.heard) (sym old) was.0)))
 
 pub silent_heard_their_own : (w : World) → IsRightSet w.description.trickle → SilentHeardTheirOwn w
 silent_heard_their_own w set ms k below come low keeps = counted_is_heard w set ms k below come (by w.suppress (nat_le ((state w ms).nodes k).timer.set.k ((state w ms).nodes k).timer.running.heard) refl keeps) where

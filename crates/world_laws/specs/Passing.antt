@@ -53,8 +53,8 @@ up_to t [] = []
 up_to t (m ∷ before) = if nat_le m.time t then m ∷ before else up_to t before
 
 -- the version of the handler that a node holds after all events up to a time
-abbrev pub held_at : World → List Moment → ℕ → ℕ → ℕ → ℕ
-held_at w ms k h t = held_version h ((state w (up_to t ms)).nodes k).exchange
+abbrev pub version_at : World → List Moment → ℕ → ℕ → ℕ → ℕ
+version_at w ms k h t = held_version h ((state w (up_to t ms)).nodes k).exchange
 
 -- the event comes after one time and at another at the latest, on top of the events `older`
 pub record IsBetween (ms : List Moment) (start by : ℕ) (m : Moment) (older : List Moment) : Type 0 where
@@ -75,8 +75,8 @@ pub record IsHeardBetween (w : World) (ms : List Moment) (k start by : ℕ) : Ty
 -- its start; the receiver aims at nothing newer then; and the sender's Vector is heard one longest interval before its end,
 -- as it is in each window of three longest intervals where suppression is off.
 pub record IsOpenWindow (w : World) (ms : List Moment) (h : ℕ) (x : Hop) (start by : ℕ) : Type 0 where
-  pub passes : (m : Moment) (older : List Moment) → IsBetween ms start by m older → LetsPass w x h (held_at w ms x.from h start) (state w older) m
-  pub aims : target_version h ((state w (up_to start ms)).nodes x.to).exchange ≤ held_at w ms x.from h start
+  pub passes : (m : Moment) (older : List Moment) → IsBetween ms start by m older → LetsPass w x h (version_at w ms x.from h start) (state w older) m
+  pub aims : target_version h ((state w (up_to start ms)).nodes x.to).exchange ≤ version_at w ms x.from h start
   pub heard : ((w.suppress ≡ false) × (start + 3 * longest w.description.trickle ≤ by))
       ⊎ ((until : ℕ) × (until + longest w.description.trickle ≤ by) × IsHeardBetween w ms x.from start until)
 
@@ -89,9 +89,9 @@ pub record Leg : Type 0 where
   pub lasts : ℕ
 
 -- when the last window ends, if the first is waited for from time t on: the waits and the windows together
-abbrev pub end_of : List Leg → ℕ → ℕ
-end_of [] t = t
-end_of (x ∷ xs) t = end_of xs (t + x.wait + x.lasts)
+abbrev pub path_end : List Leg → ℕ → ℕ
+path_end [] t = t
+path_end (x ∷ xs) t = path_end xs (t + x.wait + x.lasts)
 
 -- the hops lead from a to b, one after the other
 abbrev pub LeadTo : World → ℕ → ℕ → List Leg → Type 0
@@ -115,16 +115,16 @@ pub record IsRightNetwork (w : World) : Type 0 where
 -- what a node holds at a window's start its neighbour holds at the window's end, or something newer
 abbrev pub WindowsPass : World → Type 0
 WindowsPass w = (ms : List Moment) (h : ℕ) (x : Hop) (start by : ℕ) → HaveCome w ms → IsHop w x → start ≤ by
-    → IsOpenWindow w ms h x start by → IsDone (state w ms) by → held_at w ms x.from h start ≤ held_at w ms x.to h by
+    → IsOpenWindow w ms h x start by → IsDone (state w ms) by → version_at w ms x.from h start ≤ version_at w ms x.to h by
 
 -- what a path's first node holds its last one holds at the end of the last window, or something newer
 abbrev pub PathsPass : World → Type 0
 PathsPass w = (ms : List Moment) (h a b t : ℕ) (xs : List Leg) → HaveCome w ms → LeadTo w a b xs → HaveWindows w ms h xs t
-    → IsDone (state w ms) (end_of xs t) → held_at w ms a h t ≤ held_at w ms b h (end_of xs t)
+    → IsDone (state w ms) (path_end xs t) → version_at w ms a h t ≤ version_at w ms b h (path_end xs t)
 
 -- what a line injects on a node the end of a path from there holds at the end of its last window, or something newer
 abbrev pub InjectionsPass : World → Type 0
 InjectionsPass w = (newer before : List Moment) (m : Moment) (i b : ℕ) (p : HeldProgram) (xs : List Leg) → HaveCome w (newer ++ m ∷ before)
     → m.cause ≡ event.Planned i → InjectsAt w i p → LeadTo w (event_node w m.cause) b xs
-    → HaveWindows w (newer ++ m ∷ before) p.handler.0 xs m.time → IsDone (state w (newer ++ m ∷ before)) (end_of xs m.time)
-    → p.version ≤ held_at w (newer ++ m ∷ before) b p.handler.0 (end_of xs m.time)
+    → HaveWindows w (newer ++ m ∷ before) p.handler.0 xs m.time → IsDone (state w (newer ++ m ∷ before)) (path_end xs m.time)
+    → p.version ≤ version_at w (newer ++ m ∷ before) b p.handler.0 (path_end xs m.time)

@@ -34,8 +34,8 @@ pub fn injected_versions_arrive()
 
 /// What the bound takes for granted holds in the world of every description with a right script and its programs, where the
 /// script has suppression off and no link that loses. There each node within reach has its Install entry in time,
-/// and holds this version or a newer one ever after. A right
-/// script is one that the reader accepts, with programs of its lines whose images are capsules': these have 1 to `FRAGMENTS_MAX`
+/// and holds this version or a newer one ever after. Whatever is lost or suppressed, a right script's world is a network over which
+/// versions pass. A right script is one that the reader accepts, with programs of its lines whose images are capsules': these have 1 to `FRAGMENTS_MAX`
 /// fragments, and whatever the losses, no install of such a script is refused.
 pub fn scripts_keep_the_bound()
     ensures lossless { OpenScriptsAreOpen }
