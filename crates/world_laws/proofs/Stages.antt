@@ -80,8 +80,8 @@ stage-fragment w v x now rest by number i t hop on early waits sought = arrived 
   arrived came = to-end w v x (λ k. k ≡ i) now rest came.older came.newer came.moment by mid came.split (
     open-on w v x (came.older ++ now) came.moment mid.lets before.0,
     subst (λ (hs : List Happening). Seeks v (λ k. k ≡ i) hs) (sym there)
-    (fragment-got v hs i (completed_by (own_fragment v i) hs) refl tame before.0.heard_tame before.1
-    (λ least. subst (λ (hs : List Happening). Least v hs) there (least-on w v x (came.older ++ now) came.moment mid.lets least))),
+        (fragment-got v hs i (completed_by (own_fragment v i) hs) refl tame before.0.heard_tame before.1
+        (λ least. subst (λ (hs : List Happening). Least v hs) there (least-on w v x (came.older ++ now) came.moment mid.lets least))),
   ) where
     mid : Middle w v x now came.moment came.older came.newer by
     mid = middle w v x now rest came.older came.newer came.moment by on came.split
