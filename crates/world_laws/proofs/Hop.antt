@@ -17,23 +17,23 @@ use Rattle.world_rules.specs.Cause.{Cause}
 use Rattle.world_rules.specs.Cause as event
 use Rattle.script_steps.specs.declared.world.Link.{Link}
 use Rattle.world_rules.specs.World.{World, handlers, receiver, leaves, links_from, loss, stream_word}
-use Rattle.world_rules.specs.Effect.{Node, NodeEffect, Installing, node_effect, of_packet, event_node, resets}
+use Rattle.world_rules.specs.Effect.{Node, NodeEffect, Installing, of_packet, event_node, resets}
 use Rattle.world_rules.specs.State.{Moment, WorldState, Scheduled, Sending, numbered_sendings, sendings, is_lost, deliveries, next_period, new_interval, packets_of, messages, schedules, node_at, effect_at, after_moment, state}
-use Rattle.world_rules.specs.Run.{MayCome, HaveCome, IsDone}
+use Rattle.world_rules.specs.Run.{HaveCome, IsDone}
 use Rattle.world_laws.specs.Hops.{HasLink}
-use Rattle.world_laws.specs.Newest.{Version, IsWorldVersion, IsNewest}
-use Rattle.world_laws.specs.Spread.{IsQuiet, AreQuiet}
-use Rattle.mate_num.specs.Lists.{Among}
-use Rattle.mate_num.proofs.ListLemmas.{each-push, each_over-behind, among-left, among-right, among-filter, none-among}
+use Rattle.world_laws.specs.Newest.{Version, IsWorldVersion}
+use Rattle.world_laws.specs.Slots.{IsSparing}
+use Rattle.world_laws.specs.Passing.{Hop, LosesNone}
+use Rattle.mate_num.specs.Lists.{Among, EachOver}
+use Rattle.mate_num.proofs.ListLemmas.{each-push, among-left, among-right, among-filter, none-among}
 use Rattle.world_laws.specs.Causes.{HasEvent}
 use Rattle.world_laws.proofs.Comes.{come-along}
 use Rattle.world_laws.proofs.Due.{at, due-new}
-use Rattle.world_laws.proofs.Points.{nodes-here, nodes-other, among-next, among-range, among-map_of, earlier-come}
-use Rattle.world_laws.proofs.Happens.{Happens, nothing, injected, heard, completed, forgot, sent, happens, Installer, installer}
-use Rattle.world_laws.proofs.Collect.{IsTame, AreTame, Has, target-most, parts-alike, target-stays, target-set, has-stays, asks-gap}
-use Rattle.world_laws.proofs.Tame.{IsTameNode, IsTameWorld, run-tame}
+use Rattle.world_laws.proofs.Points.{nodes-here, nodes-other, among-range, among-map_of}
+use Rattle.world_laws.proofs.Happens.{Happens, nothing, injected, heard, completed, forgot, sent, happens}
+use Rattle.world_laws.proofs.Collect.{IsTame, AreTame, Has, parts-alike, target-stays, target-set, has-stays, asks-gap, complete-stays, complete-other}
 
--- ---- who holds the version goes on to hold it
+-- ---- a completed target
 
 completed-target : (p : Packet) (hs : List Happening) (g : HandlerId) → completed_by p hs ≡ Some g → 1 ≤ target_version g.0 (Hears p ∷ hs)
 completed-target (Fragment k version index count large bytes) hs g by_g = own (nat_lt (complete_version k.0 hs) (complete_version k.0 (Hears packet ∷ hs))) refl by_g where
@@ -54,9 +54,7 @@ completed-target (Fragment k version index count large bytes) hs g by_g = own (n
   own false more given = cc
 completed-target _ hs g by_g = cc
 
--- no program of the handler is injected
-abbrev NoneInjected : Version → Cause → NodeEffect → Type 0
-NoneInjected v c e = (x : ℕ) (p : HeldProgram) → c ≡ event.Planned x → e.deed ≡ Installing p → p.handler.0 ≡ v.handler → ⊥
+-- ---- what an event does to a node that holds the version, and to one that seeks it
 
 installs_else : (v : Version) (g version : ℕ) (image : List ℕ) (hs : List Happening) → g ≢ v.handler → held_version v.handler (Installs g version image ∷ hs) ≡ held_version v.handler hs
 installs_else v g version image hs other = elim (eqb_tells g v.handler) [ inl e ↦ absurd (other e.1) | inr e ↦ rw e.0 refl ]
@@ -64,37 +62,97 @@ installs_else v g version image hs other = elim (eqb_tells g v.handler) [ inl e 
 installs_own : (v : Version) (g version : ℕ) (image : List ℕ) (hs : List Happening) → g ≡ v.handler → held_version v.handler (Installs g version image ∷ hs) ≡ version
 installs_own v g version image hs same = elim (eqb_tells g v.handler) [ inl e ↦ rw e.0 refl | inr e ↦ absurd (e.1 same) ]
 
-pub held-stays : (w : World) (v : Version) (hs : List Happening) (c : Cause) (e : NodeEffect) → Happens w hs c e → NoneInjected v c e → ((j number : ℕ) (p : Packet) → c ≡ event.Deliver j number p → IsTame v p)
-    → IsTameNode v hs → held_version v.handler hs ≡ v.version → held_version v.handler (e.happened ++ hs) ≡ v.version
-held-stays w v hs c e how none tame node holds = by how where
+-- holds the version with its image
+abbrev pub Holder : Version → List Happening → Type 0
+Holder v hs = (held_version v.handler hs ≡ v.version) × (held_image v.handler hs ≡ v.image)
+
+holder-installs : (v : Version) (g version : ℕ) (image : List ℕ) (hs : List Happening) → g ≢ v.handler → Holder v hs → Holder v (Installs g version image ∷ hs)
+holder-installs v g version image hs other holds = elim (eqb_tells g v.handler) [ inl e ↦ absurd (other e.1) | inr e ↦ (rw e.0 holds.0, rw e.0 holds.1) ]
+
+pub holder-step : (w : World) (v : Version) (hs : List Happening) (c : Cause) (e : NodeEffect) → Happens w hs c e → ((p : HeldProgram) → e.deed ≡ Installing p → p.handler.0 ≡ v.handler → ⊥) → Holder v hs → Holder v (e.happened ++ hs)
+holder-step w v hs c e how none holds = by how where
   Goal : List Happening → Type 0
-  Goal new = held_version v.handler (new ++ hs) ≡ v.version
+  Goal new = Holder v (new ++ hs)
 
-  by : Happens w hs c e → held_version v.handler (e.happened ++ hs) ≡ v.version
+  by : Happens w hs c e → Holder v (e.happened ++ hs)
   by (nothing is) = subst Goal (sym is) holds
-  by (injected x p cause is deed) = subst Goal (sym is) (installs_else v p.handler.0 p.version p.image.items hs (λ same. none x p cause deed same) ∙ holds)
-  by (heard j number packet cause is by_none) = subst Goal (sym is) holds
+  by (injected x p cause is deed) = subst Goal (sym is) (holder-installs v p.handler.0 p.version p.image.items hs (λ own. none p deed own) holds)
+  by (heard j number packet cause is by_none) = subst Goal (sym is) (holds.0, holds.1)
+  by (completed j number packet p cause is deed complete same) = subst Goal (sym is) (holder-installs v p.handler.0 p.version p.image.items (Hears packet ∷ hs) (λ own. none p deed own) (holds.0, holds.1))
+  by (forgot is deed) = subst Goal (sym is) (holds.0, holds.1)
+  by (sent k slot cause is next) = subst Goal (sym is) (holds.0, holds.1)
+
+-- lines inject the version or a newer one
+abbrev pub InjectsNoOlder : Version → Cause → NodeEffect → Type 0
+InjectsNoOlder v c e = (x : ℕ) (p : HeldProgram) → c ≡ event.Planned x → e.deed ≡ Installing p → p.handler.0 ≡ v.handler → v.version ≤ p.version
+
+-- the event brings nothing newer than the version, and of it only fragments of its image
+abbrev pub BringsTame : Version → Cause → Type 0
+BringsTame v c = (j number : ℕ) (p : Packet) → c ≡ event.Deliver j number p → IsTame v p
+
+-- what was heard is of the version or of older ones, and nothing complete waits
+pub record IsOpenTo (v : Version) (hs : List Happening) : Type 0 where
+  pub heard_tame : AreTame v (heard_since v.handler hs)
+  pub none_waits : complete_version v.handler hs ≡ 0
+
+open-installs : (v : Version) (g version : ℕ) (image : List ℕ) (hs : List Happening) → (g ≢ v.handler → AreTame v (heard_since v.handler hs) × (complete_version v.handler hs ≡ 0)) → IsOpenTo v (Installs g version image ∷ hs)
+open-installs v g version image hs old = elim (eqb_tells g v.handler) [
+  | inl e ↦ record { heard_tame = rw e.0 tt; none_waits = rw e.0 refl }
+  | inr e ↦ record { heard_tame = rw e.0 (old e.1).0; none_waits = rw e.0 (old e.1).1 }
+]
+
+open-step : (w : World) (v : Version) (hs : List Happening) (c : Cause) (e : NodeEffect) → Happens w hs c e → BringsTame v c → IsOpenTo v hs → IsOpenTo v (e.happened ++ hs)
+open-step w v hs c e how tame old = by how where
+  Goal : List Happening → Type 0
+  Goal new = IsOpenTo v (new ++ hs)
+
+  by : Happens w hs c e → IsOpenTo v (e.happened ++ hs)
+  by (nothing is) = subst Goal (sym is) old
+  by (injected x p cause is deed) = subst Goal (sym is) (open-installs v p.handler.0 p.version p.image.items hs (λ other. (old.heard_tame, old.none_waits)))
+  by (heard j number packet cause is none) = subst Goal (sym is) (record {
+    heard_tame = each-push (IsTame v) (heard_since v.handler hs) packet old.heard_tame (tame j number packet cause);
+    none_waits = complete-stays v.handler packet hs none old.none_waits;
+  })
+  by (completed j number packet p cause is deed complete same) = subst Goal (sym is) (open-installs v p.handler.0 p.version p.image.items (Hears packet ∷ hs)
+      (λ other. (each-push (IsTame v) (heard_since v.handler hs) packet old.heard_tame (tame j number packet cause), complete-other v.handler packet hs p.handler complete other old.none_waits)))
+  by (forgot is deed) = subst Goal (sym is) (record { heard_tame = tt; none_waits = refl })
+  by (sent k slot cause is next) = subst Goal (sym is) (record { heard_tame = old.heard_tame; none_waits = old.none_waits })
+
+-- holds the version or a newer one
+abbrev pub Least : Version → List Happening → Type 0
+Least v hs = v.version ≤ held_version v.handler hs
+
+least-step : (w : World) (v : Version) (hs : List Happening) (c : Cause) (e : NodeEffect) → Happens w hs c e → InjectsNoOlder v c e → Least v hs → Least v (e.happened ++ hs)
+least-step w v hs c e how rising least = by how where
+  Goal : List Happening → Type 0
+  Goal new = v.version ≤ held_version v.handler (new ++ hs)
+
+  by : Happens w hs c e → v.version ≤ held_version v.handler (e.happened ++ hs)
+  by (nothing is) = subst Goal (sym is) least
+  by (injected x p cause is deed) = subst Goal (sym is) (elim (eqb_tells p.handler.0 v.handler) [
+    | inl own ↦ subst (λ (n : ℕ). v.version ≤ n) (sym (installs_own v p.handler.0 p.version p.image.items hs own.1)) (rising x p cause deed own.1)
+    | inr other ↦ subst (λ (n : ℕ). v.version ≤ n) (sym (installs_else v p.handler.0 p.version p.image.items hs other.1)) least
+  ])
+  by (heard j number packet cause is by_none) = subst Goal (sym is) least
   by (completed j number packet p cause is deed complete same) = subst Goal (sym is) (elim (eqb_tells p.handler.0 v.handler) [
-    | inr other ↦ installs_else v p.handler.0 p.version p.image.items (Hears packet ∷ hs) other.1 ∙ holds
-    | inl own ↦ absurd (clash own.1 (target_over v.handler (Hears packet ∷ hs)))
+    | inl own ↦ subst (λ (n : ℕ). v.version ≤ n) (sym (installs_own v p.handler.0 p.version p.image.items (Hears packet ∷ hs) own.1)) (over own.1 (target_over v.handler (Hears packet ∷ hs)))
+    | inr other ↦ subst (λ (n : ℕ). v.version ≤ n) (sym (installs_else v p.handler.0 p.version p.image.items (Hears packet ∷ hs) other.1)) least
   ]) where
-    most : target_version v.handler (Hears packet ∷ hs) ≤ v.version
-    most = target-most v (Hears packet ∷ hs) (each-push (IsTame v) (heard_since v.handler hs) packet node.heard_tame (tame j number packet cause))
-
-    clash : p.handler.0 ≡ v.handler → (target_version v.handler (Hears packet ∷ hs) ≡ 0) ⊎ (held_version v.handler (Hears packet ∷ hs) < target_version v.handler (Hears packet ∷ hs)) → ⊥
-    clash own (inl zero_is) = let some : 1 ≤ target_version v.handler (Hears packet ∷ hs) = subst (λ (h : ℕ). 1 ≤ target_version h (Hears packet ∷ hs)) own (completed-target packet hs p.handler complete) in omega (arith, some, zero_is)
-    clash own (inr over) = let same_held : held_version v.handler (Hears packet ∷ hs) ≡ v.version = holds in omega (arith, over, most, same_held)
-  by (forgot is deed) = subst Goal (sym is) holds
-  by (sent k slot cause is next) = subst Goal (sym is) holds
-
--- ---- who seeks the version goes on to seek it, with what was collected, or holds it
+    over : p.handler.0 ≡ v.handler → (target_version v.handler (Hears packet ∷ hs) ≡ 0) ⊎ (held_version v.handler (Hears packet ∷ hs) < target_version v.handler (Hears packet ∷ hs)) → v.version ≤ p.version
+    over own (inl zero_is) = let some : 1 ≤ target_version v.handler (Hears packet ∷ hs) = subst (λ (h : ℕ). 1 ≤ target_version h (Hears packet ∷ hs)) own (completed-target packet hs p.handler complete) in absurd (omega (arith, some, zero_is))
+    over own (inr above) =
+        let version_is : p.version ≡ target_version v.handler (Hears packet ∷ hs) = ap (λ (q : HeldProgram). q.version) same ∙ ap (λ (h : ℕ). target_version h (Hears packet ∷ hs)) own in
+        let held_is : v.version ≤ held_version v.handler (Hears packet ∷ hs) = least in
+        omega (arith, above, held_is, version_is)
+  by (forgot is deed) = subst Goal (sym is) least
+  by (sent k slot cause is next) = subst Goal (sym is) least
 
 abbrev pub Aims : Version → List Happening → Type 0
 Aims v hs = (target_version v.handler hs ≡ v.version) × (held_version v.handler hs < v.version)
 
--- seeks, and has collected what is told of the indices
+-- seeks, and has collected what is told of the indices; or holds the version or a newer one
 abbrev pub Seeks : Version → (ℕ → Type 0) → List Happening → Type 0
-Seeks v Wanted hs = (held_version v.handler hs ≡ v.version) ⊎ (Aims v hs × ((i : ℕ) → Wanted i → Has (target_parts v.handler hs) i))
+Seeks v Wanted hs = Least v hs ⊎ (Aims v hs × ((i : ℕ) → Wanted i → Has (target_parts v.handler hs) i))
 
 hears-on : (v : Version) (Wanted : ℕ → Type 0) (hs : List Happening) (p : Packet) → IsTame v p → Aims v hs → ((i : ℕ) → Wanted i → Has (target_parts v.handler hs) i)
     → Aims v (Hears p ∷ hs) × ((i : ℕ) → Wanted i → Has (target_parts v.handler (Hears p ∷ hs)) i)
@@ -107,109 +165,120 @@ installs-on v Wanted g version image hs other aims has = elim (eqb_tells g v.han
   | inr e ↦ ((rw e.0 aims.0, rw e.0 aims.1), λ i wanted. rw e.0 (has i wanted))
 ]
 
-pub seeks-on : (w : World) (v : Version) (Wanted : ℕ → Type 0) (hs : List Happening) (c : Cause) (e : NodeEffect) → Happens w hs c e → NoneInjected v c e → resets e.deed ≡ false
-    → ((j number : ℕ) (p : Packet) → c ≡ event.Deliver j number p → IsTame v p) → IsTameNode v hs → Seeks v Wanted hs → Seeks v Wanted (e.happened ++ hs)
-seeks-on w v Wanted hs c e how none no_reset tame node (inl holds) = inl (held-stays w v hs c e how none tame node holds)
-seeks-on w v Wanted hs c e how none no_reset tame node (inr seeks) = by how where
+seeks-on : (w : World) (v : Version) (Wanted : ℕ → Type 0) (hs : List Happening) (c : Cause) (e : NodeEffect) → Happens w hs c e → InjectsNoOlder v c e → resets e.deed ≡ false → BringsTame v c
+    → Seeks v Wanted hs → Seeks v Wanted (e.happened ++ hs)
+seeks-on w v Wanted hs c e how rising no_reset tame (inl least) = inl (least-step w v hs c e how rising least)
+seeks-on w v Wanted hs c e how rising no_reset tame (inr seeks) = by how where
   Goal : List Happening → Type 0
   Goal new = Seeks v Wanted (new ++ hs)
 
   by : Happens w hs c e → Seeks v Wanted (e.happened ++ hs)
   by (nothing is) = subst Goal (sym is) (inr seeks)
-  by (injected x p cause is deed) = subst Goal (sym is) (inr (installs-on v Wanted p.handler.0 p.version p.image.items hs (λ same. none x p cause deed same) seeks.0 seeks.1))
+  by (injected x p cause is deed) = subst Goal (sym is) (elim (eqb_tells p.handler.0 v.handler) [
+    | inl own ↦ inl (subst (λ (n : ℕ). v.version ≤ n) (sym (installs_own v p.handler.0 p.version p.image.items hs own.1)) (rising x p cause deed own.1))
+    | inr other ↦ inr (installs-on v Wanted p.handler.0 p.version p.image.items hs other.1 seeks.0 seeks.1)
+  ])
   by (heard j number packet cause is by_none) = subst Goal (sym is) (inr (hears-on v Wanted hs packet (tame j number packet cause) seeks.0 seeks.1))
   by (completed j number packet p cause is deed complete same) =
       let on = hears-on v Wanted hs packet (tame j number packet cause) seeks.0 seeks.1 in
       subst Goal (sym is) (elim (eqb_tells p.handler.0 v.handler) [
-        | inl own ↦ inl (installs_own v p.handler.0 p.version p.image.items (Hears packet ∷ hs) own.1
-            ∙ ap (λ (q : HeldProgram). q.version) same ∙ ap (λ (h : ℕ). target_version h (Hears packet ∷ hs)) own.1 ∙ on.0.0)
+        | inl own ↦ (let held : held_version v.handler (Installs p.handler.0 p.version p.image.items ∷ Hears packet ∷ hs) ≡ v.version
+            = installs_own v p.handler.0 p.version p.image.items (Hears packet ∷ hs) own.1 ∙ ap (λ (q : HeldProgram). q.version) same ∙ ap (λ (h : ℕ). target_version h (Hears packet ∷ hs)) own.1 ∙ on.0.0 in
+            inl (subst (λ (n : ℕ). v.version ≤ n) (sym held) (omega arith)))
         | inr other ↦ inr (installs-on v Wanted p.handler.0 p.version p.image.items (Hears packet ∷ hs) other.1 on.0 on.1)
       ])
   by (forgot is deed) = let clash : true ≡ false = sym (ap resets deed) ∙ no_reset in cc
   by (sent k slot cause is next) = subst Goal (sym is) (inr seeks)
 
--- nothing of the handler is installed where the version is held
-pub no-install : (w : World) (v : Version) (n : Node) (c : Cause) → NoneInjected v c (node_effect w n c) → ((j number : ℕ) (p : Packet) → c ≡ event.Deliver j number p → IsTame v p)
-    → IsTameNode v n.exchange → held_version v.handler n.exchange ≡ v.version → (p : HeldProgram) → (node_effect w n c).deed ≡ Installing p → p.handler.0 ≡ v.handler → ⊥
-no-install w v n c none tame node holds p deed own = by (installer w n c p deed) where
-  by : Installer c n.exchange p → ⊥
-  by (inl line) = none line.0 p line.1 deed own
-  by (inr got) = over (target_over v.handler (Hears got.2 ∷ n.exchange)) where
-    most : target_version v.handler (Hears got.2 ∷ n.exchange) ≤ v.version
-    most = target-most v (Hears got.2 ∷ n.exchange) (each-push (IsTame v) (heard_since v.handler n.exchange) got.2 node.heard_tame (tame got.0 got.1 got.2 got.3))
-
-    some : 1 ≤ target_version v.handler (Hears got.2 ∷ n.exchange)
-    some = subst (λ (h : ℕ). 1 ≤ target_version h (Hears got.2 ∷ n.exchange)) own (completed-target got.2 n.exchange p.handler got.4)
-
-    over : (target_version v.handler (Hears got.2 ∷ n.exchange) ≡ 0) ⊎ (held_version v.handler (Hears got.2 ∷ n.exchange) < target_version v.handler (Hears got.2 ∷ n.exchange)) → ⊥
-    over (inl zero_is) = omega (arith, some, zero_is)
-    over (inr above) = let same_held : held_version v.handler (Hears got.2 ∷ n.exchange) ≡ v.version = holds in omega (arith, above, most, same_held)
+-- seeks the version, and nothing stands in its way
+abbrev pub Sought : Version → (ℕ → Type 0) → List Happening → Type 0
+Sought v Wanted hs = IsOpenTo v hs × Seeks v Wanted hs
 
 -- ---- along a run
 
--- what is known of a node's exchange, where it is kept by each event
-pub record Stays (w : World) (v : Version) (Q : List Happening → Type 0) : Type 0 where
-  pub step : (hs : List Happening) (c : Cause) (e : NodeEffect) → Happens w hs c e → NoneInjected v c e → resets e.deed ≡ false
-      → ((j number : ℕ) (p : Packet) → c ≡ event.Deliver j number p → IsTame v p) → IsTameNode v hs → Q hs → Q (e.happened ++ hs)
+-- what is asked of an event: of the sender's, and of the receiver's
+pub record Lets (w : World) (v : Version) (x : Hop) (s : WorldState) (m : Moment) : Type 0 where
+  pub spares : IsSparing w s m x.from v.handler
+  pub there : event_node w m.cause ≡ x.from → LosesNone w x.there s m
+  pub no_reset : event_node w m.cause ≡ x.to → resets (effect_at w s m).deed ≡ false
+  pub rising : event_node w m.cause ≡ x.to → InjectsNoOlder v m.cause (effect_at w s m)
+  pub tame : event_node w m.cause ≡ x.to → BringsTame v m.cause
+  pub back : event_node w m.cause ≡ x.to → LosesNone w x.back s m
 
-pub tame-cause : (w : World) (v : Version) (s : WorldState) (m : Moment) → MayCome w s m → IsTameWorld w v s → (j number : ℕ) (p : Packet) → m.cause ≡ event.Deliver j number p → IsTame v p
-tame-cause w v s m may tame j number p is = tame.air m.time j number p (subst (λ (c : Cause). Among c (s.due m.time)) is (among-next s m.time m.cause may.next))
+abbrev pub LetAll : World → Version → Hop → List Moment → List Moment → Type 0
+LetAll w v x now = EachOver (λ m later. Lets w v x (state w (later ++ now)) m)
 
-pub node-stays : (w : World) (v : Version) (Q : List Happening → Type 0) (s : WorldState) (m : Moment) (k : ℕ) → Stays w v Q → MayCome w s m → IsTameWorld w v s → IsQuiet w v.handler s m
+node-keeps : (w : World) (Q : List Happening → Type 0) (s : WorldState) (m : Moment) (k : ℕ) → (event_node w m.cause ≡ k → Q (node_at w s m).exchange → Q ((effect_at w s m).happened ++ (node_at w s m).exchange))
     → Q (s.nodes k).exchange → Q ((after_moment w s m).nodes k).exchange
-node-stays w v Q s m k stays may tame quiet q = elim (eqb_tells k (event_node w m.cause)) [
+node-keeps w Q s m k keep q = elim (eqb_tells k (event_node w m.cause)) [
   | inr other ↦ subst (λ (n : Node). Q n.exchange) (sym (nodes-other w s m k other.1)) q
   | inl same ↦ subst (λ (i : ℕ). Q ((after_moment w s m).nodes i).exchange) (sym same.1)
-      (subst (λ (n : Node). Q n.exchange) (sym (nodes-here w s m))
-      (stays.step (node_at w s m).exchange m.cause (effect_at w s m) (happens w (node_at w s m) m.cause) quiet.no_inject quiet.no_reset (tame-cause w v s m may tame)
-      (tame.nodes (event_node w m.cause)) (subst (λ (i : ℕ). Q (s.nodes i).exchange) same.1 q)))
+      (subst (λ (n : Node). Q n.exchange) (sym (nodes-here w s m)) (keep (sym same.1) (subst (λ (i : ℕ). Q (s.nodes i).exchange) same.1 q)))
 ]
 
+-- a fact of a node's exchange at a place of the run
+abbrev pub At : World → (List Happening → Type 0) → ℕ → List Moment → Type 0
+At w Q k ms = Q ((state w ms).nodes k).exchange
+
+pub holder-on : (w : World) (v : Version) (x : Hop) (now : List Moment) (m : Moment) → Lets w v x (state w now) m → At w (Holder v) x.from now → At w (Holder v) x.from (m ∷ now)
+holder-on w v x now m lets holds = node-keeps w (Holder v) (state w now) m x.from (λ here old. holder-step w v (node_at w (state w now) m).exchange m.cause (effect_at w (state w now) m) (happens w (node_at w (state w now) m) m.cause)
+    (λ p deed own. lets.spares.no_install p here deed own) old) holds
+
+pub least-on : (w : World) (v : Version) (x : Hop) (now : List Moment) (m : Moment) → Lets w v x (state w now) m → At w (Least v) x.to now → At w (Least v) x.to (m ∷ now)
+least-on w v x now m lets least = node-keeps w (Least v) (state w now) m x.to (λ here old. least-step w v (node_at w (state w now) m).exchange m.cause (effect_at w (state w now) m) (happens w (node_at w (state w now) m) m.cause)
+    (lets.rising here) old) least
+
+pub sought-on : (w : World) (v : Version) (x : Hop) (Wanted : ℕ → Type 0) (now : List Moment) (m : Moment) → Lets w v x (state w now) m → At w (Sought v Wanted) x.to now → At w (Sought v Wanted) x.to (m ∷ now)
+sought-on w v x Wanted now m lets sought = node-keeps w (Sought v Wanted) (state w now) m x.to (λ here old. (
+  open-step w v (node_at w (state w now) m).exchange m.cause (effect_at w (state w now) m) (happens w (node_at w (state w now) m) m.cause) (lets.tame here) old.0,
+  seeks-on w v Wanted (node_at w (state w now) m).exchange m.cause (effect_at w (state w now) m) (happens w (node_at w (state w now) m) m.cause) (lets.rising here) (lets.no_reset here) (lets.tame here) old.1,
+)) sought
+
+pub open-on : (w : World) (v : Version) (x : Hop) (now : List Moment) (m : Moment) → Lets w v x (state w now) m → At w (IsOpenTo v) x.to now → At w (IsOpenTo v) x.to (m ∷ now)
+open-on w v x now m lets old = node-keeps w (IsOpenTo v) (state w now) m x.to
+    (λ here old. open-step w v (node_at w (state w now) m).exchange m.cause (effect_at w (state w now) m) (happens w (node_at w (state w now) m) m.cause) (lets.tame here) old) old
+
+pub holder-along : (w : World) (v : Version) (x : Hop) (now rest : List Moment) → LetAll w v x now rest → At w (Holder v) x.from now → At w (Holder v) x.from (rest ++ now)
+holder-along w v x now [] let_all holds = holds
+holder-along w v x now (m ∷ rest) let_all holds = holder-on w v x (rest ++ now) m let_all.1 (holder-along w v x now rest let_all.0 holds)
+
+pub open-along : (w : World) (v : Version) (x : Hop) (now rest : List Moment) → LetAll w v x now rest → At w (IsOpenTo v) x.to now → At w (IsOpenTo v) x.to (rest ++ now)
+open-along w v x now [] let_all old = old
+open-along w v x now (m ∷ rest) let_all old = open-on w v x (rest ++ now) m let_all.1 (open-along w v x now rest let_all.0 old)
+
+pub sought-along : (w : World) (v : Version) (x : Hop) (Wanted : ℕ → Type 0) (now rest : List Moment) → LetAll w v x now rest → At w (Sought v Wanted) x.to now → At w (Sought v Wanted) x.to (rest ++ now)
+sought-along w v x Wanted now [] let_all sought = sought
+sought-along w v x Wanted now (m ∷ rest) let_all sought = sought-on w v x Wanted (rest ++ now) m let_all.1 (sought-along w v x Wanted now rest let_all.0 sought)
+
 -- a part of a run, from `now` on, up to a time at which all is done
-pub record Onward (w : World) (v : Version) (now rest : List Moment) (by : ℕ) : Type 0 where
+pub record Onward (w : World) (v : Version) (x : Hop) (now rest : List Moment) (by : ℕ) : Type 0 where
   pub come : HaveCome w (rest ++ now)
-  pub newest : IsNewest w v (rest ++ now)
-  pub quiet : AreQuiet w v.handler now rest
+  pub let_all : LetAll w v x now rest
   pub done : IsDone (state w (rest ++ now)) by
 
-pub stays-along : (w : World) (v : Version) (Q : List Happening → Type 0) (k : ℕ) (now rest : List Moment) → IsWorldVersion w v → Stays w v Q → HaveCome w (rest ++ now) → IsNewest w v (rest ++ now) → AreQuiet w v.handler now rest
-    → Q ((state w now).nodes k).exchange → Q ((state w (rest ++ now)).nodes k).exchange
-stays-along w v Q k now [] right stays come newest quiet q = q
-stays-along w v Q k now (m ∷ rest) right stays come newest quiet q =
-    node-stays w v Q (state w (rest ++ now)) m k stays come.1 (run-tame w v (rest ++ now) right come.0 newest.0) quiet.1 (stays-along w v Q k now rest right stays come.0 newest.0 quiet.0 q)
-
 -- an event in the middle: the run up to it, and from it on
-pub record Middle (w : World) (v : Version) (now : List Moment) (m : Moment) (older newer : List Moment) (by : ℕ) : Type 0 where
-  pub come : HaveCome w (m ∷ (older ++ now))
-  pub newest : IsNewest w v (m ∷ (older ++ now))
-  pub quiet_before : AreQuiet w v.handler now older
-  pub quiet : IsQuiet w v.handler (state w (older ++ now)) m
-  pub onward : Onward w v (m ∷ (older ++ now)) newer by
+pub record Middle (w : World) (v : Version) (x : Hop) (now : List Moment) (m : Moment) (older newer : List Moment) (by : ℕ) : Type 0 where
+  pub lets_before : LetAll w v x now older
+  pub lets : Lets w v x (state w (older ++ now)) m
+  pub onward : Onward w v x (m ∷ (older ++ now)) newer by
 
-pub newest-earlier : (w : World) (v : Version) (before later : List Moment) → IsNewest w v (later ++ before) → IsNewest w v before
-newest-earlier w v before later h = each_over-behind _ later before h
+lets-split : (w : World) (v : Version) (x : Hop) (now older newer : List Moment) (m : Moment) → LetAll w v x now (newer ++ m ∷ older)
+    → LetAll w v x now older × Lets w v x (state w (older ++ now)) m × LetAll w v x (m ∷ (older ++ now)) newer
+lets-split w v x now older [] m let_all = (let_all.0, let_all.1, tt)
+lets-split w v x now older (y ∷ newer) m let_all =
+    let rest = lets-split w v x now older newer m let_all.0 in
+    (rest.0, rest.1, (rest.2, subst (λ (ms : List Moment). Lets w v x (state w ms) y) (append_assoc newer (m ∷ older) now) let_all.1))
 
-quiet-split : (w : World) (h : ℕ) (now older newer : List Moment) (m : Moment) → AreQuiet w h now (newer ++ m ∷ older) → AreQuiet w h now older × IsQuiet w h (state w (older ++ now)) m × AreQuiet w h (m ∷ (older ++ now)) newer
-quiet-split w h now older [] m quiet = (quiet.0, quiet.1, tt)
-quiet-split w h now older (x ∷ newer) m quiet =
-    let rest = quiet-split w h now older newer m quiet.0 in
-    (rest.0, rest.1, (rest.2, subst (λ (ms : List Moment). IsQuiet w h (state w ms) x) (append_assoc newer (m ∷ older) now) quiet.1))
-
-pub middle : (w : World) (v : Version) (now rest older newer : List Moment) (m : Moment) (by : ℕ) → Onward w v now rest by → rest ≡ newer ++ m ∷ older → Middle w v now m older newer by
-middle w v now rest older newer m by on is =
+pub middle : (w : World) (v : Version) (x : Hop) (now rest older newer : List Moment) (m : Moment) (by : ℕ) → Onward w v x now rest by → rest ≡ newer ++ m ∷ older → Middle w v x now m older newer by
+middle w v x now rest older newer m by on is =
     let whole : rest ++ now ≡ newer ++ (m ∷ (older ++ now)) = ap (λ (ms : List Moment). ms ++ now) is ∙ append_assoc newer (m ∷ older) now in
-    let come : HaveCome w (newer ++ (m ∷ (older ++ now))) = subst (λ (ms : List Moment). HaveCome w ms) whole on.come in
-    let newest : IsNewest w v (newer ++ (m ∷ (older ++ now))) = subst (λ (ms : List Moment). IsNewest w v ms) whole on.newest in
-    let quiet = quiet-split w v.handler now older newer m (subst (λ (ms : List Moment). AreQuiet w v.handler now ms) is on.quiet) in
+    let parts = lets-split w v x now older newer m (subst (λ (ms : List Moment). LetAll w v x now ms) is on.let_all) in
     record {
-      come = earlier-come w (m ∷ (older ++ now)) newer come;
-      newest = newest-earlier w v (m ∷ (older ++ now)) newer newest;
-      quiet_before = quiet.0;
-      quiet = quiet.1;
+      lets_before = parts.0;
+      lets = parts.1;
       onward = record {
-        come = come;
-        newest = newest;
-        quiet = quiet.2;
+        come = subst (λ (ms : List Moment). HaveCome w ms) whole on.come;
+        let_all = parts.2;
         done = subst (λ (ms : List Moment). IsDone (state w ms) by) whole on.done;
       };
     }
@@ -243,16 +312,16 @@ numbered-packet p number before [] a = absurd a
 numbered-packet p number before (q ∷ ps) (inl e) = (record { number = number; before = before; packet = q }, inl refl, e)
 numbered-packet p number before (q ∷ ps) (inr a) = let r = numbered-packet p (suc number) (suc before) ps a in (r.0, inr r.1, r.2)
 
-not_lost : (w : World) (y : Sending) (j : ℕ) → loss w j ≡ 0 → is_lost w y j ≡ false
+pub not_lost : (w : World) (y : Sending) (j : ℕ) → loss w j ≡ 0 → is_lost w y j ≡ false
 not_lost w y j none = by (is_lost w y j) refl where
   by : (b : Bool) → is_lost w y j ≡ b → b ≡ false
   by false is = refl
   by true is = let below : stream_word w (128 + j) y.before % 1000 < loss w j = ltb-true _ _ is in absurd (omega (arith, below, none))
 
 -- a packet that an event sends is due at the other end of each link of its node
-pub sent-due : (w : World) (s : WorldState) (m : Moment) (p : Packet) (j : ℕ) → Among p (packets_of w s m) → Among j (links_from w (event_node w m.cause)) → loss w j ≡ 0
+pub sent-due : (w : World) (s : WorldState) (m : Moment) (p : Packet) (j : ℕ) → Among p (packets_of w s m) → Among j (links_from w (event_node w m.cause)) → LosesNone w j s m
     → (number : ℕ) × Among (event.Deliver j number p) ((after_moment w s m).due (m.time + w.description.radio.delay))
-sent-due w s m p j sends leaves none = (y.0.number, due-new w s m (m.time + w.description.radio.delay) (event.Deliver j y.0.number p) scheduled) where
+sent-due w s m p j sends leaves keeps = (y.0.number, due-new w s m (m.time + w.description.radio.delay) (event.Deliver j y.0.number p) scheduled) where
   node : ℕ
   node = event_node w m.cause
 
@@ -263,7 +332,7 @@ sent-due w s m p j sends leaves none = (y.0.number, due-new w s m (m.time + w.de
   x = at (m.time + w.description.radio.delay) (event.Deliver j y.0.number p)
 
   one : Among x (deliveries w (event_node w m.cause) m.time y.0)
-  one = among-map_of _ x j (links_from w (event_node w m.cause)) leaves (rw (not_lost w y.0 j none) (inl (ap (λ (q : Packet). at (m.time + w.description.radio.delay) (event.Deliver j y.0.number q)) y.2)))
+  one = among-map_of _ x j (links_from w (event_node w m.cause)) leaves (rw (keeps y.0 y.1) (inl (ap (λ (q : Packet). at (m.time + w.description.radio.delay) (event.Deliver j y.0.number q)) y.2)))
 
   scheduled : Among x (schedules w s m)
   scheduled = among-right x (next_period w m.cause m.time) _ (among-right x (new_interval (event_node w m.cause) _ _) _ (among-left x (flat_map (deliveries w (event_node w m.cause) m.time) (sendings w s (event_node w m.cause) (packets_of w s m))) _
@@ -309,24 +378,24 @@ among-map f x (y ∷ xs) (inl e) = inl (ap f e)
 among-map f x (y ∷ xs) (inr a) = inr (among-map f x xs a)
 
 -- a Vector with the version: the node seeks it, and has a fragment or asks for it
-pub vector-got : (w : World) (v : Version) (hs : List Happening) (versions : ArrayVec ℕ) (i : ℕ) → IsWorldVersion w v → IsTameNode v hs → IsTame v (Vector versions) → slice_index versions.items v.handler ≡ v.version → i < count_of v.image
+pub vector-got : (w : World) (v : Version) (hs : List Happening) (versions : ArrayVec ℕ) (i : ℕ) → IsWorldVersion w v → AreTame v (heard_since v.handler hs) → IsTame v (Vector versions) → slice_index versions.items v.handler ≡ v.version → i < count_of v.image
     → Seeks v (λ k. k ≡ i) (Hears (Vector versions) ∷ hs)
     ⊎ (Seeks v (λ k. ⊥) (Hears (Vector versions) ∷ hs) × (missing : ℕ) × Among (own_status v missing) (asks_after (handlers w) (Vector versions) hs) × (bit_at missing i ≡ 1))
-vector-got w v hs versions i right node tame is below = elim (cases_lt (held_version v.handler hs) v.version) [
-  | inr not_less ↦ inl (inl (let most = node.held in omega (arith, not_less, most)))
+vector-got w v hs versions i right all tame is below = elim (cases_lt (held_version v.handler hs) v.version) [
+  | inr not_less ↦ inl (inl (omega (arith, not_less)))
   | inl less ↦ seeking less
 ] where
   new : List Happening
   new = Hears (Vector versions) ∷ hs
 
   tame_new : AreTame v (heard_since v.handler (Hears (Vector versions) ∷ hs))
-  tame_new = each-push (IsTame v) (heard_since v.handler hs) (Vector versions) node.heard_tame tame
+  tame_new = each-push (IsTame v) (heard_since v.handler hs) (Vector versions) all tame
 
   seeking : held_version v.handler hs < v.version → Seeks v (λ k. k ≡ i) (Hears (Vector versions) ∷ hs)
       ⊎ (Seeks v (λ k. ⊥) (Hears (Vector versions) ∷ hs) × (missing : ℕ) × Among (own_status v missing) (asks_after (handlers w) (Vector versions) hs) × (bit_at missing i ≡ 1))
   seeking less = by (is_some (collected_at (target_parts v.handler (Hears (Vector versions) ∷ hs)) i)) refl where
     target : target_version v.handler (Hears (Vector versions) ∷ hs) ≡ v.version
-    target = target-set v hs versions is less node.heard_tame
+    target = target-set v hs versions is less all
 
     missing : ℕ
     missing = mask_of (gaps (places_of (target_parts v.handler (Hears (Vector versions) ∷ hs))))

@@ -36,7 +36,7 @@ times-rise w (m ∷ newer) older x come =
 -- ---- the inject
 
 -- what an inject does to its node
-inject-held : (w : World) (s : WorldState) (m : Moment) (i : ℕ) (p : HeldProgram) → m.cause ≡ event.Planned i → InjectsAt w i p → held_version p.handler.0 ((after_moment w s m).nodes (event_node w m.cause)).exchange ≡ p.version
+pub inject-held : (w : World) (s : WorldState) (m : Moment) (i : ℕ) (p : HeldProgram) → m.cause ≡ event.Planned i → InjectsAt w i p → held_version p.handler.0 ((after_moment w s m).nodes (event_node w m.cause)).exchange ≡ p.version
 inject-held w s m i p is injects =
     subst (λ (n : Node). held_version p.handler.0 n.exchange ≡ p.version) (sym (nodes-here w s m)) (subst Goal (sym effect_is) own) where
       Goal : NodeEffect → Type 0

@@ -40,6 +40,7 @@ marked-within h i (Forgets ∷ hs) is = cc
 -- a fragment is one of an injected program's image
 abbrev pub IsOfInjected : World → List Moment → Packet → Type 0
 IsOfInjected w ms (Fragment g version index count large bytes) = (image : List ℕ) × WasInjected w ms g.0 version image × (count ≡ count_of image) × (bytes.items ≡ piece_at image index)
+    × (large ≡ nat_lt 528 (length image))
 IsOfInjected w ms _ = Unit {0}
 
 abbrev pub AreOfInjected : World → List Moment → List Packet → Type 0
@@ -47,7 +48,7 @@ AreOfInjected w ms = Each (IsOfInjected w ms)
 
 -- a node holds nothing of the handler, or an injected program
 abbrev pub HoldsInjected : World → List Moment → List Happening → ℕ → Type 0
-HoldsInjected w ms hs h = (held_image h hs ≡ []) ⊎ WasInjected w ms h (held_version h hs) (held_image h hs)
+HoldsInjected w ms hs h = ((held_version h hs ≡ 0) × (held_image h hs ≡ [])) ⊎ WasInjected w ms h (held_version h hs) (held_image h hs)
 
 pub later-injected : (w : World) (m : Moment) (ms : List Moment) (h version : ℕ) (image : List ℕ) → WasInjected w ms h version image → WasInjected w (m ∷ ms) h version image
 later-injected w m ms h version image was = record {
@@ -64,7 +65,7 @@ later-injected w m ms h version image was = record {
   image_is = was.image_is;
 }
 
-one-injected : (w : World) (ms : List Moment) (h version : ℕ) (image other : List ℕ) → IsOneImage w → WasInjected w ms h version image → WasInjected w ms h version other → image ≡ other
+pub one-injected : (w : World) (ms : List Moment) (h version : ℕ) (image other : List ℕ) → IsOneImage w → WasInjected w ms h version image → WasInjected w ms h version other → image ≡ other
 one-injected w ms h version image other one a b =
     sym a.image_is ∙ one a.place b.place a.program b.program a.injects b.injects (a.handler ∙ sym b.handler) (a.version_is ∙ sym b.version_is) ∙ b.image_is
 
@@ -122,5 +123,5 @@ sent-injected w ms hs slot holds marked = by (holds (slot / 22)) where
 
   by : HoldsInjected w ms hs (slot / 22) → IsOfInjected w ms (fragment_for hs slot)
   by (inl none) = let below : slot % 22 < count_of (held_image (slot / 22) hs) = ltb-true _ _ within in
-      let no_fragment : slot % 22 < count_of [] = subst (λ (xs : List ℕ). slot % 22 < count_of xs) none below in absurd (omega (arith, no_fragment))
-  by (inr was) = (held_image (slot / 22) hs, was, refl, refl)
+      let no_fragment : slot % 22 < count_of [] = subst (λ (xs : List ℕ). slot % 22 < count_of xs) none.1 below in absurd (omega (arith, no_fragment))
+  by (inr was) = (held_image (slot / 22) hs, was, refl, refl, refl)

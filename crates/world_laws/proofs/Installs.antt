@@ -56,7 +56,7 @@ entry-of w before m p come is = record {
 }
 
 -- it is newer than what the node held
-newer-than : (w : World) (before : List Moment) (m : Moment) (p : HeldProgram) → HaveCome w (m ∷ before) → (effect_at w (state w before) m).deed ≡ Installing p
+pub newer-than : (w : World) (before : List Moment) (m : Moment) (p : HeldProgram) → HaveCome w (m ∷ before) → (effect_at w (state w before) m).deed ≡ Installing p
     → held_version p.handler.0 (node_at w (state w before) m).exchange < p.version
 newer-than w before m p come is =
     subst (λ (n : ℕ). n < p.version) (held_agrees w (event_node w m.cause) p.handler.0 before come.0) (made-install w before m p come is).newer

@@ -35,5 +35,8 @@ pub mod Stages
 pub mod Spreading
 pub mod HopBound
 pub mod Premises
+pub mod Runs
+pub mod Passing
+pub mod Silence
 pub mod Bounds
 pub mod EventLemmas

@@ -56,7 +56,7 @@ completes _ hs h is = cc
 -- ---- by a line
 
 -- what the node holds was injected by an earlier line
-line-newer : (w : World) (before : List Moment) (k h i t : ℕ) (p : HeldProgram) → IsOneImage w → IsPlanTimely w → AreVersionsRising w → HaveCome w before → Among (event.Planned i) ((state w before).due t) → InjectsAt w i p → p.handler.0 ≡ h
+pub line-newer : (w : World) (before : List Moment) (k h i t : ℕ) (p : HeldProgram) → IsOneImage w → IsPlanTimely w → AreVersionsRising w → HaveCome w before → Among (event.Planned i) ((state w before).due t) → InjectsAt w i p → p.handler.0 ≡ h
     → 1 ≤ held_version h ((state w before).nodes k).exchange → held_version h ((state w before).nodes k).exchange < p.version
 line-newer w before k h i t p one timely rising come waits injects handler some = by (held_was_installed w k h before come some) where
   by : WasInstalled w before k h (held_version h ((state w before).nodes k).exchange) → held_version h ((state w before).nodes k).exchange < p.version

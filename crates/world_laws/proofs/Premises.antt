@@ -38,7 +38,7 @@ use Rattle.world_laws.proofs.Installs.{held_was_installed, held_never_falls}
 use Rattle.world_laws.proofs.Newer.{installs_are_newer}
 use Rattle.mate_num.proofs.ListLemmas.{all-at}
 use Rattle.world_laws.proofs.Points.{earlier-come}
-use Rattle.world_laws.specs.Premises.{IsInjectedProgram, IsRightScript, OpenScriptsAreOpen, RightScriptsPlanRightly, CapsulesHaveFewFragments, ScriptsInstallsAreNewer, InjectedAreVersions, InstalledBy, InjectedIsInstalled}
+use Rattle.world_laws.specs.Premises.{IsInjectedProgram, IsRightScript, OpenScriptsAreOpen, RightScriptsPlanRightly, RightScriptsAreNetworks, CapsulesHaveFewFragments, ScriptsInstallsAreNewer, InjectedAreVersions, InstalledBy, InjectedIsInstalled}
 use Rattle.world_laws.specs.HopBound.{HoldsBy, version_of}
 use Rattle.world_laws.proofs.HopBound.{same-line, hop_bound}
 
@@ -219,6 +219,14 @@ injected_are_versions d meaning script programs i p right injects = by (says-inj
 
     install : IsRightWhat d (length script.files) (what.Inject a.program a.handler a.version)
     install = subst (λ (x : What). IsRightWhat d (length script.files) x) a.what_is (all-at (IsRightPlanned d script.nodes script.until (length script.files)) script.events i a.planned right.right.events a.stands).what
+
+pub scripts_are_networks : RightScriptsAreNetworks
+scripts_are_networks d meaning script programs right = record {
+  set = right_set d;
+  round = (bounds_of d).round_fits;
+  plan = plans_rightly d meaning script programs right;
+  versions = λ i p injects. injected_are_versions d meaning script programs i p right injects;
+}
 
 pub scripts_installs_are_newer : ScriptsInstallsAreNewer
 scripts_installs_are_newer d meaning script programs right =

@@ -1,17 +1,96 @@
--- Many hops.
+-- Spreading where suppression is off and nothing is lost: one hop, and many.
 use Rattle.std.proofs.Common.{◌≡◌, ◌<◌, ◌≤◌, ℕ, zero, suc, ◌+◌, ◌*◌, List, [], ◌∷◌, ◌++◌, refl, sym, ◌∙◌, ap, subst, arith, inl, inr, append_assoc}
 use Rattle.std.proofs.lemmas.Bool.{cases_lt}
 use Rattle.vm_shape.specs.Limits.{longest}
-use Rattle.world_rules.specs.World.{World}
-use Rattle.world_rules.specs.State.{Moment, state}
+use Rattle.mate_num.specs.Lists.{Among}
+use Rattle.mate_num.proofs.ListLemmas.{each_over-behind}
+use Rattle.mate_journal.specs.Machine.{HeldProgram}
+use Rattle.capsule_exchange.specs.Happenings.{held_version}
+use Rattle.world_rules.specs.Cause.{Cause}
+use Rattle.world_rules.specs.World.{World, links_from, receiver}
+use Rattle.world_rules.specs.Effect.{Installing, event_node}
+use Rattle.world_rules.specs.State.{Moment, effect_at, node_at, state}
 use Rattle.world_rules.specs.Run.{HaveCome, IsDone}
 use Rattle.world_laws.specs.Hops.{HasLink}
 use Rattle.world_laws.specs.Times.{last_time}
 use Rattle.world_laws.specs.Newest.{Version, IsWorldVersion, IsNewest}
-use Rattle.world_laws.specs.Spread.{IsOpenWorld, IsQuiet, AreQuiet, HoldsVersion, SpreadsInTime}
-use Rattle.world_laws.proofs.Points.{earlier-come}
-use Rattle.world_laws.proofs.Hop.{newest-earlier, stays-along}
-use Rattle.world_laws.proofs.Stages.{Holding, holding, hops_in_time}
+use Rattle.world_laws.specs.Spread.{IsOpenWorld, IsQuiet, AreQuiet, HoldsVersion, HopsInTime, SpreadsInTime}
+use Rattle.world_laws.specs.Passing.{Hop, IsHop}
+use Rattle.world_laws.proofs.Points.{among-next, earlier-come}
+use Rattle.world_laws.proofs.Tame.{IsTameWorld, run-tame}
+use Rattle.world_laws.proofs.Installs.{newer-than, held_never_falls}
+use Rattle.world_laws.proofs.Hop.{LetAll, link-at, not_lost}
+use Rattle.world_laws.proofs.Stages.{speaks-loud, hop_passes}
+
+newest-earlier : (w : World) (v : Version) (before later : List Moment) → IsNewest w v (later ++ before) → IsNewest w v before
+newest-earlier w v before later h = each_over-behind _ later before h
+
+-- who holds the newest version goes on to hold it
+holds-on : (w : World) (v : Version) (k : ℕ) (before later : List Moment) → IsWorldVersion w v → HaveCome w (later ++ before) → IsNewest w v (later ++ before) → HoldsVersion w v k before → HoldsVersion w v k (later ++ before)
+holds-on w v k before later right come newest holds =
+    let least : held_version v.handler ((state w before).nodes k).exchange ≤ held_version v.handler ((state w (later ++ before)).nodes k).exchange = held_never_falls w k v.handler before later come in
+    let most : held_version v.handler ((state w (later ++ before)).nodes k).exchange ≤ v.version = ((run-tame w v (later ++ before) right come newest).nodes k).held in
+    omega (arith, holds, least, most)
+
+-- ---- one hop
+
+-- nothing is installed where the newest version is held
+no-install : (w : World) (v : Version) (k : ℕ) (now : List Moment) (m : Moment) (p : HeldProgram) → HaveCome w (m ∷ now) → IsNewest w v (m ∷ now) → HoldsVersion w v k now → event_node w m.cause ≡ k
+    → (effect_at w (state w now) m).deed ≡ Installing p → p.handler.0 ≡ v.handler → ⊥
+no-install w v k now m p come newest holds here deed own =
+    let newer : held_version p.handler.0 (node_at w (state w now) m).exchange < p.version = newer-than w now m p come deed in
+    let of_it : held_version p.handler.0 (node_at w (state w now) m).exchange ≡ held_version v.handler ((state w now).nodes k).exchange
+    = ap (λ (h : ℕ). held_version h (node_at w (state w now) m).exchange) own ∙ ap (λ (i : ℕ). held_version v.handler ((state w now).nodes i).exchange) here in
+    let most : p.version ≤ v.version = (newest.1 p deed own).0 in
+    omega (arith, newer, of_it, most, holds)
+
+open-lets : (w : World) (v : Version) (x : Hop) (before later : List Moment) → IsOpenWorld w → IsWorldVersion w v → HaveCome w (later ++ before) → IsNewest w v (later ++ before) → AreQuiet w v.handler before later → HoldsVersion w v x.from before
+    → LetAll w v x before later
+open-lets w v x before [] open_ right come newest quiet holds = tt
+open-lets w v x before (m ∷ later) open_ right come newest quiet holds = (
+  open-lets w v x before later open_ right come.0 newest.0 quiet.0 holds,
+  record {
+    spares = record {
+      no_reset = λ here. quiet.1.no_reset;
+      no_install = λ p here deed own. no-install w v x.from (later ++ before) m p come newest (holds-on w v x.from before later right come.0 newest.0 holds) here deed own;
+    };
+    there = λ here y among. not_lost w y x.there (open_.lossless x.there);
+    no_reset = λ here. quiet.1.no_reset;
+    rising = λ here line p cause deed own. absurd (quiet.1.no_inject line p cause deed own);
+    tame = λ here j number p is. (run-tame w v (later ++ before) right come.0 newest.0).air m.time j number p
+        (subst (λ (c : Cause). Among c ((state w (later ++ before)).due m.time)) is (among-next (state w (later ++ before)) m.time m.cause come.1.next));
+    back = λ here y among. not_lost w y x.back (open_.lossless x.back);
+  },
+)
+
+pub hops_in_time : (w : World) (v : Version) → IsOpenWorld w → IsWorldVersion w v → HopsInTime w v
+hops_in_time w v open_ right a b time before later below linked back come newest quiet last done holds =
+    let least : v.version ≤ held_version v.handler ((state w (later ++ before)).nodes b).exchange
+    = hop_passes w v x (time + 2 * longest w.description.trickle) (time + 3 * longest w.description.trickle) before later open_.set open_.round right hop (omega arith) (record { come = come; let_all = lets; done = done })
+    (speaks-loud w v x time before later open_.set open_.loud hop come lets last (λ t early. done t (omega (arith, early))))
+    (holds, (tame.nodes a).image holds)
+    (record { heard_tame = (tame.nodes b).heard_tame; none_waits = (tame.nodes b).none_waits }) in
+    let most : held_version v.handler ((state w (later ++ before)).nodes b).exchange ≤ v.version = ((run-tame w v (later ++ before) right come newest).nodes b).held in
+    omega (arith, least, most) where
+      there : (j : ℕ) × Among j (links_from w a) × (receiver w j ≡ b)
+      there = link-at w a b linked
+
+      again : (j : ℕ) × Among j (links_from w b) × (receiver w j ≡ a)
+      again = link-at w b a back
+
+      x : Hop
+      x = record { from = a; to = b; there = there.0; back = again.0 }
+
+      hop : IsHop w x
+      hop = record { from_low = below; leaves_from = there.1; gets_there = there.2; leaves_to = again.1; gets_back = again.2 }
+
+      lets : LetAll w v x before later
+      lets = open-lets w v x before later open_ right come newest quiet holds
+
+      tame : IsTameWorld w v (state w before)
+      tame = run-tame w v before right (earlier-come w before later come) (newest-earlier w v before later newest)
+
+-- ---- many
 
 -- the events up to a time, and those after it
 pub record UpTo (w : World) (before later : List Moment) (time : ℕ) : Type 0 where
@@ -45,7 +124,7 @@ more_time l time d = grind arith
 
 pub spreads_in_time : (w : World) (v : Version) → IsOpenWorld w → IsWorldVersion w v → SpreadsInTime w v
 spreads_in_time w v open_ right a b zero time before later below away come newest quiet last done holds =
-    subst (λ (k : ℕ). HoldsVersion w v k (later ++ before)) away (stays-along w v (Holding v) a before later right (holding w v) come newest quiet holds)
+    subst (λ (k : ℕ). HoldsVersion w v k (later ++ before)) away (holds-on w v a before later right come newest holds)
 spreads_in_time w v open_ right a b (suc d) time before later below away come newest quiet last done holds =
     go (up-to w before later (time + 3 * longest w.description.trickle * d) come (omega (arith, last)) (λ t early. done t (omega (arith, early, more_time (3 * longest w.description.trickle) time d))))
     (λ older quiet_older last_older done_older come_older newest_older. spreads_in_time w v open_ right a away.0 d time before older below away.1 come_older newest_older quiet_older last done_older holds) where

@@ -38,7 +38,7 @@ pub record IsInjectedNode (w : World) (ms : List Moment) (hs : List Happening) :
   pub heard_of : (h : ℕ) → AreOfInjected w ms (heard_since h hs)
 
 later-packet : (w : World) (m : Moment) (ms : List Moment) (p : Packet) → IsOfInjected w ms p → IsOfInjected w (m ∷ ms) p
-later-packet w m ms (Fragment g version index count large bytes) of = (of.0, later-injected w m ms g.0 version of.0 of.1, of.2, of.3)
+later-packet w m ms (Fragment g version index count large bytes) of = (of.0, later-injected w m ms g.0 version of.0 of.1, of.2, of.3, of.4)
 later-packet w m ms _ of = tt
 
 later-node : (w : World) (m : Moment) (ms : List Moment) (hs : List Happening) → IsInjectedNode w ms hs → IsInjectedNode w (m ∷ ms) hs
@@ -247,7 +247,7 @@ start-of w t j number p a = elim (among-append (at t (event.Deliver j number p))
 ]
 
 pub run-injected : (w : World) (ms : List Moment) → IsOneImage w → HaveCome w ms → IsInjectedWorld w ms (state w ms)
-run-injected w [] one come = record { nodes = λ k. record { holds = λ h. inl refl; heard_of = λ h. tt }; air = λ t j number p a. start-of w t j number p a }
+run-injected w [] one come = record { nodes = λ k. record { holds = λ h. inl (refl, refl); heard_of = λ h. tt }; air = λ t j number p a. start-of w t j number p a }
 run-injected w (m ∷ before) one come = world-step w m before one come.1 (run-injected w before one come.0)
 
 -- ---- each install

@@ -19,4 +19,6 @@ pub mod Hops
 pub mod Spread
 pub mod HopBound
 pub mod Premises
+pub mod Passing
+pub mod Silence
 pub mod EventText

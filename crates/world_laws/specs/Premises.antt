@@ -24,6 +24,7 @@ use Rattle.world_laws.specs.Newest.{IsWorldVersion}
 use Rattle.world_laws.specs.Installs.{WasInstalled, InstallsAreNewer}
 use Rattle.world_laws.specs.Hops.{IsAway}
 use Rattle.world_laws.specs.Spread.{IsOpenWorld}
+use Rattle.world_laws.specs.Passing.{IsRightNetwork}
 use Rattle.world_laws.specs.HopBound.{IsRightPlan, IsUndisturbed, version_of}
 
 -- suppression is off, and no link loses a packet
@@ -55,6 +56,11 @@ OpenScriptsAreOpen = (d : Description) (meaning : Meaning) (script : Script) (pr
 abbrev pub RightScriptsPlanRightly : Type 0
 RightScriptsPlanRightly = (d : Description) (meaning : Meaning) (script : Script) (programs : ℕ → HeldProgram)
     → IsRightScript d script programs → IsRightPlan (world_of d meaning script programs)
+
+-- whatever is lost or suppressed, a right script's world is a network over which versions pass
+abbrev pub RightScriptsAreNetworks : Type 0
+RightScriptsAreNetworks = (d : Description) (meaning : Meaning) (script : Script) (programs : ℕ → HeldProgram)
+    → IsRightScript d script programs → IsRightNetwork (world_of d meaning script programs)
 
 -- the image of every capsule has 1 to `FRAGMENTS_MAX` fragments
 abbrev pub CapsulesHaveFewFragments : Type 0

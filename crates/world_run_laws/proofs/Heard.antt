@@ -149,7 +149,7 @@ is-sound w ms h hs programs injected heard = record {
   ]
 
   numbered : 1 ≤ length (held_image h hs) → HoldsInjected w ms hs h → 1 ≤ held_version h hs
-  numbered some (inl none) = let long : length (held_image h hs) ≡ 0 = ap length none in absurd (omega (arith, some, long))
+  numbered some (inl none) = let long : length (held_image h hs) ≡ 0 = ap length none.1 in absurd (omega (arith, some, long))
   numbered some (inr was) = let low : 1 ≤ was.program.version = (programs was.place was.program was.injects).low in omega (arith, low, was.version_is)
 
 each-ask : (p : Packet) (hs : List Happening) (hds : List ℕ) → Among p (map (ask_for hs) hds) → (h : ℕ) × (ask_for hs h ≡ p)
@@ -222,7 +222,7 @@ owed-fit w ms hs slot node next = by (node.injected.holds (slot / 22)) where
   within = ltb-true _ _ (marked-within (slot / 22) (slot % 22) hs marked)
 
   by : HoldsInjected w ms hs (slot / 22) → IsFitPacket w (fragment_for hs slot)
-  by (inl none) = let no_fragment : slot % 22 < count_of [] = subst (λ (xs : List ℕ). slot % 22 < count_of xs) none within in absurd (omega (arith, no_fragment))
+  by (inl none) = let no_fragment : slot % 22 < count_of [] = subst (λ (xs : List ℕ). slot % 22 < count_of xs) none.1 within in absurd (omega (arith, no_fragment))
   by (inr was) =
       let program = node.programs was.place was.program was.injects in
       let few : handlers w ≤ 8 = few-handlers w in

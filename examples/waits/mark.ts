@@ -1,0 +1,2 @@
+shared hops;
+hops = hops + 1;
