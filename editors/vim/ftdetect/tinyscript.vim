@@ -1,5 +1,5 @@
 " TinyScript sources end in .ts, as TypeScript's do. A file is taken for TinyScript at its first line that TypeScript can't have, and never
-" where TypeScript can have all its lines, as calls alone. Such a file begins with a comment of a few words, or `:setfiletype tinyscript`
+" where TypeScript can have all its lines, as calls alone. Such a file begins with a comment of a few words, or `:set filetype=tinyscript`
 " says what it is.
 autocmd BufRead,BufNewFile *.ts if s:IsTinyScript(getline(1, 1000)) | setlocal filetype=tinyscript | endif
 
