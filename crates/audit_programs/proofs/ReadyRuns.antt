@@ -29,8 +29,8 @@ use Rattle.capsule_codec.specs.Reading.{GivesCapsule, capsule_in}
 use Rattle.capsule_codec.specs.declared.capsule.Capsule.{Capsule}
 use Rattle.capsule_codec.specs.declared.decoding.CapsuleFault.{CapsuleFault}
 use Rattle.capsule_codec.proofs.ImageLemmas.{capsule_again}
-use Rattle.vm_desc.specs.Shapes.{shape_of}
-use Rattle.vm_desc.specs.declared.description.Description.{Description}
+use Rattle.vm_shape.specs.Shapes.{shape_of}
+use Rattle.vm_shape.specs.declared.description.Description.{Description}
 use Rattle.mate_journal.specs.Machine.{HeldProgram, Meaning}
 use Rattle.mate_journal.specs.declared.program.Program.{Program}
 use Rattle.node_state.specs.Meaning.{image_code}

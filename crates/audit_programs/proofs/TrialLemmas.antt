@@ -14,7 +14,7 @@ use Rattle.mate_journal.specs.declared.entry.Stamped.{Stamped}
 use Rattle.mate_journal.specs.Entries.{IsEntryInRange}
 use Rattle.journal_laws.specs.Growth.{event_of, IsNamedBelow, AreNamedBelow}
 use Rattle.journal_laws.proofs.TidyLemmas.{NamesInLog-numbered}
-use Rattle.vm_desc.specs.declared.description.Description.{Description}
+use Rattle.vm_shape.specs.declared.description.Description.{Description}
 use Rattle.audit_rules.specs.Roll as told
 use Rattle.audit_rules.specs.Roll.{nobody, rolled, LiveAreInstalled}
 use Rattle.audit_rules.specs.Following.{stamps_rise, may_follow, follow_one_another}

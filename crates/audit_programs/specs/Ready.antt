@@ -3,7 +3,7 @@ use Rattle.std.specs.Prelude.{List, Option, None, map, slice_index_or}
 use Rattle.std.specs.Option.{option_map}
 use Rattle.mate_num.specs.declared.id.HandlerId.{HandlerId}
 use Rattle.mate_journal.specs.Machine.{HeldProgram}
-use Rattle.vm_desc.specs.declared.description.Description.{Description}
+use Rattle.vm_shape.specs.declared.description.Description.{Description}
 use Rattle.audit_programs.specs.Images.{IsImageCode}
 use Rattle.audit_programs.specs.declared.ready.ReadyProgram.{ReadyProgram}
 use Rattle.audit_programs.specs.declared.table.ReadyPrograms.{ReadyPrograms}

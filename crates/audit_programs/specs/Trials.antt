@@ -16,7 +16,7 @@ use Rattle.audit_rules.specs.Laws.{machine_by}
 use Rattle.audit_rules.specs.Tests.{images_right}
 use Rattle.audit_rules.specs.Views.{seat_in, roll_in}
 use Rattle.audit_rules.specs.declared.seat.Seat.{Seat}
-use Rattle.vm_desc.specs.declared.description.Description.{Description}
+use Rattle.vm_shape.specs.declared.description.Description.{Description}
 use Rattle.audit_programs.specs.Ready.{IsReadyAs, installed_programs, ready_at}
 use Rattle.audit_programs.specs.declared.ready.ReadyProgram.{ReadyProgram}
 use Rattle.audit_programs.specs.declared.ready_roll.ReadyRoll.{ReadyRoll}

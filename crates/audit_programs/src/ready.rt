@@ -13,7 +13,7 @@ use mate_code::Table;
 use mate_journal::{ImageRef, Program};
 use mate_num::{LockSet, NoMemory, Outcome, Payload, Resource, Store};
 use std::alloc::Global;
-use vm_desc::{Description, shape};
+use vm_shape::{Description, shape};
 
 /// A program with the verified code of its image and the locks that the code takes.
 #[derive(Drop)]
@@ -48,7 +48,7 @@ impl<'a> ReadyProgram<'a> {
     ghost use Rattle.mate_code.specs.CodeUses.{uses_of};
     ghost use Rattle.mate_code.specs.Run.{code_run};
     ghost use Rattle.exec_unit.specs.Step.{HasLengths};
-    ghost use Rattle.vm_desc.specs.declared.description.Description.{Description as Machine};
+    ghost use Rattle.vm_shape.specs.declared.description.Description.{Description as Machine};
     ghost use Rattle.mate_journal.specs.Machine.{HeldProgram};
     ghost use Rattle.mate_journal.specs.declared.program.Program.{Program as Given};
     ghost use Rattle.node_programs.specs.Right.{AreRightPrograms};

@@ -60,7 +60,7 @@ pub struct ReadyRoll<'a> {
 
 impl<'a> ReadyRoll<'a> {
     ghost use Rattle.std.specs.Prelude.{◌≡◌, ◌+◌, ◌<◌, true, length, slice_index_or, IfOk, IsSomeAnd, IsTrue, OnOk};
-    ghost use Rattle.vm_desc.specs.declared.description.Description.{Description as Given};
+    ghost use Rattle.vm_shape.specs.declared.description.Description.{Description as Given};
     ghost use Rattle.mate_num.specs.Locks.{is_resource};
     ghost use Rattle.mate_journal.specs.Journal.{journal_entry, no_image};
     ghost use Rattle.mate_journal.specs.Entries.{IsEntryInRange};

@@ -1,7 +1,7 @@
 //! What a node's journal is tried against.
 
 use mate_journal::{NodeLog, Programs};
-use vm_desc::Description;
+use vm_shape::Description;
 
 /// A node's log, with the machine and the programs that its journal is tried against.
 #[derive(Drop)]

@@ -6,14 +6,14 @@ use Rattle.std.proofs.lemmas.Bool.{cases_lt}
 use Rattle.std.proofs.lemmas.List.{length-map}
 use Rattle.std.proofs.lemmas.List.Elements.{All-head, All-tail}
 use Rattle.std.proofs.lemmas.Option.{slice_get-map}
-use Rattle.vm_desc.specs.declared.description.Description.{Description}
+use Rattle.vm_shape.specs.declared.description.Description.{Description}
 use Rattle.mate_journal.specs.Journal.{TimedEntry, journal_of}
 use Rattle.mate_journal.specs.Log.{Log}
 use Rattle.mate_journal.specs.Tidy.{IsTidyLog}
 use Rattle.mate_journal.specs.declared.program.Program.{Program}
 use Rattle.mate_journal.specs.declared.report.Report.{Report}
 use Rattle.node_programs.specs.Right.{AreRightPrograms}
-use Rattle.report_text.specs.Tidy.{IsTidy}
+use Rattle.report_writer.specs.Tidy.{IsTidy}
 use Rattle.audit_rules.specs.Laws.{KeepsLaw, machine_by, rank_of}
 use Rattle.audit_rules.specs.Tests.{failed_by, refuted_or, verdict_from, verdict_of}
 use Rattle.audit_rules.specs.Verdicts.{LogKeepsAll, LogFails, NodesKeep, IsVerdict, TellSameJournals}

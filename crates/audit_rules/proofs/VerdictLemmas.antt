@@ -2,12 +2,12 @@
 use Rattle.std.proofs.Common.{◌≡◌, ◌<◌, ℕ, zero, suc, List, [], ◌∷◌, length, refl, sym, ◌∙◌, ap, subst, arith, inl, inr, Option, Some, None}
 use Rattle.std.specs.Prelude.{IfSome, IsSomeAnd, slice_get}
 use Rattle.std.proofs.lemmas.Bool.{cases_order}
-use Rattle.vm_desc.specs.declared.description.Description.{Description}
+use Rattle.vm_shape.specs.declared.description.Description.{Description}
 use Rattle.mate_journal.specs.Log.{Log}
 use Rattle.mate_journal.specs.declared.program.Program.{Program}
 use Rattle.mate_journal.specs.declared.report.Report.{Report}
 use Rattle.audit_rules.specs.Laws.{rank_of}
-use Rattle.report_text.specs.Tidy.{IsTidy}
+use Rattle.report_writer.specs.Tidy.{IsTidy}
 use Rattle.audit_rules.specs.Verdicts.{IsSerialReport, LogKeepsAll, LogFails, NodesKeep, IsVerdict}
 use Rattle.mate_journal.specs.declared.law.Law.{Law}
 use Rattle.mate_journal.specs.declared.law.Law.TheVariants as law

@@ -1,7 +1,7 @@
 -- The laws of one node's journal, in their order.
 use Rattle.std.specs.Prelude.{◌<◌, ℕ, List, IsTrue}
 use Rattle.std.specs.List.{list_any}
-use Rattle.vm_desc.specs.declared.description.Description.{Description}
+use Rattle.vm_shape.specs.declared.description.Description.{Description}
 use Rattle.mate_journal.specs.Described.{machine_of}
 use Rattle.mate_journal.specs.Devices.{AsksDevicesInOrder}
 use Rattle.mate_journal.specs.Grants.{GrantsInOrder}

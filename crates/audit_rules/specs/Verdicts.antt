@@ -1,11 +1,11 @@
 -- What a verdict on a report says.
 use Rattle.std.specs.Prelude.{◌≡◌, ◌<◌, ℕ, List, map, length, IsSomeAnd, IfSome, slice_get}
-use Rattle.vm_desc.specs.declared.description.Description.{Description}
+use Rattle.vm_shape.specs.declared.description.Description.{Description}
 use Rattle.mate_journal.specs.Journal.{journal_of}
 use Rattle.mate_journal.specs.Log.{Log}
 use Rattle.mate_journal.specs.declared.program.Program.{Program}
 use Rattle.mate_journal.specs.declared.report.Report.{Report}
-use Rattle.report_text.specs.Tidy.{IsTidy}
+use Rattle.report_writer.specs.Tidy.{IsTidy}
 use Rattle.audit_rules.specs.Laws.{KeepsLaw, machine_by, rank_of}
 use Rattle.mate_journal.specs.declared.law.Law.{Law}
 use Rattle.mate_journal.specs.declared.law.Verdict.{Verdict}

@@ -2,7 +2,7 @@
 
 ghost use Rattle.std.specs.Prelude.{◌≡◌, ◌==◌, suc, IfOk, length, List, ◌∷◌, [], ◌≤◌, ◌<◌};
 ghost use Rattle.mate_num.specs.declared.bounds.TheConstants.{HANDLERS_MAX};
-ghost use Rattle.vm_desc.specs.Contexts.{first_context};
+ghost use Rattle.vm_shape.specs.Contexts.{first_context};
 ghost use Rattle.mate_journal.specs.Described.{machine_of};
 ghost use Rattle.mate_journal.specs.Journal.{journal_entry, journal_of};
 ghost use Rattle.mate_journal.specs.Log.{Log};
@@ -18,7 +18,7 @@ use crate::seat::{is_at, is_taken};
 use mate_journal::{Entry, NodeLog, Stamped};
 use mate_num::{ContextId, HandlerId, NoMemory, Stamp};
 use std::alloc::Global;
-use vm_desc::Description;
+use vm_shape::Description;
 
 /// Whether neither the number of the event nor the time falls, and the same event has the same time.
 fn not_before(old: Stamp, new: Stamp) -> bool

@@ -1,7 +1,7 @@
 //! Laws of journals and of verdicts. Each is what a function promises that does nothing.
 
 ghost use Rattle.std.specs.Prelude.{◌≡◌, ◌↔◌, List, MatchOption};
-ghost use Rattle.vm_desc.specs.declared.description.Description.{Description};
+ghost use Rattle.vm_shape.specs.declared.description.Description.{Description};
 ghost use Rattle.mate_journal.specs.Devices.{AsksDevicesInOrder};
 ghost use Rattle.mate_journal.specs.Grants.{GrantsInOrder};
 ghost use Rattle.mate_journal.specs.Journal.{TimedEntry, first_state, journal_of};
@@ -11,7 +11,7 @@ ghost use Rattle.mate_journal.specs.Tidy.{IsTidyLog};
 ghost use Rattle.mate_journal.specs.declared.program.Program.{Program};
 ghost use Rattle.mate_journal.specs.declared.report.Report.{Report};
 ghost use Rattle.node_programs.specs.Right.{AreRightPrograms};
-ghost use Rattle.report_text.specs.Tidy.{IsTidy};
+ghost use Rattle.report_writer.specs.Tidy.{IsTidy};
 ghost use Rattle.mate_journal.specs.WellFormed.{IsWellFormed};
 ghost use Rattle.audit_rules.specs.Granting.{TellsConflicts};
 ghost use Rattle.audit_rules.specs.Replay.{GoesByParts};

@@ -3,7 +3,7 @@ use Rattle.std.specs.Prelude.{◌≡◌, ℕ, ◌<◌, ◌≤◌, ◌^◌, nat_l
 use Rattle.std.specs.Int.{w16, w32, to_be_bytes}
 use Rattle.mate_num.specs.declared.bounds.TheConstants.{CODE_MAX, SHORT_CODE}
 pub use Rattle.hex.specs.Hex.{IsBytes}
-use Rattle.vm_desc.specs.declared.description.Description.{Description}
+use Rattle.vm_shape.specs.declared.description.Description.{Description}
 use Rattle.capsule_codec.specs.declared.capsule.Capsule.{Capsule}
 use Rattle.capsule_codec.specs.declared.capsule.CapsuleRef.{CapsuleRef}
 

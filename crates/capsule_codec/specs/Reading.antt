@@ -3,7 +3,7 @@ use Rattle.std.specs.Prelude.{◌≡◌, ℕ, ◌+◌, nat_lt, nat_le, nat_eq, �
 use Rattle.std.specs.Int.{w16, w32, from_be_bytes, is_in_range}
 use Rattle.std.specs.List.{starts_with}
 use Rattle.mate_num.specs.declared.bounds.TheConstants.{CODE_MAX, IMAGE_HEAD, SHORT_CODE}
-use Rattle.vm_desc.specs.declared.description.Description.{Description}
+use Rattle.vm_shape.specs.declared.description.Description.{Description}
 use Rattle.capsule_codec.specs.declared.decoding.CapsuleFault.{CapsuleFault}
 use Rattle.capsule_codec.specs.declared.decoding.CapsuleFault.TheVariants.{BadMagic, BadFormat, OtherVm, BadHandler, BadLength, BadVersion}
 use Rattle.capsule_codec.specs.declared.capsule.Capsule.{Capsule}

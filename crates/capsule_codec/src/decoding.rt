@@ -8,7 +8,7 @@ ghost use Rattle.capsule_codec.specs.Reading.{capsule_in, GivesCapsule, GivesInP
 use crate::capsule::{Capsule, CapsuleRef};
 use crate::encoding::MAGIC;
 use mate_num::{CODE_MAX, HandlerId, IMAGE_HEAD, SHORT_CODE};
-use vm_desc::Description;
+use vm_shape::Description;
 
 /// Why bytes are no capsule of the machine.
 #[derive(Clone, Copy)]

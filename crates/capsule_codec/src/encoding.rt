@@ -1,7 +1,7 @@
 //! From capsules to images.
 
 ghost use Rattle.std.specs.Prelude.{◌≡◌, ◌+◌, ◌≤◌, ◌++◌, length, Ok};
-ghost use Rattle.vm_desc.specs.declared.description.Description.{Description};
+ghost use Rattle.vm_shape.specs.declared.description.Description.{Description};
 ghost use Rattle.hex.specs.Hex.{IsBytes};
 ghost use Rattle.capsule_codec.specs.Image.{capsule_parts, parts_in_place, capsule_image, format_of, IsCapsule, IsOfMachine};
 ghost use Rattle.capsule_codec.specs.Reading.{capsule_in};

@@ -4,7 +4,7 @@ ghost use Rattle.std.specs.Prelude.{◌≡◌, ℕ, ◌<◌, ◌≤◌, List, le
 ghost use Rattle.std.specs.List.{concat};
 ghost use Rattle.mate_num.specs.declared.bounds.TheConstants.{FRAGMENTS_MAX, SHORT_IMAGE};
 ghost use Rattle.hex.specs.Hex.{IsBytes};
-ghost use Rattle.vm_desc.specs.declared.description.Description.{Description};
+ghost use Rattle.vm_shape.specs.declared.description.Description.{Description};
 ghost use Rattle.capsule_codec.specs.Image.{CapsuleParts, capsule_image, IsCapsule, IsOfMachine};
 ghost use Rattle.capsule_codec.specs.Reading.{capsule_in};
 ghost use Rattle.capsule_codec.specs.declared.fragments.TheConstants.{PIECE_MAX, SHORT_PIECE};

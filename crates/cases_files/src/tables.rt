@@ -3,8 +3,8 @@
 use std::alloc::{AllocError, Global};
 use std::rt::Files;
 use std::{fs, io};
-use vm_desc::{Description, builtin};
-use vm_reader::read;
+use vm_desc::read;
+use vm_shape::{Description, builtin};
 
 /// Prints a table: its name after `==`, and each line of the file of this name with its answer after ` => `. A line
 /// has the name of a machine, a space, and the case; a case that can't be read has an answer of its own.

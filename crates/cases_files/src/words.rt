@@ -1,7 +1,7 @@
 //! Values that several tables print: each by the name of its type or its variant, with its fields.
 
 use mate_num::{Call, DeviceId, End, FaultKind, FunShape, Shape, Store, Text};
-use script_reader::Cause;
+use script_steps::Cause;
 use std::alloc::{AllocError, Global};
 
 /// Why a handler was stopped.

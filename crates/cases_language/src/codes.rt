@@ -1,12 +1,12 @@
 //! The code of sources, and what they fold to.
 
 use crate::sources::accepted;
-use cases_trees::block_text;
+use crate::tree_texts::block_text;
 use mate_code::Table;
 use std::alloc::{AllocError, Global};
 use ts_compiler::{CompileFault, compile};
 use ts_fold::fold;
-use vm_desc::Description;
+use vm_shape::Description;
 
 /// The code of a source in hexadecimal digits, or why it has none.
 pub fn answer(alloc: Global, machine: &Description, source: &str) -> Result<String, AllocError> {

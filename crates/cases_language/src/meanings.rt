@@ -5,8 +5,8 @@ use cases_files::{fault_word, zero_store};
 use mate_num::{End, Payload};
 use std::alloc::{AllocError, Global};
 use ts_checked::Checked;
-use ts_play::play;
-use vm_desc::Description;
+use ts_meaning::play;
+use vm_shape::Description;
 
 /// What the message holds.
 const MESSAGE: [i16; 3] = [3, -1, 500];

@@ -4,7 +4,7 @@ use cases_files::marked_bytes;
 use mate_files::FILE_MAX;
 use std::alloc::{AllocError, Global};
 use ts_parser::{SourceFault, parse_procedures, tokens_in};
-use ts_syntax::{Dialect, ProcScript};
+use ts_trees::{Dialect, ProcScript};
 
 /// That a source is a script with procedures, or its first fault.
 pub fn answer(alloc: Global, case: &str) -> Result<String, AllocError> {

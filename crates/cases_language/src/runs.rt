@@ -5,8 +5,8 @@ use cases_files::{call_words, end_words, store_words, zero_store};
 use mate_num::{Call, Outcome, Payload};
 use std::alloc::{AllocError, Global};
 use ts_checked::Checked;
-use ts_play::play;
-use vm_desc::{Description, shape};
+use ts_meaning::play;
+use vm_shape::{Description, shape};
 
 /// How the run of a case `TURNS | MESSAGE | ANSWERS | SOURCE` ends, the store that it leaves, and the calls that were
 /// answered. Numbers have a space between two, and `-` is none.

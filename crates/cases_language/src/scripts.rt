@@ -1,12 +1,11 @@
 //! Sources as scripts, without a machine.
 
 use cases_files::marked_bytes;
-use mate_files::FILE_MAX;
-use memory_files::MemSink;
+use mate_files::{FILE_MAX, MemSink};
 use std::alloc::{AllocError, Global};
 use ts_parser::{SourceFault, parse, tokens};
-use ts_printer::print;
-use ts_syntax::Script;
+use ts_syntax::print;
+use ts_trees::Script;
 
 /// That a source is a script, or its first fault.
 pub fn answer(alloc: Global, case: &str) -> Result<String, AllocError> {

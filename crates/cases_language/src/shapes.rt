@@ -6,8 +6,8 @@ use mate_num::{FunId, Shape, VarId};
 use std::alloc::{AllocError, Global};
 use ts_checked::{CArgs, CBlock, CExpr, CForHead, CStmt, CVar};
 use ts_right::is_right;
-use vm_desc::{Description, shape};
-use vm_reader::read;
+use vm_desc::read;
+use vm_shape::{Description, shape};
 
 /// Whether the body of a case `DESCRIPTION | SOURCE`, in which the source is one for `machine`, is right for the machine
 /// of the description.

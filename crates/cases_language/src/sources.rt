@@ -1,14 +1,14 @@
 //! Sources and what they are for a machine.
 
+use crate::tree_texts::block_text;
 use cases_files::marked_bytes;
-use cases_trees::block_text;
+use command_steps::{SourceRefusal, accept};
 use mate_files::FILE_MAX;
-use mate_steps::{SourceRefusal, accept};
 use std::alloc::{AllocError, Global};
 use ts_checked::Checked;
 use ts_checker::CheckFault;
 use ts_parser::SourceFault;
-use vm_desc::Description;
+use vm_shape::Description;
 
 /// The checked tree of a source, or its first refusal.
 pub fn tree(alloc: Global, machine: &Description, source: &str) -> Result<String, AllocError> {

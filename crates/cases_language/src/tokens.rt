@@ -4,7 +4,7 @@ use cases_files::marked_bytes;
 use mate_files::FILE_MAX;
 use std::alloc::{AllocError, Global};
 use ts_lexer::{TokenFault, tokens};
-use ts_syntax::{Token, TokenKind};
+use ts_trees::{Token, TokenKind};
 
 /// Longer lists of tokens aren't printed.
 const PRINTED: usize = 100;

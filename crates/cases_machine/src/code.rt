@@ -5,11 +5,11 @@ ghost use Rattle.mate_code.specs.Code.{instrs_of};
 
 use cases_files::{bytes_of, in_one_line};
 use mate_code::{DecodeFault, Instr, Instrs, decode, encode, listing};
+use mate_files::MemSink;
 use mate_num::CODE_MAX;
-use memory_files::MemSink;
 use opcode_gen::{function_names, table};
 use std::alloc::{AllocError, Global};
-use vm_desc::Description;
+use vm_shape::Description;
 
 pub fn answer(alloc: Global, desc: &Description, case: &str) -> Result<String, AllocError> {
     let Some(bytes) = bytes_of(alloc, case)? else {

@@ -10,7 +10,7 @@ use lock_inference::locks;
 use mate_num::{BufId, DeviceId, LockSet, Name, Resource, VarId};
 use opcode_gen::table;
 use std::alloc::{AllocError, Global};
-use vm_desc::Description;
+use vm_shape::Description;
 
 pub fn answer(alloc: Global, desc: &Description, case: &str) -> Result<String, AllocError> {
     let Some(bytes) = bytes_of(alloc, case)? else {

@@ -4,10 +4,10 @@ use cases_files::{device_words, marked_bytes, shape_words};
 use mate_num::ContextId;
 use opcode_gen::table;
 use std::alloc::{AllocError, Global};
-use vm_desc::{
+use vm_desc::read;
+use vm_shape::{
     DescFault, Description, FunKind, Function, Handler, HandlerKind, RadioSet, TrickleSet, shape,
 };
-use vm_reader::read;
 
 /// The number of instructions that the machine of a case has, or why its text describes none. After the text comes the
 /// end of its line.
@@ -23,7 +23,7 @@ pub fn instructions(alloc: Global, case: &str) -> Result<String, AllocError> {
 /// All parts of the machine of a case; the built-in machine is the one of no text.
 pub fn parts(alloc: Global, case: &str) -> Result<String, AllocError> {
     if case.is_empty() {
-        return described(alloc, &vm_desc::builtin());
+        return described(alloc, &vm_shape::builtin());
     }
     match read(alloc, marked_bytes(alloc, case)?.as_slice()) {
         Ok(desc) => described(alloc, &desc.copy()),

@@ -4,7 +4,7 @@
 use capsule_codec::{CapsuleFault, decode, encode};
 use cases_files::bytes_of;
 use std::alloc::{AllocError, Global};
-use vm_desc::Description;
+use vm_shape::Description;
 
 pub fn answer(alloc: Global, desc: &Description, case: &str) -> Result<String, AllocError> {
     let Some(bytes) = bytes_of(alloc, case)? else {

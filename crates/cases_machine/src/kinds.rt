@@ -5,7 +5,7 @@ use mate_code::{Instr, Instrs, Kind, OperandForm};
 use mate_num::VarId;
 use opcode_gen::table;
 use std::alloc::{AllocError, Global};
-use vm_desc::Description;
+use vm_shape::Description;
 
 pub fn answer(alloc: Global, desc: &Description, case: &str) -> Result<String, AllocError> {
     let table = table(desc);

@@ -3,10 +3,10 @@
 use capsule_codec::decode;
 use cases_files::{bytes_of, in_one_line};
 use code_verifier::verify;
-use memory_files::MemSink;
+use mate_files::MemSink;
 use opcode_gen::{print_capsule, table};
 use std::alloc::{AllocError, Global};
-use vm_desc::Description;
+use vm_shape::Description;
 
 pub fn answer(alloc: Global, desc: &Description, case: &str) -> Result<String, AllocError> {
     let Some(bytes) = bytes_of(alloc, case)? else {

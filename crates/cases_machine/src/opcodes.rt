@@ -1,10 +1,10 @@
 //! The opcode table of a machine, and how many names its functions have.
 
 use cases_files::in_one_line;
-use memory_files::MemSink;
+use mate_files::MemSink;
 use opcode_gen::{function_names, print_table};
 use std::alloc::{AllocError, Global};
-use vm_desc::Description;
+use vm_shape::Description;
 
 pub fn answer(alloc: Global, desc: &Description) -> Result<String, AllocError> {
     let mut sink = MemSink::new(alloc);

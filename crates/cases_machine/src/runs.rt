@@ -12,7 +12,7 @@ use mate_num::Payload;
 use node_heap::Heap;
 use opcode_gen::table;
 use std::alloc::{AllocError, Global};
-use vm_desc::Description;
+use vm_shape::Description;
 
 /// More instructions than a run of these executes.
 const LONGEST: u32 = 1_000;

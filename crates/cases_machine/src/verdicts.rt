@@ -4,7 +4,7 @@ use cases_files::bytes_of;
 use code_verifier::{Verified, VerifyFault, verify};
 use opcode_gen::table;
 use std::alloc::{AllocError, Global};
-use vm_desc::Description;
+use vm_shape::Description;
 
 pub fn answer(alloc: Global, desc: &Description, case: &str) -> Result<String, AllocError> {
     let Some(bytes) = bytes_of(alloc, case)? else {

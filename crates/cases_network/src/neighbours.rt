@@ -8,7 +8,7 @@ use capsule_exchange::{Exchange, Heard};
 use mate_num::HandlerId;
 use packet_codec::{Packet, decode};
 use std::alloc::{AllocError, Global};
-use vm_desc::Description;
+use vm_shape::Description;
 
 pub fn answer(alloc: Global, desc: &Description, case: &str) -> Result<String, AllocError> {
     let handlers = desc.handlers.len();

@@ -6,12 +6,12 @@
 
 ghost use Rattle.std.specs.Prelude.{◌≤◌, IfSome, IsTrue};
 ghost use Rattle.mate_num.specs.declared.bounds.TheConstants.{HOUR};
-ghost use Rattle.vm_desc.specs.Limits.{is_trickle};
+ghost use Rattle.vm_shape.specs.Limits.{is_trickle};
 
 use mate_num::HOUR;
 use std::alloc::{AllocError, Global};
 use trickle_timer::{Fire, Trickle};
-use vm_desc::TrickleSet;
+use vm_shape::TrickleSet;
 
 pub fn answer(alloc: Global, case: &str) -> Result<String, AllocError> {
     let Some((head, steps)) = case.split_once(" : ") else {

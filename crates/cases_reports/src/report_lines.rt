@@ -1,13 +1,13 @@
 //! Lines of reports: what is written for what a line says, so the same line, or `no line`.
 
 use cases_files::in_one_line;
+use mate_files::MemSink;
 use mate_journal::{Aired, Entry, NodeLog, Stamped};
 use mate_num::NoMemory;
-use memory_files::MemSink;
-use report_reader::{Line, Told, line_of};
-use report_text::write_event;
+use report_line_reader::{Line, Told, line_of};
+use report_writer::write_event;
 use std::alloc::{AllocError, Global};
-use vm_desc::Description;
+use vm_shape::Description;
 
 pub fn answer(alloc: Global, desc: &Description, case: &str) -> Result<String, AllocError> {
     let Some(line) = line_of(desc, case.as_bytes()) else {

@@ -1,14 +1,14 @@
 //! Whole texts of reports, with `|` for the end of each line: `read` if the text is read and what was read is written
 //! as the same text again; else the number of the first line that doesn't fit.
 
-ghost use Rattle.report_text.specs.Tidy.{IsTidy};
+ghost use Rattle.report_writer.specs.Tidy.{IsTidy};
 
+use mate_files::MemSink;
 use mate_journal::Report;
-use memory_files::MemSink;
-use report_merge::write;
-use report_reading::{TextFault, read};
+use report_text::{TextFault, read};
+use report_writer::write;
 use std::alloc::{AllocError, Global};
-use vm_desc::Description;
+use vm_shape::Description;
 
 /// The most bytes that the reader takes.
 const TEXT_MAX: usize = 4_000_000_000;

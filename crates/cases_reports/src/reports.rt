@@ -3,17 +3,15 @@
 
 ghost use Rattle.std.specs.Prelude.{◌≡◌, ◌∷◌, [], length, IfOk};
 ghost use Rattle.mate_num.specs.Store.{zero_store};
-ghost use Rattle.report_text.specs.Tidy.{IsTidy};
+ghost use Rattle.report_writer.specs.Tidy.{IsTidy};
 
 use cases_files::{in_one_line, zero_store};
-use mate_files::SinkFault;
+use mate_files::{MemSink, SinkFault};
 use mate_journal::{Air, Aired, Airs, Entry, NodeLog, NodeLogs, Report, Stamped};
 use mate_num::{NoMemory, Stamp};
-use memory_files::MemSink;
-use report_merge::{brief, write};
-use report_text::write_end;
+use report_writer::{brief, write, write_end};
 use std::alloc::{AllocError, Global};
-use vm_desc::Description;
+use vm_shape::Description;
 
 pub fn answer(alloc: Global, desc: &Description, case: &str) -> Result<String, AllocError> {
     let Ok(report) = quiet_report(alloc, desc) else {

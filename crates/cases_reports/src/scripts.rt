@@ -3,9 +3,9 @@
 
 use cases_files::{cause_word, quoted};
 use mate_files::FILE_MAX;
-use script_reader::{ScriptFault, Step, node_script};
+use script_steps::{ScriptFault, Step, node_script};
 use std::alloc::{AllocError, Global};
-use vm_desc::Description;
+use vm_shape::Description;
 
 pub fn answer(alloc: Global, desc: &Description, case: &str) -> Result<String, AllocError> {
     let mut bytes = Vec::new(alloc);

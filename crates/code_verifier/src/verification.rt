@@ -2,12 +2,12 @@
 
 ghost use Rattle.std.specs.Prelude.{◌≡◌};
 ghost use Rattle.mate_code.specs.Table.{table_of};
-ghost use Rattle.vm_desc.specs.Shapes.{shape_of};
+ghost use Rattle.vm_shape.specs.Shapes.{shape_of};
 ghost use Rattle.code_verifier.specs.Verified.{Verifies};
 
 use crate::verified::Verified;
 use mate_code::{Table, VerifyFault};
-use vm_desc::{Description, shape};
+use vm_shape::{Description, shape};
 
 /// The verified code of the bytes, or their first refusal: `TooLong`, then `Decode`, then those of a pass
 /// over the instructions by their places, and `NoHalt` last.

@@ -2,7 +2,7 @@
 
 ghost use Rattle.std.specs.Prelude.{◌≡◌};
 ghost use Rattle.mate_code.specs.Table.{table_of};
-ghost use Rattle.vm_desc.specs.Shapes.{shape_of};
+ghost use Rattle.vm_shape.specs.Shapes.{shape_of};
 ghost use Rattle.code_verifier.specs.Verified.{Accepts, ReadsVerified};
 
 use crate::fault::of_decode;
@@ -11,7 +11,7 @@ use crate::pass::pass;
 use crate::placed::Placed;
 use mate_code::{Table, VerifyFault};
 use mate_num::{CODE_MAX, Shape};
-use vm_desc::{Description, shape};
+use vm_shape::{Description, shape};
 
 /// Room for the instructions and marks of code, in which one piece of code after another is verified.
 #[derive(Drop)]

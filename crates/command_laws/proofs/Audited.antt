@@ -6,11 +6,11 @@ use Rattle.std.specs.Global.{Vec}
 use Rattle.std.specs.List.{list_all}
 use Rattle.std.specs.Str.{bytes_eq}
 use Rattle.std.proofs.lemmas.Slice.Eq.{bytes_eq-Decides}
-use Rattle.audit_laws.proofs.NodeReports.{node-serial}
-use Rattle.audit_laws.proofs.Programs.{script-installs}
-use Rattle.audit_laws.proofs.ReadBack.{read-text}
-use Rattle.audit_laws.proofs.WorldReports.{world-serial}
-use Rattle.audit_laws.specs.Reading.{IsReadWith}
+use Rattle.command_laws.proofs.NodeReports.{node-serial}
+use Rattle.command_laws.proofs.Programs.{script-installs}
+use Rattle.command_laws.proofs.ReadBack.{read-text}
+use Rattle.command_laws.proofs.WorldReports.{world-serial}
+use Rattle.command_laws.specs.Reading.{IsReadWith}
 use Rattle.audit_rules.specs.Verdicts.{IsVerdict}
 use Rattle.audit_rules.proofs.VerdictLemmas.{one-verdict}
 use Rattle.mate_journal.specs.declared.law.Law.{Law}
@@ -20,51 +20,51 @@ use Rattle.command_laws.proofs.OneAudit.{named_agree, verdict_same}
 use Rattle.mate_cli.specs.Audit.{report_of_file, serial, audit_of, audit_by, audit}
 use Rattle.mate_cli.specs.Node.{node}
 use Rattle.mate_cli.specs.Worlds.{sim}
-use Rattle.mate_documents.specs.Owed.{Owed, writes}
+use Rattle.command_documents.specs.Owed.{Owed, writes}
 use Rattle.mate_files.specs.Files.{Names}
 use Rattle.mate_journal.specs.Ranges.{HasReportRanges}
 use Rattle.mate_journal.specs.declared.program.Program.{Program}
 use Rattle.mate_journal.specs.declared.report.Report.{Report}
-use Rattle.mate_refusals.specs.declared.refusal.Refusal.{Refusal}
-use Rattle.mate_refusals.specs.declared.refusal.Refusal.TheVariants.{NoMemory}
-use Rattle.mate_steps.specs.OneAnswer.{steady}
-use Rattle.mate_refusals.specs.declared.cause.Unread.{Unread}
-use Rattle.mate_refusals.specs.declared.cause.Unread.TheVariants.{Failed, Large}
-use Rattle.mate_steps.specs.Parts.{IsUnread, file, machine}
-use Rattle.mate_steps.specs.Steps.{Then, goes_on, stops}
-use Rattle.mate_steps.proofs.OneAnswer.{machine_agrees}
+use Rattle.command_refusals.specs.declared.refusal.Refusal.{Refusal}
+use Rattle.command_refusals.specs.declared.refusal.Refusal.TheVariants.{NoMemory}
+use Rattle.command_steps.specs.OneAnswer.{steady}
+use Rattle.command_refusals.specs.declared.cause.Unread.{Unread}
+use Rattle.command_refusals.specs.declared.cause.Unread.TheVariants.{Failed, Large}
+use Rattle.command_steps.specs.Parts.{IsUnread, file, machine}
+use Rattle.command_steps.specs.Steps.{Then, goes_on, stops}
+use Rattle.command_steps.proofs.OneAnswer.{machine_agrees}
 use Rattle.node_programs.specs.ScriptSteps.{IsProgramOf, steps_of}
 use Rattle.node_programs.specs.Sources.{meaning_by}
-use Rattle.report_reading.specs.Reads.{ReadsReport, IsBadLine}
-use Rattle.report_reading.specs.declared.fault.TextFault.{TextFault}
-use Rattle.report_reading.specs.declared.fault.TextFault.TheVariants.{BadLine}
-use Rattle.report_text.specs.Text.{text}
-use Rattle.report_text.specs.Tidy.{IsTidy}
-use Rattle.report_text.proofs.NodeLemmas.{node-tidy}
-use Rattle.run_steps.specs.Running.{IsReportOf}
-use Rattle.script_programs.proofs.EachLemmas.{are_made}
-use Rattle.script_programs.proofs.OrderLemmas.{node_script-in_order}
-use Rattle.script_programs.specs.Programs.{script_programs}
-use Rattle.script_programs.specs.SamePrograms.{SamePrograms}
-use Rattle.script_programs.specs.Scripts.{script}
-use Rattle.script_reader.specs.Lines.{lines, split_words, is_skipped}
-use Rattle.script_reader.specs.NodeScript.{node_script_in, after_line, a_line, behind, behind_others, nothing_yet, Progress, Said, with_said}
-use Rattle.script_reader.specs.declared.fault.ScriptFault.{ScriptFault}
-use Rattle.script_reader.specs.declared.fault.ScriptFault.TheVariants as script_fault
-use Rattle.script_reader.specs.Script.{script_from, numbered}
-use Rattle.script_reader.specs.Words.{TakenWords, WordReading, and_then, ◌>>=◌, give, found, is_printable, nothing_more, a_number}
-use Rattle.script_reader.specs.Steps.{NodeScript}
-use Rattle.script_reader.specs.declared.fault.Cause.{Cause}
-use Rattle.script_reader.specs.declared.fault.Cause.TheVariants.{Word, Range}
-use Rattle.vm_desc.specs.declared.description.Description.{Description}
-use Rattle.world_reader.specs.WorldLines.{WorldProgress, WorldSaid, SaysNodes, a_world_line, behind_verb, some_nodes}
-use Rattle.world_reader.specs.declared.stage.Stage.{Stage}
-use Rattle.world_reader.specs.declared.stage.Stage.TheVariants as stage
-use Rattle.script_programs.specs.Injected.{world_programs}
-use Rattle.script_programs.specs.Named.{begins_world, are_of_world, is_of_world, programs_by, programs_named}
-use Rattle.script_programs.specs.WorldFiles.{world}
-use Rattle.world_reader.specs.WorldScript.{world_script_in, after_world_line, when_told, no_world, world_at_end}
-use Rattle.world_script.specs.declared.world.World.{World}
+use Rattle.report_text.specs.Reads.{ReadsReport, IsBadLine}
+use Rattle.report_text.specs.declared.fault.TextFault.{TextFault}
+use Rattle.report_text.specs.declared.fault.TextFault.TheVariants.{BadLine}
+use Rattle.report_writer.specs.Text.{text}
+use Rattle.report_writer.specs.Tidy.{IsTidy}
+use Rattle.report_writer.proofs.NodeLemmas.{node-tidy}
+use Rattle.node_runs.specs.Running.{IsReportOf}
+use Rattle.command_programs.proofs.EachLemmas.{are_made}
+use Rattle.command_programs.proofs.OrderLemmas.{node_script-in_order}
+use Rattle.command_programs.specs.Programs.{script_programs}
+use Rattle.command_programs.specs.SamePrograms.{SamePrograms}
+use Rattle.command_programs.specs.Scripts.{script}
+use Rattle.script_steps.specs.Lines.{lines, split_words, is_skipped}
+use Rattle.script_steps.specs.NodeScript.{node_script_in, after_line, a_line, behind, behind_others, nothing_yet, Progress, Said, with_said}
+use Rattle.script_steps.specs.declared.fault.ScriptFault.{ScriptFault}
+use Rattle.script_steps.specs.declared.fault.ScriptFault.TheVariants as script_fault
+use Rattle.script_steps.specs.Script.{script_from, numbered}
+use Rattle.script_steps.specs.Words.{TakenWords, WordReading, and_then, ◌>>=◌, give, found, is_printable, nothing_more, a_number}
+use Rattle.script_steps.specs.Steps.{NodeScript}
+use Rattle.script_steps.specs.declared.fault.Cause.{Cause}
+use Rattle.script_steps.specs.declared.fault.Cause.TheVariants.{Word, Range}
+use Rattle.vm_shape.specs.declared.description.Description.{Description}
+use Rattle.script_reader.specs.WorldLines.{WorldProgress, WorldSaid, SaysNodes, a_world_line, behind_verb, some_nodes}
+use Rattle.script_reader.specs.declared.stage.Stage.{Stage}
+use Rattle.script_reader.specs.declared.stage.Stage.TheVariants as stage
+use Rattle.command_programs.specs.Injected.{world_programs}
+use Rattle.command_programs.specs.Named.{begins_world, are_of_world, is_of_world, programs_by, programs_named}
+use Rattle.command_programs.specs.WorldFiles.{world}
+use Rattle.script_reader.specs.WorldScript.{world_script_in, after_world_line, when_told, no_world, world_at_end}
+use Rattle.script_steps.specs.declared.world.World.{World}
 use Rattle.world_run_laws.specs.Promise.{IsReportOfWorld}
 
 -- ---- a script is a node's or a world's by its first word

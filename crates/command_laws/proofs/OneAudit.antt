@@ -3,7 +3,7 @@ use Rattle.std.proofs.Common.{◌≡◌, inl, inr, ℕ, Bool, true, false, List,
 use Rattle.std.specs.Prelude.{⊤, ◌||◌, codes, IsTrue, IfSome, IsSomeAnd, slice_get}
 use Rattle.std.specs.Global.{Vec}
 use Rattle.std.specs.List.{list_any}
-use Rattle.audit_laws.proofs.ReadBack.{same-journals}
+use Rattle.command_laws.proofs.ReadBack.{same-journals}
 use Rattle.mate_num.proofs.ListLemmas.{along-weaker}
 use Rattle.audit_rules.specs.Laws.{InstallsProgram, KeepsLaw, machine_by}
 use Rattle.audit_rules.specs.Verdicts.{LogKeeps, LogKeepsAll, LogFails, NodesKeep, IsVerdict, TellSameJournals}
@@ -17,7 +17,7 @@ use Rattle.command_laws.specs.SameText.{SameText}
 use Rattle.command_laws.proofs.OneCommand.{writes_agree}
 use Rattle.command_laws.proofs.OneWorld.{world_text_agrees}
 use Rattle.mate_cli.specs.Audit.{report_in, report_of_file, serial, audit_of, audit_by, audit}
-use Rattle.mate_documents.specs.Owed.{Owed, writes}
+use Rattle.command_documents.specs.Owed.{Owed, writes}
 use Rattle.mate_files.specs.Files.{Names}
 use Rattle.mate_journal.specs.Described.{machine_of}
 use Rattle.mate_journal.specs.Journal.{JournalEntry, Posted, Dropped, Started, Asked, Answered, Ended, Installed, Reset, Seen, Void, TimedEntry, NodeState, first_state, journal_of}
@@ -25,25 +25,25 @@ use Rattle.mate_journal.specs.Log.{Log}
 use Rattle.mate_journal.specs.Machine.{HeldProgram, Meaning}
 use Rattle.mate_journal.specs.declared.program.Program.{Program}
 use Rattle.mate_journal.specs.declared.report.Report.{Report}
-use Rattle.mate_refusals.specs.declared.refusal.Refusal.{Refusal}
-use Rattle.mate_steps.specs.OneAnswer.{AnswersAgree, steady}
-use Rattle.mate_steps.specs.Steps.{◌▸◌}
-use Rattle.mate_steps.proofs.OneAnswer.{SameBytes, then_agrees, judged_agrees, file_agrees, machine_agrees}
+use Rattle.command_refusals.specs.declared.refusal.Refusal.{Refusal}
+use Rattle.command_steps.specs.OneAnswer.{AnswersAgree, steady}
+use Rattle.command_steps.specs.Steps.{◌▸◌}
+use Rattle.command_steps.proofs.OneAnswer.{SameBytes, then_agrees, judged_agrees, file_agrees, machine_agrees}
 use Rattle.node_programs.specs.Sources.{is_held_as, meaning_by}
-use Rattle.report_reader.specs.declared.line.Line.{Line}
-use Rattle.report_reading.specs.Parts.{report_of}
-use Rattle.report_reading.specs.Reads.{AreOfReport, IsBadLine}
-use Rattle.report_reading.specs.declared.last_line.LastLine.{LastLine}
-use Rattle.report_reading.proofs.VerdictLemmas.{one_list, one_bad_line, no_bad_line}
-use Rattle.script_programs.specs.Programs.{script_programs}
-use Rattle.script_programs.specs.SamePrograms.{SamePrograms}
-use Rattle.script_programs.proofs.OnePrograms.{script_text_agrees, programs_agree}
-use Rattle.script_programs.proofs.SameMeaning.{is_held-same, meaning-same}
-use Rattle.script_reader.specs.Steps.{NodeScript}
-use Rattle.vm_desc.specs.declared.description.Description.{Description}
-use Rattle.script_programs.specs.Injected.{installs, world_programs}
-use Rattle.script_programs.specs.Named.{is_of_world, programs_by, programs_named}
-use Rattle.world_script.specs.declared.world.World.{World}
+use Rattle.report_line_reader.specs.declared.line.Line.{Line}
+use Rattle.report_text.specs.Parts.{report_of}
+use Rattle.report_text.specs.Reads.{AreOfReport, IsBadLine}
+use Rattle.report_text.specs.declared.last_line.LastLine.{LastLine}
+use Rattle.report_text.proofs.VerdictLemmas.{one_list, one_bad_line, no_bad_line}
+use Rattle.command_programs.specs.Programs.{script_programs}
+use Rattle.command_programs.specs.SamePrograms.{SamePrograms}
+use Rattle.command_programs.proofs.OnePrograms.{script_text_agrees, programs_agree}
+use Rattle.command_programs.proofs.SameMeaning.{is_held-same, meaning-same}
+use Rattle.script_steps.specs.Steps.{NodeScript}
+use Rattle.vm_shape.specs.declared.description.Description.{Description}
+use Rattle.command_programs.specs.Injected.{installs, world_programs}
+use Rattle.command_programs.specs.Named.{is_of_world, programs_by, programs_named}
+use Rattle.script_steps.specs.declared.world.World.{World}
 
 -- ---- the programs
 

@@ -12,22 +12,22 @@ use Rattle.command_laws.proofs.OneWorld.{sim_agrees, gen_agrees}
 use Rattle.command_laws.proofs.Steady.{owes_steady}
 use Rattle.mate_cli.specs.Ends as ends
 use Rattle.mate_cli.specs.Ends.{command, Owes, Sinks, RefusesTo, IsTextWritten, IsRunWritten, IsReportWritten, IsOwedWritten, CallEnds}
-use Rattle.mate_documents.specs.Owed.{Owed, a_text, a_run}
-use Rattle.mate_documents.specs.declared.output.Run.{Run}
-use Rattle.mate_documents.specs.declared.output.Run.TheVariants as run
+use Rattle.command_documents.specs.Owed.{Owed, a_text, a_run}
+use Rattle.command_documents.specs.declared.output.Run.{Run}
+use Rattle.command_documents.specs.declared.output.Run.TheVariants as run
 use Rattle.mate_files.specs.Counts.{Rose}
 use Rattle.mate_files.specs.Files.{Names}
-use Rattle.mate_refusals.specs.Refusals.{status_of}
-use Rattle.mate_refusals.specs.declared.refusal.Refusal.{Refusal}
-use Rattle.mate_refusals.specs.declared.refusal.Refusal.TheVariants.{NoMemory}
-use Rattle.mate_refusals.specs.declared.status.Status.{Status}
-use Rattle.mate_refusals.specs.declared.status.Status.TheVariants as status
-use Rattle.mate_steps.specs.OneAnswer.{AnswersAgree, steady}
-use Rattle.mate_steps.specs.Parts.{Folder}
-use Rattle.mate_steps.proofs.OneAnswer.{then_agrees}
-use Rattle.run_steps.specs.Running.{IsReportOf}
-use Rattle.report_text.specs.Writing.{OfRun}
-use Rattle.vm_desc.specs.declared.description.Description.{Description}
+use Rattle.command_refusals.specs.Refusals.{status_of}
+use Rattle.command_refusals.specs.declared.refusal.Refusal.{Refusal}
+use Rattle.command_refusals.specs.declared.refusal.Refusal.TheVariants.{NoMemory}
+use Rattle.command_refusals.specs.declared.status.Status.{Status}
+use Rattle.command_refusals.specs.declared.status.Status.TheVariants as status
+use Rattle.command_steps.specs.OneAnswer.{AnswersAgree, steady}
+use Rattle.command_steps.specs.Parts.{Folder}
+use Rattle.command_steps.proofs.OneAnswer.{then_agrees}
+use Rattle.node_runs.specs.Running.{IsReportOf}
+use Rattle.report_writer.specs.Writing.{OfRun}
+use Rattle.vm_shape.specs.declared.description.Description.{Description}
 use Rattle.world_run_laws.specs.Promise.{IsReportOfWorld}
 
 command_agrees : WorldsHaveOneReport → (names : Names) (t : Task) → AnswersAgree SameText (command (steady names) t) (command (steady names) t)

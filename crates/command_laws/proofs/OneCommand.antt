@@ -4,37 +4,37 @@ use Rattle.std.specs.Prelude.{⊤, []}
 use Rattle.std.specs.Global.{Vec}
 use Rattle.arrayvec.specs.ArrayVec.{ArrayVec}
 use Rattle.capsule_codec.specs.Image.{CapsuleParts}
-use Rattle.mate_documents.specs.FeedLines.{feed_text}
+use Rattle.command_documents.specs.FeedLines.{feed_text}
 use Rattle.opcode_gen.specs.CapsuleText.{capsule_text}
 use Rattle.command_line.specs.Words.{Line, IsLine}
 use Rattle.mate_code.specs.Run.{Code}
 use Rattle.command_line.specs.Commands.{Task, Says, SaysNothing, task_of}
 use Rattle.mate_files.specs.Files.{Names}
 use Rattle.mate_num.specs.declared.id.HandlerId.{HandlerId}
-use Rattle.vm_desc.specs.declared.description.Description.{Description}
-use Rattle.mate_documents.specs.Check.{check}
-use Rattle.mate_steps.specs.CapsuleFiles.{capsule}
-use Rattle.mate_documents.specs.Compile.{compile, capsule_hex}
-use Rattle.mate_documents.specs.Documents.{script_line}
-use Rattle.mate_documents.specs.Expand.{expand}
-use Rattle.mate_documents.specs.Feed.{feed, answers, whole_stream, IsOpenAt}
+use Rattle.vm_shape.specs.declared.description.Description.{Description}
+use Rattle.command_documents.specs.Check.{check}
+use Rattle.command_steps.specs.CapsuleFiles.{capsule}
+use Rattle.command_documents.specs.Compile.{compile, capsule_hex}
+use Rattle.command_documents.specs.Documents.{script_line}
+use Rattle.command_documents.specs.Expand.{expand}
+use Rattle.command_documents.specs.Feed.{feed, answers, whole_stream, IsOpenAt}
 use Rattle.mate_cli.specs.Ends.{task}
-use Rattle.mate_steps.specs.OneAnswer.{AnswersAgree, steady}
+use Rattle.command_steps.specs.OneAnswer.{AnswersAgree, steady}
 use Rattle.command_laws.proofs.OneOutput.{exactly_agrees}
 use Rattle.command_laws.specs.SameText.{SameText}
-use Rattle.mate_documents.specs.Table.{opcode_table}
+use Rattle.command_documents.specs.Table.{opcode_table}
 use Rattle.opcode_gen.specs.TableText.{table_text}
-use Rattle.mate_steps.specs.Parts.{handler, handler_named, file}
-use Rattle.mate_steps.specs.Sources.{source}
-use Rattle.mate_steps.specs.Steps.{◌▸◌}
-use Rattle.mate_documents.specs.Owed.{Owed, a_text, writes}
-use Rattle.mate_refusals.specs.declared.refusal.Refusal.{Refusal}
-use Rattle.mate_steps.proofs.OneAnswer.{SameBytes, then_agrees, judged_agrees, file_agrees, machine_agrees}
-use Rattle.mate_steps.proofs.OneCapsule.{SameCapsule, capsule_agrees}
-use Rattle.mate_steps.proofs.OneSource.{SameCompiled, source_agrees}
-use Rattle.mate_steps.proofs.OneExpansion.{SameScript, expansion_agrees}
+use Rattle.command_steps.specs.Parts.{handler, handler_named, file}
+use Rattle.command_steps.specs.Sources.{source}
+use Rattle.command_steps.specs.Steps.{◌▸◌}
+use Rattle.command_documents.specs.Owed.{Owed, a_text, writes}
+use Rattle.command_refusals.specs.declared.refusal.Refusal.{Refusal}
+use Rattle.command_steps.proofs.OneAnswer.{SameBytes, then_agrees, judged_agrees, file_agrees, machine_agrees}
+use Rattle.command_steps.proofs.OneCapsule.{SameCapsule, capsule_agrees}
+use Rattle.command_steps.proofs.OneSource.{SameCompiled, source_agrees}
+use Rattle.command_steps.proofs.OneExpansion.{SameScript, expansion_agrees}
 use Rattle.slip_gateway.specs.Stream.{unfinished}
-use Rattle.ts_syntax.specs.Tree.{Source}
+use Rattle.ts_trees.specs.Tree.{Source}
 
 -- ---- table
 

@@ -2,33 +2,33 @@
 use Rattle.std.proofs.Common.{◌≡◌, ℕ, Bool, List, Result, refl, sym, subst}
 use Rattle.command_laws.specs.SameText.{SameText, IsSameNodeRun}
 use Rattle.command_laws.proofs.OneOutput.{output_agrees}
-use Rattle.journal_once_laws.specs.Ending.{EndsByItself}
-use Rattle.journal_once_laws.proofs.OneText.{brief-once}
+use Rattle.report_laws.specs.Ending.{EndsByItself}
+use Rattle.report_laws.proofs.OneText.{brief-once}
 use Rattle.mate_cli.specs.Node.{node}
 use Rattle.mate_cli.specs.Runs.{run_output}
-use Rattle.mate_documents.specs.Owed.{Owed}
-use Rattle.mate_documents.specs.declared.output.Run.TheVariants as run
+use Rattle.command_documents.specs.Owed.{Owed}
+use Rattle.command_documents.specs.declared.output.Run.TheVariants as run
 use Rattle.mate_files.specs.Files.{Names}
 use Rattle.mate_journal.specs.Machine.{Meaning}
 use Rattle.mate_journal.specs.NodeScript.{Step, RunEnd}
 use Rattle.mate_journal.specs.NodeReport.{IsNodeReport}
 use Rattle.mate_journal.specs.declared.program.Program.{Program}
 use Rattle.mate_journal.specs.declared.report.Report.{Report}
-use Rattle.mate_refusals.specs.declared.refusal.Refusal.{Refusal}
-use Rattle.mate_steps.specs.OneAnswer.{AnswersAgree, steady}
-use Rattle.mate_steps.specs.Steps.{◌▸◌}
-use Rattle.mate_steps.proofs.OneAnswer.{then_agrees, machine_agrees}
+use Rattle.command_refusals.specs.declared.refusal.Refusal.{Refusal}
+use Rattle.command_steps.specs.OneAnswer.{AnswersAgree, steady}
+use Rattle.command_steps.specs.Steps.{◌▸◌}
+use Rattle.command_steps.proofs.OneAnswer.{then_agrees, machine_agrees}
 use Rattle.node_programs.specs.ScriptSteps.{steps_of}
 use Rattle.node_programs.specs.Sources.{meaning_by}
-use Rattle.report_text.specs.Brief.{brief}
-use Rattle.run_steps.specs.Running.{IsScriptReport}
-use Rattle.script_programs.specs.Programs.{script_programs}
-use Rattle.script_programs.specs.SamePrograms.{SamePrograms}
-use Rattle.script_programs.specs.Scripts.{script}
-use Rattle.script_programs.proofs.OnePrograms.{script_agrees, programs_agree}
-use Rattle.script_programs.proofs.SameMeaning.{steps-same, meaning-same}
-use Rattle.script_reader.specs.Steps.{NodeScript}
-use Rattle.vm_desc.specs.declared.description.Description.{Description}
+use Rattle.report_writer.specs.Brief.{brief}
+use Rattle.node_runs.specs.Running.{IsScriptReport}
+use Rattle.command_programs.specs.Programs.{script_programs}
+use Rattle.command_programs.specs.SamePrograms.{SamePrograms}
+use Rattle.command_programs.specs.Scripts.{script}
+use Rattle.command_programs.proofs.OnePrograms.{script_agrees, programs_agree}
+use Rattle.command_programs.proofs.SameMeaning.{steps-same, meaning-same}
+use Rattle.script_steps.specs.Steps.{NodeScript}
+use Rattle.vm_shape.specs.declared.description.Description.{Description}
 
 -- by the same programs, the report is one of the other list's steps
 by-same : (d : Description) (s : NodeScript) (ps qs : List Program) (how : RunEnd) (r : Report) → SamePrograms ps qs → IsScriptReport d s qs how r → IsNodeReport d (meaning_by d ps) (steps_of s ps) how r

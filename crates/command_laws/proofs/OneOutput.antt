@@ -1,18 +1,18 @@
 -- What is written of a run has one answer, if its reports have one summary.
 use Rattle.std.proofs.Common.{◌≡◌, inl, inr, Bool, true, false, sym, subst}
 use Rattle.command_laws.specs.SameText.{SameText, IsOneRun}
-use Rattle.journal_once_laws.specs.Ending.{EndsByItself}
+use Rattle.report_laws.specs.Ending.{EndsByItself}
 use Rattle.mate_cli.specs.Runs.{output_of}
-use Rattle.mate_documents.specs.Owed.{Owed, a_text, a_run, exactly}
-use Rattle.mate_documents.specs.declared.output.Run.{Run}
+use Rattle.command_documents.specs.Owed.{Owed, a_text, a_run, exactly}
+use Rattle.command_documents.specs.declared.output.Run.{Run}
 use Rattle.mate_journal.specs.NodeScript.{RunEnd, Whole, Full}
 use Rattle.mate_journal.specs.declared.report.Report.{Report}
-use Rattle.mate_steps.specs.OneAnswer.{AnswersAgree}
-use Rattle.mate_steps.proofs.OneAnswer.{then_agrees}
-use Rattle.report_text.specs.Brief.{brief}
-use Rattle.report_text.specs.Writing.{OfRun, IsEnded}
-use Rattle.script_programs.proofs.OnePrograms.{obtained_agrees}
-use Rattle.vm_desc.specs.declared.description.Description.{Description}
+use Rattle.command_steps.specs.OneAnswer.{AnswersAgree}
+use Rattle.command_steps.proofs.OneAnswer.{then_agrees}
+use Rattle.report_writer.specs.Brief.{brief}
+use Rattle.report_writer.specs.Writing.{OfRun, IsEnded}
+use Rattle.command_programs.proofs.OnePrograms.{obtained_agrees}
+use Rattle.vm_shape.specs.declared.description.Description.{Description}
 
 -- what is owed is the same where these two are
 same_outputs : (a b o n : Owed) → SameText a b → o ≡ a → n ≡ b → SameText o n

@@ -2,11 +2,11 @@
 use Rattle.std.proofs.Common.{◌≡◌, ℕ, Bool, true, false, List, sym, ◌∙◌, ap, subst}
 use Rattle.command_laws.specs.SameText.{SameText, IsSameNodeRun, IsOneRun, IsSameWorld}
 use Rattle.command_laws.specs.Texts.{run_end, IsRunText, IsReportText, IsOutputText}
-use Rattle.journal_once_laws.specs.Ending.{EndsByItself}
-use Rattle.journal_once_laws.proofs.OneText.{text-once}
-use Rattle.mate_documents.specs.Owed.{Owed, a_text, a_run}
-use Rattle.mate_documents.specs.declared.output.Run.{Run}
-use Rattle.mate_documents.specs.declared.output.Run.TheVariants as run
+use Rattle.report_laws.specs.Ending.{EndsByItself}
+use Rattle.report_laws.proofs.OneText.{text-once}
+use Rattle.command_documents.specs.Owed.{Owed, a_text, a_run}
+use Rattle.command_documents.specs.declared.output.Run.{Run}
+use Rattle.command_documents.specs.declared.output.Run.TheVariants as run
 use Rattle.mate_journal.specs.Machine.{Meaning}
 use Rattle.mate_journal.specs.NodeReport.{IsNodeReport}
 use Rattle.mate_journal.specs.NodeScript.{Step, RunEnd}
@@ -14,15 +14,15 @@ use Rattle.mate_journal.specs.declared.program.Program.{Program}
 use Rattle.mate_journal.specs.declared.report.Report.{Report}
 use Rattle.node_programs.specs.ScriptSteps.{steps_of}
 use Rattle.node_programs.specs.Sources.{meaning_by}
-use Rattle.report_text.specs.Text.{text}
-use Rattle.run_steps.specs.Running.{IsReportOf}
-use Rattle.script_reader.specs.Steps.{NodeScript}
-use Rattle.vm_desc.specs.declared.description.Description.{Description}
-use Rattle.world_once_laws.specs.OneReport.{WorldHasOneReport}
+use Rattle.report_writer.specs.Text.{text}
+use Rattle.node_runs.specs.Running.{IsReportOf}
+use Rattle.script_steps.specs.Steps.{NodeScript}
+use Rattle.vm_shape.specs.declared.description.Description.{Description}
+use Rattle.report_laws.specs.OneReport.{WorldHasOneReport}
 use Rattle.world_rules.specs.Report.{IsWorldReport}
 use Rattle.world_rules.specs.World.{World as Rules}
-use Rattle.world_script.specs.World.{IsRightWorld}
-use Rattle.world_script.specs.declared.world.World.{World}
+use Rattle.script_steps.specs.World.{IsRightWorld}
+use Rattle.script_steps.specs.declared.world.World.{World}
 use Rattle.world_run_laws.specs.SourceWorld.{source_world}
 use Rattle.world_run_laws.specs.Promise.{IsReportOfWorld}
 

@@ -5,44 +5,44 @@ use Rattle.std.specs.Global.{Vec}
 use Rattle.command_laws.specs.SameText.{SameText, IsSameWorld}
 use Rattle.command_laws.proofs.OneOutput.{output_agrees}
 use Rattle.command_laws.proofs.OneText.{WorldsHaveOneReport}
-use Rattle.world_maker.specs.Source.{source_of}
-use Rattle.journal_once_laws.specs.Ending.{EndsByItself}
+use Rattle.script_reader.specs.Source.{source_of}
+use Rattle.report_laws.specs.Ending.{EndsByItself}
 use Rattle.mate_cli.specs.Runs.{run_output}
 use Rattle.mate_cli.specs.Worlds.{sim, run_of_number, made_run}
-use Rattle.mate_documents.specs.Owed.{Owed}
-use Rattle.mate_documents.specs.declared.output.Run.TheVariants as run
+use Rattle.command_documents.specs.Owed.{Owed}
+use Rattle.command_documents.specs.declared.output.Run.TheVariants as run
 use Rattle.mate_files.specs.Files.{Names}
 use Rattle.mate_journal.specs.Machine.{Meaning, HeldProgram}
 use Rattle.mate_journal.specs.NodeScript.{RunEnd}
 use Rattle.mate_journal.specs.declared.program.Program.{Program}
 use Rattle.mate_journal.specs.declared.report.Report.{Report}
 use Rattle.mate_num.specs.declared.id.HandlerId.{HandlerId}
-use Rattle.mate_refusals.specs.declared.refusal.Refusal.{Refusal}
-use Rattle.mate_steps.specs.OneAnswer.{AnswersAgree, steady}
-use Rattle.mate_steps.specs.SourceCode.{IsCompiledOf}
-use Rattle.mate_steps.specs.Steps.{◌▸◌}
-use Rattle.mate_steps.proofs.AcceptanceLemmas.{one_tree}
-use Rattle.mate_steps.proofs.CodeLemmas.{one-code}
-use Rattle.mate_steps.proofs.OneAnswer.{then_agrees, judged_agrees, machine_agrees, SameBytes, file_agrees}
-use Rattle.mate_steps.proofs.OneSource.{SameCompiled}
+use Rattle.command_refusals.specs.declared.refusal.Refusal.{Refusal}
+use Rattle.command_steps.specs.OneAnswer.{AnswersAgree, steady}
+use Rattle.command_steps.specs.SourceCode.{IsCompiledOf}
+use Rattle.command_steps.specs.Steps.{◌▸◌}
+use Rattle.command_steps.proofs.AcceptanceLemmas.{one_tree}
+use Rattle.command_steps.proofs.CodeLemmas.{one-code}
+use Rattle.command_steps.proofs.OneAnswer.{then_agrees, judged_agrees, machine_agrees, SameBytes, file_agrees}
+use Rattle.command_steps.proofs.OneSource.{SameCompiled}
 use Rattle.node_programs.specs.ScriptSteps.{program_at}
 use Rattle.node_programs.specs.Sources.{meaning_by}
-use Rattle.report_text.specs.Brief.{brief}
-use Rattle.script_programs.specs.SamePrograms.{SameProgram, SamePrograms}
-use Rattle.script_programs.proofs.OnePrograms.{obtained_agrees, programs_agree, installed_same}
-use Rattle.script_programs.proofs.SameMeaning.{meaning-same, places-same}
-use Rattle.script_reader.specs.declared.fault.Cause.{Cause}
+use Rattle.report_writer.specs.Brief.{brief}
+use Rattle.command_programs.specs.SamePrograms.{SameProgram, SamePrograms}
+use Rattle.command_programs.proofs.OnePrograms.{obtained_agrees, programs_agree, installed_same}
+use Rattle.command_programs.proofs.SameMeaning.{meaning-same, places-same}
+use Rattle.script_steps.specs.declared.fault.Cause.{Cause}
 use Rattle.ts_checked.specs.Statement.{Block}
-use Rattle.vm_desc.specs.Shapes.{shape_of}
-use Rattle.vm_desc.specs.declared.description.Description.{Description}
-use Rattle.script_programs.specs.Injected.{installs, world_programs}
-use Rattle.script_programs.specs.Made.{IsMadeOf, AreOf, AreOfVersions, IsMade, made}
-use Rattle.script_programs.specs.WorldFiles.{IsBadWorld, world_text, world}
-use Rattle.script_programs.specs.declared.made.MadeWorld.{MadeWorld}
-use Rattle.world_reader.specs.WorldScript.{world_script_in}
+use Rattle.vm_shape.specs.Shapes.{shape_of}
+use Rattle.vm_shape.specs.declared.description.Description.{Description}
+use Rattle.command_programs.specs.Injected.{installs, world_programs}
+use Rattle.command_programs.specs.Made.{IsMadeOf, AreOf, AreOfVersions, IsMade, made}
+use Rattle.command_programs.specs.WorldFiles.{IsBadWorld, world_text, world}
+use Rattle.command_programs.specs.declared.made.MadeWorld.{MadeWorld}
+use Rattle.script_reader.specs.WorldScript.{world_script_in}
 use Rattle.world_rules.specs.Report.{IsWorldReport}
 use Rattle.world_rules.specs.World.{world_of, World as Rules}
-use Rattle.world_script.specs.declared.world.World.{World}
+use Rattle.script_steps.specs.declared.world.World.{World}
 use Rattle.world_run_laws.specs.Promise.{IsReportOfWorld}
 use Rattle.world_run_laws.specs.SourceWorld.{source_world}
 

@@ -7,30 +7,30 @@ use Rattle.mate_cli.specs.Audit.{audit}
 use Rattle.mate_cli.specs.Ends.{command, task, Owes}
 use Rattle.mate_cli.specs.Node.{node}
 use Rattle.mate_cli.specs.Worlds.{sim, made_run}
-use Rattle.mate_documents.specs.Check.{check}
-use Rattle.mate_documents.specs.Compile.{compile}
-use Rattle.mate_documents.specs.Expand.{expand}
-use Rattle.mate_documents.specs.Feed.{feed}
-use Rattle.mate_documents.specs.Owed.{Owed}
+use Rattle.command_documents.specs.Check.{check}
+use Rattle.command_documents.specs.Compile.{compile}
+use Rattle.command_documents.specs.Expand.{expand}
+use Rattle.command_documents.specs.Feed.{feed}
+use Rattle.command_documents.specs.Owed.{Owed}
 use Rattle.mate_files.specs.Counts.{Rose}
 use Rattle.mate_files.specs.Files.{Names, WhereTold}
-use Rattle.mate_refusals.specs.declared.refusal.Refusal.{Refusal}
-use Rattle.mate_steps.specs.CapsuleFiles.{capsule}
-use Rattle.mate_steps.specs.OneAnswer.{steady}
-use Rattle.mate_steps.specs.Parts.{Folder, file, IsUnreadAnswer, machine, machine_file}
-use Rattle.mate_steps.specs.Sources.{source}
-use Rattle.mate_steps.specs.Steps.{Then, goes_on, stops}
-use Rattle.mate_steps.proofs.Laws.{unread-as}
+use Rattle.command_refusals.specs.declared.refusal.Refusal.{Refusal}
+use Rattle.command_steps.specs.CapsuleFiles.{capsule}
+use Rattle.command_steps.specs.OneAnswer.{steady}
+use Rattle.command_steps.specs.Parts.{Folder, file, IsUnreadAnswer, machine, machine_file}
+use Rattle.command_steps.specs.Sources.{source}
+use Rattle.command_steps.specs.Steps.{Then, goes_on, stops}
+use Rattle.command_steps.proofs.Laws.{unread-as}
 use Rattle.mate_journal.specs.declared.program.Program.{Program}
 use Rattle.mate_num.specs.declared.id.HandlerId.{HandlerId}
-use Rattle.script_programs.specs.Programs.{installed, loaded, name_at, step_program, programs_after}
-use Rattle.script_programs.specs.Scripts.{script}
-use Rattle.script_reader.specs.declared.steps.Step.{Step}
-use Rattle.script_reader.specs.declared.steps.Step.TheVariants as step
-use Rattle.vm_desc.specs.declared.description.Description.{Description}
-use Rattle.script_programs.specs.Injected.{installs}
-use Rattle.script_programs.specs.Named.{is_of_world, programs_by, programs_named}
-use Rattle.script_programs.specs.WorldFiles.{world}
+use Rattle.command_programs.specs.Programs.{installed, loaded, name_at, step_program, programs_after}
+use Rattle.command_programs.specs.Scripts.{script}
+use Rattle.script_steps.specs.declared.steps.Step.{Step}
+use Rattle.script_steps.specs.declared.steps.Step.TheVariants as step
+use Rattle.vm_shape.specs.declared.description.Description.{Description}
+use Rattle.command_programs.specs.Injected.{installs}
+use Rattle.command_programs.specs.Named.{is_of_world, programs_by, programs_named}
+use Rattle.command_programs.specs.WorldFiles.{world}
 
 -- ---- steps
 

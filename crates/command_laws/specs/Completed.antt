@@ -2,16 +2,16 @@
 use Rattle.std.specs.Prelude.{◌≡◌, ◌⊎◌, ℕ, true, false, List, Some, Ok, Err, IsTrue}
 use Rattle.command_laws.specs.Texts.{IsOutputText}
 use Rattle.mate_cli.specs.Ends.{Owes, Sinks, RefusesTo}
-use Rattle.mate_documents.specs.Owed.{Owed}
+use Rattle.command_documents.specs.Owed.{Owed}
 use Rattle.mate_files.specs.Counts.{Rose}
 use Rattle.mate_files.specs.Files.{Names}
 use Rattle.mate_files.specs.Sink.{Sent}
-use Rattle.mate_refusals.specs.declared.refusal.Refusal.{Refusal}
-use Rattle.mate_refusals.specs.declared.refusal.Refusal.TheVariants.{LogFull, NoMemory}
-use Rattle.mate_refusals.specs.declared.status.Status.{Status}
-use Rattle.mate_refusals.specs.declared.status.Status.TheVariants.{Ok as AllDone, NoMemory as OutOfMemory}
-use Rattle.mate_steps.specs.OneAnswer.{steady}
-use Rattle.mate_steps.specs.Parts.{Folder}
+use Rattle.command_refusals.specs.declared.refusal.Refusal.{Refusal}
+use Rattle.command_refusals.specs.declared.refusal.Refusal.TheVariants.{LogFull, NoMemory}
+use Rattle.command_refusals.specs.declared.status.Status.{Status}
+use Rattle.command_refusals.specs.declared.status.Status.TheVariants.{Ok as AllDone, NoMemory as OutOfMemory}
+use Rattle.command_steps.specs.OneAnswer.{steady}
+use Rattle.command_steps.specs.Parts.{Folder}
 
 -- Nothing is in the way of a call: the words and the bytes of the files are owed no refusal; the files are steady, or no
 -- read failed in the call; and no write of the output failed.

@@ -1,14 +1,14 @@
 -- When one text is owed, or one run.
 use Rattle.std.specs.Prelude.{◌≡◌, List}
-use Rattle.mate_documents.specs.Owed.{Owed, a_text, a_run}
-use Rattle.mate_documents.specs.declared.output.Run.{Run}
-use Rattle.mate_documents.specs.declared.output.Run.TheVariants as run
+use Rattle.command_documents.specs.Owed.{Owed, a_text, a_run}
+use Rattle.command_documents.specs.declared.output.Run.{Run}
+use Rattle.command_documents.specs.declared.output.Run.TheVariants as run
 use Rattle.mate_journal.specs.declared.program.Program.{Program}
 use Rattle.node_programs.specs.ScriptSteps.{steps_of}
 use Rattle.node_programs.specs.Sources.{meaning_by}
-use Rattle.script_reader.specs.Steps.{NodeScript}
-use Rattle.vm_desc.specs.declared.description.Description.{Description}
-use Rattle.world_script.specs.declared.world.World.{World}
+use Rattle.script_steps.specs.Steps.{NodeScript}
+use Rattle.vm_shape.specs.declared.description.Description.{Description}
+use Rattle.script_steps.specs.declared.world.World.{World}
 use Rattle.world_run_laws.specs.SourceWorld.{source_world}
 
 -- the same steps, on the same machine, with programs that mean the same

@@ -1,14 +1,14 @@
 -- The texts that outputs are.
 use Rattle.std.specs.Prelude.{◌≡◌, ℕ, Bool, true, false, not, List}
-use Rattle.mate_documents.specs.Owed.{Owed, a_text, a_run}
-use Rattle.mate_documents.specs.declared.output.Run.{Run}
-use Rattle.mate_documents.specs.declared.output.Run.TheVariants as run
+use Rattle.command_documents.specs.Owed.{Owed, a_text, a_run}
+use Rattle.command_documents.specs.declared.output.Run.{Run}
+use Rattle.command_documents.specs.declared.output.Run.TheVariants as run
 use Rattle.mate_journal.specs.NodeScript.{RunEnd, Whole, Full}
 use Rattle.mate_journal.specs.declared.report.Report.{Report}
-use Rattle.report_text.specs.Text.{text}
-use Rattle.run_steps.specs.Running.{IsReportOf}
-use Rattle.report_text.specs.Writing.{OfRun}
-use Rattle.vm_desc.specs.declared.description.Description.{Description}
+use Rattle.report_writer.specs.Text.{text}
+use Rattle.node_runs.specs.Running.{IsReportOf}
+use Rattle.report_writer.specs.Writing.{OfRun}
+use Rattle.vm_shape.specs.declared.description.Description.{Description}
 use Rattle.world_run_laws.specs.Promise.{IsReportOfWorld}
 
 -- how a run ended by itself

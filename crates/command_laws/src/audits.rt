@@ -6,10 +6,10 @@ ghost use Rattle.command_laws.specs.Texts.{IsOutputText};
 ghost use Rattle.mate_cli.specs.Audit.{audit};
 ghost use Rattle.mate_cli.specs.Node.{node};
 ghost use Rattle.mate_cli.specs.Worlds.{sim};
-ghost use Rattle.mate_documents.specs.Owed.{Owed, writes};
+ghost use Rattle.command_documents.specs.Owed.{Owed, writes};
 ghost use Rattle.mate_files.specs.Files.{Names};
-ghost use Rattle.mate_refusals.specs.declared.refusal.Refusal.{Refusal};
-ghost use Rattle.mate_steps.specs.OneAnswer.{steady};
+ghost use Rattle.command_refusals.specs.declared.refusal.Refusal.{Refusal};
+ghost use Rattle.command_steps.specs.OneAnswer.{steady};
 
 /// `audit` finds serial what `node` and `sim` wrote. Suppose that the files are steady, the command owes a run, a text is
 /// that of the run's whole report or of the one up to where its log was full, and a file holds this text, of

@@ -2,24 +2,24 @@
 
 ghost use Rattle.std.specs.Prelude.{◌≡◌, List, ℕ, Bool};
 ghost use Rattle.mate_files.specs.Files.{Names};
-ghost use Rattle.mate_documents.specs.Check.{check};
-ghost use Rattle.mate_documents.specs.Compile.{compile};
+ghost use Rattle.command_documents.specs.Check.{check};
+ghost use Rattle.command_documents.specs.Compile.{compile};
 ghost use Rattle.command_laws.specs.Completed.{Completes, IsUnhindered};
-ghost use Rattle.mate_documents.specs.Expand.{expand};
-ghost use Rattle.mate_documents.specs.Feed.{feed};
+ghost use Rattle.command_documents.specs.Expand.{expand};
+ghost use Rattle.command_documents.specs.Feed.{feed};
 ghost use Rattle.mate_cli.specs.Audit.{audit};
 ghost use Rattle.mate_cli.specs.Ends.{CallEnds, Owes, Sinks, task};
-ghost use Rattle.mate_documents.specs.Owed.{Owed};
-ghost use Rattle.mate_refusals.specs.declared.status.Status.{Status};
+ghost use Rattle.command_documents.specs.Owed.{Owed};
+ghost use Rattle.command_refusals.specs.declared.status.Status.{Status};
 ghost use Rattle.mate_cli.specs.Node.{node};
 ghost use Rattle.mate_cli.specs.Worlds.{made_run, sim};
-ghost use Rattle.mate_steps.specs.OneAnswer.{AnswersAgree, steady};
-ghost use Rattle.mate_steps.specs.Parts.{Folder};
+ghost use Rattle.command_steps.specs.OneAnswer.{AnswersAgree, steady};
+ghost use Rattle.command_steps.specs.Parts.{Folder};
 ghost use Rattle.command_laws.specs.SameText.{SameText};
 ghost use Rattle.command_laws.specs.Texts.{IsOutputText};
-ghost use Rattle.mate_documents.specs.Table.{opcode_table};
+ghost use Rattle.command_documents.specs.Table.{opcode_table};
 
-use world_once_laws::script_has_one_report;
+use report_laws::script_has_one_report;
 
 /// Words name one task, or none.
 pub fn words_have_one_task()

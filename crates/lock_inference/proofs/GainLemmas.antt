@@ -28,12 +28,12 @@ use Rattle.mate_code.specs.Verification.{AreFrom, is_start}
 use Rattle.mate_code.proofs.CellLemmas.{is_same-refl}
 use Rattle.mate_code.proofs.VerificationLemmas.{fetch-range}
 use Rattle.code_verifier.specs.Verified.{VerifiedCode, IsVerifiedCode}
-use Rattle.vm_desc.specs.declared.description.Description.{Description}
-use Rattle.vm_desc.specs.declared.function.Function.{Function}
-use Rattle.vm_desc.specs.Limits.{is_function}
+use Rattle.vm_shape.specs.declared.description.Description.{Description}
+use Rattle.vm_shape.specs.declared.function.Function.{Function}
+use Rattle.vm_shape.specs.Limits.{is_function}
 use Rattle.mate_num.specs.Shapes.{is_device as is_there}
-use Rattle.vm_desc.specs.Shapes.{fun_shape, shape_of}
-use Rattle.vm_desc.proofs.DescriptionLemmas.{bounds_of, function_at}
+use Rattle.vm_shape.specs.Shapes.{fun_shape, shape_of}
+use Rattle.vm_shape.proofs.DescriptionLemmas.{bounds_of, function_at}
 use Rattle.lock_inference.specs.Locks.{held_uses, AreLocksOf, IsGathered, device_in, names_resource, Gains}
 
 -- ---- one resource more

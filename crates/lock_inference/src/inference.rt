@@ -4,13 +4,13 @@ ghost use Rattle.std.specs.Prelude.{◌≡◌, ◌<◌, IsTrue, IfSome};
 ghost use Rattle.mate_num.specs.declared.bounds.TheConstants.{DEVICES_MAX};
 ghost use Rattle.mate_code.specs.declared.uses.Use.TheVariants.{Calls};
 ghost use Rattle.mate_num.specs.Uses.{function_shape};
-ghost use Rattle.vm_desc.specs.Shapes.{shape_of};
+ghost use Rattle.vm_shape.specs.Shapes.{shape_of};
 ghost use Rattle.lock_inference.specs.Locks.{AreLocksOf, Gains, device_in, names_resource};
 
 use code_verifier::Verified;
 use mate_code::Use;
 use mate_num::{DeviceId, FunId, LockSet, Resource};
-use vm_desc::Description;
+use vm_shape::Description;
 
 /// The locks that a handler with this code takes: to read, exactly the shared variables and buffers that
 /// it reads, and to write, exactly the shared variables and buffers that it changes and the devices of

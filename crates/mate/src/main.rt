@@ -1,9 +1,9 @@
 //! The program `mate`: the words of the command line and the files of the current folder, to standard output.
 #![tactic(auto)]
 
+use command_refusals::{buffers, finished, words};
 use mate_cli::mate;
 use mate_files::{OsFiles, OsSink};
-use mate_refusals::{buffers, finished, words};
 use std::io;
 use std::process::ExitCode;
 

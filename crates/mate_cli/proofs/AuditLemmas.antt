@@ -2,12 +2,12 @@
 use Rattle.std.proofs.Common.{◌≡◌, ℕ, List, Result, Ok, Err, subst, inl, inr}
 use Rattle.std.specs.Prelude.{IsErrAnd}
 use Rattle.mate_cli.specs.Audit.{report_in, serial}
-use Rattle.mate_documents.specs.declared.output.Output.{Output}
+use Rattle.command_documents.specs.declared.output.Output.{Output}
 use Rattle.mate_journal.specs.declared.program.Program.{Program}
 use Rattle.mate_journal.specs.declared.report.Report.{Report}
-use Rattle.mate_refusals.specs.declared.refusal.Refusal.{Refusal}
-use Rattle.mate_steps.specs.Parts.{IsUnreadAnswer}
-use Rattle.vm_desc.specs.declared.description.Description.{Description}
+use Rattle.command_refusals.specs.declared.refusal.Refusal.{Refusal}
+use Rattle.command_steps.specs.Parts.{IsUnreadAnswer}
+use Rattle.vm_shape.specs.declared.description.Description.{Description}
 
 pub quiet-report : (d : Description) (bytes : List ℕ) (answer : Result Report Refusal) → report_in d bytes answer → IsUnreadAnswer answer → ⊥
 quiet-report d bytes (Ok r) is unread = unread

@@ -4,11 +4,11 @@ use Rattle.mate_files.specs.Sink.{Puts}
 use Rattle.mate_files.specs.declared.sink.SinkFault.{SinkFault}
 use Rattle.mate_files.specs.declared.sink.SinkFault.TheVariants.{Failed, NoMemory as OutOfMemory}
 use Rattle.mate_cli.specs.Ends.{Sinks, IsTextWritten, done, full, failed, wanting, IsRunWritten, whole, stopped, unwritten, cut, TellsEnd}
-use Rattle.mate_refusals.specs.declared.status.Status.{Status}
-use Rattle.report_text.specs.Writing.{OfRun, WritesRun, write_ended}
-use Rattle.report_text.specs.declared.write_fault.WriteFault.{WriteFault}
-use Rattle.report_text.specs.declared.write_fault.WriteFault.TheVariants.{LogFull, NoMemory, Sink}
-use Rattle.vm_desc.specs.declared.description.Description.{Description}
+use Rattle.command_refusals.specs.declared.status.Status.{Status}
+use Rattle.report_writer.specs.Writing.{OfRun, WritesRun, write_ended}
+use Rattle.report_writer.specs.declared.write_fault.WriteFault.{WriteFault}
+use Rattle.report_writer.specs.declared.write_fault.WriteFault.TheVariants.{LogFull, NoMemory, Sink}
+use Rattle.vm_shape.specs.declared.description.Description.{Description}
 
 pub run-written : (d : Description) (Is : OfRun) (s t : Sinks) (result : Result (Unit {0}) WriteFault) (status : Status) → WritesRun d Is s.out t.out s.out_faults t.out_faults result
     → TellsEnd result s.err s.err_faults t.err t.err_faults status → IsRunWritten d Is s t status

@@ -3,17 +3,17 @@ use Rattle.std.specs.Prelude.{ℕ, Bool, List, codes, Result, Ok, ⊤}
 use Rattle.audit_rules.specs.Verdicts.{IsVerdict}
 use Rattle.mate_journal.specs.declared.law.Law.{Law}
 use Rattle.mate_journal.specs.declared.law.Verdict.TheVariants as verdict
-use Rattle.mate_documents.specs.Owed.{Owed, writes}
+use Rattle.command_documents.specs.Owed.{Owed, writes}
 use Rattle.mate_journal.specs.declared.program.Program.{Program}
 use Rattle.mate_journal.specs.declared.report.Report.{Report}
-use Rattle.mate_refusals.specs.declared.refusal.Refusal.{Refusal}
-use Rattle.mate_refusals.specs.declared.refusal.Refusal.TheVariants.{Refuted}
-use Rattle.mate_refusals.specs.declared.refutation.Refutation.TheVariants.{Line, Node}
-use Rattle.mate_steps.specs.Parts.{Folder, file, machine}
-use Rattle.mate_steps.specs.Steps.{judged, ◌▸◌}
-use Rattle.report_reading.specs.Reads.{ReadsReport, IsBadLine}
-use Rattle.vm_desc.specs.declared.description.Description.{Description}
-use Rattle.script_programs.specs.Named.{programs_named}
+use Rattle.command_refusals.specs.declared.refusal.Refusal.{Refusal}
+use Rattle.command_refusals.specs.declared.refusal.Refusal.TheVariants.{Refuted}
+use Rattle.command_refusals.specs.declared.refutation.Refutation.TheVariants.{Line, Node}
+use Rattle.command_steps.specs.Parts.{Folder, file, machine}
+use Rattle.command_steps.specs.Steps.{judged, ◌▸◌}
+use Rattle.report_text.specs.Reads.{ReadsReport, IsBadLine}
+use Rattle.vm_shape.specs.declared.description.Description.{Description}
+use Rattle.command_programs.specs.Named.{programs_named}
 
 -- the report in the bytes; or the first line that fits no report
 abbrev pub report_in : Description → List ℕ → Result Report Refusal → Type 0

@@ -3,32 +3,32 @@ use Rattle.std.specs.Prelude.{◌≡◌, ℕ, Bool, true, false, List, Option, R
 use Rattle.mate_files.specs.Counts.{Rose}
 use Rattle.mate_files.specs.Sink.{Sent, SentPart, SentShort}
 use Rattle.command_line.specs.Commands.{Task, Node, Sim, Gen, Table, Compile, Check, Expand, Feed, Audit, Says, SaysNothing}
-use Rattle.mate_refusals.specs.Refusals.{TellsRefusal}
-use Rattle.mate_refusals.specs.declared.status.Status.{Status}
-use Rattle.mate_refusals.specs.declared.status.Status.TheVariants.{Ok as AllDone}
-use Rattle.mate_refusals.specs.declared.refusal.Refusal.{Refusal}
-use Rattle.mate_refusals.specs.declared.refusal.Refusal.TheVariants.{Usage, LogFull, SinkFault, NoMemory}
-use Rattle.mate_documents.specs.Check.{check}
-use Rattle.mate_documents.specs.Compile.{compile}
-use Rattle.mate_documents.specs.Expand.{expand}
-use Rattle.mate_documents.specs.Feed.{feed}
+use Rattle.command_refusals.specs.Refusals.{TellsRefusal}
+use Rattle.command_refusals.specs.declared.status.Status.{Status}
+use Rattle.command_refusals.specs.declared.status.Status.TheVariants.{Ok as AllDone}
+use Rattle.command_refusals.specs.declared.refusal.Refusal.{Refusal}
+use Rattle.command_refusals.specs.declared.refusal.Refusal.TheVariants.{Usage, LogFull, SinkFault, NoMemory}
+use Rattle.command_documents.specs.Check.{check}
+use Rattle.command_documents.specs.Compile.{compile}
+use Rattle.command_documents.specs.Expand.{expand}
+use Rattle.command_documents.specs.Feed.{feed}
 use Rattle.mate_cli.specs.Audit.{audit}
 use Rattle.mate_cli.specs.Node.{node}
 use Rattle.mate_cli.specs.Worlds.{sim, made_run}
-use Rattle.mate_steps.specs.Parts.{Folder, IsUnreadAnswer}
-use Rattle.mate_steps.specs.Steps.{judged, ◌▸◌}
-use Rattle.mate_documents.specs.Table.{opcode_table}
-use Rattle.mate_documents.specs.Owed.{Owed, a_text, a_run}
-use Rattle.mate_documents.specs.declared.output.Run.{Run}
-use Rattle.mate_documents.specs.declared.output.Run.TheVariants as run
+use Rattle.command_steps.specs.Parts.{Folder, IsUnreadAnswer}
+use Rattle.command_steps.specs.Steps.{judged, ◌▸◌}
+use Rattle.command_documents.specs.Table.{opcode_table}
+use Rattle.command_documents.specs.Owed.{Owed, a_text, a_run}
+use Rattle.command_documents.specs.declared.output.Run.{Run}
+use Rattle.command_documents.specs.declared.output.Run.TheVariants as run
 use Rattle.mate_journal.specs.NodeScript.{Whole, Full}
 use Rattle.mate_journal.specs.declared.report.Report.{Report}
-use Rattle.report_text.specs.Text.{text}
-use Rattle.run_steps.specs.Running.{IsReportOf}
-use Rattle.report_text.specs.Writing.{OfRun, IsWrittenPart, IsWrittenShort, IsNothingRun}
-use Rattle.report_text.specs.declared.write_fault.WriteFault.{WriteFault}
-use Rattle.report_text.specs.declared.write_fault.WriteFault.TheVariants as fault
-use Rattle.vm_desc.specs.declared.description.Description.{Description}
+use Rattle.report_writer.specs.Text.{text}
+use Rattle.node_runs.specs.Running.{IsReportOf}
+use Rattle.report_writer.specs.Writing.{OfRun, IsWrittenPart, IsWrittenShort, IsNothingRun}
+use Rattle.report_writer.specs.declared.write_fault.WriteFault.{WriteFault}
+use Rattle.report_writer.specs.declared.write_fault.WriteFault.TheVariants as fault
+use Rattle.vm_shape.specs.declared.description.Description.{Description}
 use Rattle.world_run_laws.specs.Promise.{IsReportOfWorld}
 
 abbrev pub command : Folder → Task → Result Owed Refusal → Type 0

@@ -1,15 +1,15 @@
 -- What is written of a run, of a node script or of a world.
 use Rattle.std.specs.Prelude.{Bool, true, false, Result}
-use Rattle.mate_documents.specs.Owed.{Owed, a_text, a_run, exactly}
-use Rattle.mate_documents.specs.declared.output.Run.{Run}
-use Rattle.mate_documents.specs.declared.output.Run.TheVariants.{Script, World}
-use Rattle.report_text.specs.Brief.{brief}
+use Rattle.command_documents.specs.Owed.{Owed, a_text, a_run, exactly}
+use Rattle.command_documents.specs.declared.output.Run.{Run}
+use Rattle.command_documents.specs.declared.output.Run.TheVariants.{Script, World}
+use Rattle.report_writer.specs.Brief.{brief}
 use Rattle.mate_journal.specs.declared.report.Report.{Report}
-use Rattle.mate_refusals.specs.declared.refusal.Refusal.{Refusal}
-use Rattle.mate_steps.specs.Steps.{obtained, ◌▸◌}
-use Rattle.report_text.specs.Writing.{OfRun, IsEnded}
-use Rattle.run_steps.specs.Running.{IsScriptReport}
-use Rattle.vm_desc.specs.declared.description.Description.{Description}
+use Rattle.command_refusals.specs.declared.refusal.Refusal.{Refusal}
+use Rattle.command_steps.specs.Steps.{obtained, ◌▸◌}
+use Rattle.report_writer.specs.Writing.{OfRun, IsEnded}
+use Rattle.node_runs.specs.Running.{IsScriptReport}
+use Rattle.vm_shape.specs.declared.description.Description.{Description}
 use Rattle.world_run_laws.specs.Promise.{IsReportOfWorld}
 
 -- the report of a run

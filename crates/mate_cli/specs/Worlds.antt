@@ -1,15 +1,15 @@
 -- The commands `sim` and `gen`: the run of a world with its programs, or the summary of its report.
 use Rattle.std.specs.Prelude.{ℕ, Bool, List, Result}
 use Rattle.mate_cli.specs.Runs.{run_output}
-use Rattle.mate_documents.specs.Owed.{Owed}
-use Rattle.mate_documents.specs.declared.output.Run.TheVariants as run
-use Rattle.mate_refusals.specs.declared.refusal.Refusal.{Refusal}
-use Rattle.mate_steps.specs.Parts.{Folder, machine}
-use Rattle.mate_steps.specs.Steps.{◌▸◌}
-use Rattle.vm_desc.specs.declared.description.Description.{Description}
-use Rattle.script_programs.specs.Injected.{world_programs}
-use Rattle.script_programs.specs.Made.{made}
-use Rattle.script_programs.specs.WorldFiles.{world}
+use Rattle.command_documents.specs.Owed.{Owed}
+use Rattle.command_documents.specs.declared.output.Run.TheVariants as run
+use Rattle.command_refusals.specs.declared.refusal.Refusal.{Refusal}
+use Rattle.command_steps.specs.Parts.{Folder, machine}
+use Rattle.command_steps.specs.Steps.{◌▸◌}
+use Rattle.vm_shape.specs.declared.description.Description.{Description}
+use Rattle.command_programs.specs.Injected.{world_programs}
+use Rattle.command_programs.specs.Made.{made}
+use Rattle.command_programs.specs.WorldFiles.{world}
 
 -- what is written of the run of the world of a script's file
 abbrev pub run_of_world : Folder → (fold brief : Bool) → Description → (name : List ℕ) → Result Owed Refusal → Type 0

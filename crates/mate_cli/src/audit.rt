@@ -2,23 +2,23 @@
 
 ghost use Rattle.std.specs.Prelude.{◌≤◌, length, IfOk};
 ghost use Rattle.mate_cli.specs.Audit.{audit, audit_by, audit_of, report_of_file, report_in, serial};
-ghost use Rattle.mate_documents.specs.Outputs.{CanBeWritten, owed_in};
+ghost use Rattle.command_documents.specs.Outputs.{CanBeWritten, owed_in};
 ghost use Rattle.mate_files.specs.declared.files.TheConstants.{FILE_MAX};
-ghost use Rattle.mate_steps.specs.Parts.{ReadsFiles};
+ghost use Rattle.command_steps.specs.Parts.{ReadsFiles};
 ghost use Rattle.node_programs.specs.Right.{AreRightPrograms};
-ghost use Rattle.report_text.specs.Tidy.{IsTidy};
+ghost use Rattle.report_writer.specs.Tidy.{IsTidy};
 
+use command_documents::{BoxedMachine, Document, Output};
 use command_line::Audit;
-use mate_documents::{BoxedMachine, Document, Output};
+use command_programs::programs_named;
+use command_refusals::{Refusal, Refutation};
+use command_steps::read_file;
 use mate_files::Files;
 use mate_journal::{Programs, Report};
-use mate_refusals::{Refusal, Refutation};
-use mate_steps::read_file;
 use report_audit::Verdict;
-use report_reading::TextFault;
-use script_programs::programs_named;
+use report_text::TextFault;
 use std::alloc::Global;
-use vm_desc::Description;
+use vm_shape::Description;
 
 /// The document that says that the report shows serial behaviour of what the script runs; or why it doesn't.
 #[inline(never)]
@@ -96,7 +96,7 @@ fn report_in(alloc: Global, desc: &Description, bytes: &[u8]) -> Result<Report, 
     ensures does { report_in desc.now bytes.now result }
     ensures tidy { IfOk result (IsTidy desc.now) }
 {
-    match report_reading::read(alloc, desc, bytes) {
+    match report_text::read(alloc, desc, bytes) {
         Ok(report) => Ok(report),
         Err(TextFault::BadLine { line }) => Err(Refusal::Refuted(Refutation::Line { line })),
         Err(TextFault::NoMemory) => Err(Refusal::NoMemory),

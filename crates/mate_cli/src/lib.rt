@@ -9,5 +9,6 @@ mod sim;
 pub mod top;
 mod writing;
 
-pub use mate_refusals::Status;
+pub use command_refusals::Status;
+pub use node_runs::{run_steps, run_steps_into};
 pub use top::mate;

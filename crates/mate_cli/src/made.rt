@@ -2,16 +2,16 @@
 
 ghost use Rattle.std.specs.Prelude.{◌≡◌, IfOk, IfErr};
 ghost use Rattle.mate_cli.specs.Worlds.{made_run, run_of_number};
-ghost use Rattle.mate_documents.specs.Outputs.{CanBeWritten, owed_in};
-ghost use Rattle.mate_refusals.specs.declared.refusal.Refusal.TheVariants.{NoMemory};
-ghost use Rattle.mate_steps.specs.Parts.{ReadsFiles};
+ghost use Rattle.command_documents.specs.Outputs.{CanBeWritten, owed_in};
+ghost use Rattle.command_refusals.specs.declared.refusal.Refusal.TheVariants.{NoMemory};
+ghost use Rattle.command_steps.specs.Parts.{ReadsFiles};
 
 use crate::runs::run_output;
+use command_documents::{BoxedMachine, Output, Run};
 use command_line::MadeRun;
-use mate_documents::{BoxedMachine, Output, Run};
+use command_programs::made_world;
+use command_refusals::Refusal;
 use mate_files::Files;
-use mate_refusals::Refusal;
-use script_programs::made_world;
 use std::alloc::Global;
 
 /// The report of the run of a number's world, or its summary.

@@ -2,15 +2,15 @@
 
 ghost use Rattle.std.specs.Prelude.{IfOk};
 ghost use Rattle.mate_cli.specs.Node.{node, run_of_script};
-ghost use Rattle.mate_documents.specs.Outputs.{CanBeWritten, owed_in};
-ghost use Rattle.mate_steps.specs.Parts.{ReadsFiles};
+ghost use Rattle.command_documents.specs.Outputs.{CanBeWritten, owed_in};
+ghost use Rattle.command_steps.specs.Parts.{ReadsFiles};
 
 use crate::runs::run_output;
+use command_documents::{BoxedMachine, Output, Run};
 use command_line::ScriptRun;
-use mate_documents::{BoxedMachine, Output, Run};
+use command_programs::{programs_of, script_of};
+use command_refusals::Refusal;
 use mate_files::Files;
-use mate_refusals::Refusal;
-use script_programs::{programs_of, script_of};
 use std::alloc::Global;
 
 /// The run of a node script, whose report is written while it runs; or the summary of its report, counted while it runs.

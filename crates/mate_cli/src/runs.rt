@@ -2,12 +2,12 @@
 
 ghost use Rattle.std.specs.Prelude.{◌≡◌, IfOk, IfErr, true};
 ghost use Rattle.mate_cli.specs.Runs.{run_output};
-ghost use Rattle.mate_documents.specs.Outputs.{CanBeWritten, HasPrograms, owed_in};
-ghost use Rattle.mate_refusals.specs.declared.refusal.Refusal.TheVariants.{NoMemory};
+ghost use Rattle.command_documents.specs.Outputs.{CanBeWritten, HasPrograms, owed_in};
+ghost use Rattle.command_refusals.specs.declared.refusal.Refusal.TheVariants.{NoMemory};
 
-use mate_documents::{Output, Run};
-use mate_refusals::Refusal;
-use run_steps::sum_steps;
+use command_documents::{Output, Run};
+use command_refusals::Refusal;
+use node_runs::sum_steps;
 use std::alloc::Global;
 use world_runs::sum_world;
 

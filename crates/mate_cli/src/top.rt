@@ -3,15 +3,15 @@
 ghost use Rattle.std.specs.Prelude.{◌≡◌, map, string_bytes, IfOk};
 ghost use Rattle.command_line.specs.Commands.{task_held};
 ghost use Rattle.mate_cli.specs.Ends.{CallEnds, Owes, command};
-ghost use Rattle.mate_documents.specs.Outputs.{CanBeWritten, owed_in};
-ghost use Rattle.mate_steps.specs.Parts.{ReadsFiles};
+ghost use Rattle.command_documents.specs.Outputs.{CanBeWritten, owed_in};
+ghost use Rattle.command_steps.specs.Parts.{ReadsFiles};
 
 use crate::writing::write_output;
 use crate::{audit, made, node, sim};
+use command_documents::{Output, check, compile, expand, feed, table};
 use command_line::{Command, WordsFault, command_of};
-use mate_documents::{Output, check, compile, expand, feed, table};
+use command_refusals::{Refusal, Status};
 use mate_files::{Files, Sink};
-use mate_refusals::{Refusal, Status};
 use std::alloc::Global;
 use std::mem;
 

@@ -2,17 +2,17 @@
 
 ghost use Rattle.std.specs.Prelude.{true};
 ghost use Rattle.mate_cli.specs.Ends.{IsTextWritten, IsOwedWritten, IsReportWritten, TellsEnd};
-ghost use Rattle.mate_documents.specs.Outputs.{CanBeWritten, HasPrograms, owed_of};
-ghost use Rattle.mate_documents.specs.Documents.{document_text, HasText};
-ghost use Rattle.report_text.specs.Summary.{summary_text, IsSmall};
+ghost use Rattle.command_documents.specs.Outputs.{CanBeWritten, HasPrograms, owed_of};
+ghost use Rattle.command_documents.specs.Documents.{document_text, HasText};
+ghost use Rattle.report_writer.specs.Summary.{summary_text, IsSmall};
 
-use mate_documents::{Document, Output, Run};
+use command_documents::{Document, Output, Run};
+use command_refusals::{Refusal, Status};
 use mate_files::Sink;
-use mate_refusals::{Refusal, Status};
-use report_text::{Summary, WriteFault, ended};
-use run_steps::write_steps;
+use node_runs::write_steps;
+use report_writer::{Summary, WriteFault, ended};
 use std::alloc::Global;
-use vm_desc::Description;
+use vm_shape::Description;
 use world_runs::write_world;
 
 /// Writes an output.

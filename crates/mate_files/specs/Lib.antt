@@ -4,3 +4,5 @@ pub mod OsFiles
 pub mod OsSink
 pub mod Pen
 pub mod Sink
+pub mod MemFiles
+pub mod MemSink

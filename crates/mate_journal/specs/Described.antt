@@ -2,11 +2,11 @@
 use Rattle.std.specs.Prelude.{ℕ, Bool, true, false, length, Option, slice_get}
 use Rattle.std.specs.Option.{option_map_or, option_and_then}
 use Rattle.mate_num.specs.Store.{zero_store}
-use Rattle.vm_desc.specs.Contexts.{first_context}
-use Rattle.vm_desc.specs.declared.description.Description.{Description}
-use Rattle.vm_desc.specs.declared.handler.Handler.{Handler}
-use Rattle.vm_desc.specs.declared.handler.HandlerKind.{HandlerKind}
-use Rattle.vm_desc.specs.declared.handler.HandlerKind.TheVariants as kind
+use Rattle.vm_shape.specs.Contexts.{first_context}
+use Rattle.vm_shape.specs.declared.description.Description.{Description}
+use Rattle.vm_shape.specs.declared.handler.Handler.{Handler}
+use Rattle.vm_shape.specs.declared.handler.HandlerKind.{HandlerKind}
+use Rattle.vm_shape.specs.declared.handler.HandlerKind.TheVariants as kind
 use Rattle.mate_journal.specs.Machine.{Machine, Meaning}
 
 -- how many contexts a handler has

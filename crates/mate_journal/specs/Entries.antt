@@ -2,8 +2,8 @@
 use Rattle.std.specs.Prelude.{◌<◌, ◌≤◌, ◌^◌, ℤ, List, length, All, FitsSigned, ⊤}
 use Rattle.std.specs.Int.{w16}
 use Rattle.mate_num.specs.declared.bounds.TheConstants.{PAYLOAD_MAX}
-use Rattle.vm_desc.specs.Whole.{context_count}
-use Rattle.vm_desc.specs.declared.description.Description.{Description}
+use Rattle.vm_shape.specs.Whole.{context_count}
+use Rattle.vm_shape.specs.declared.description.Description.{Description}
 use Rattle.mate_journal.specs.declared.entry.Entry.{Entry}
 use Rattle.mate_journal.specs.declared.entry.Entry.TheVariants as entry
 use Rattle.mate_journal.specs.declared.entry.VoidCause.{VoidCause}

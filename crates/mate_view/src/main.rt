@@ -1,13 +1,13 @@
 //! The program `mate-view`: pictures and tables of the reports that `mate` writes.
 #![tactic(auto)]
 
+use command_refusals::{Refusal, Status, words};
 use mate_files::{OsFiles, OsSink, Sink};
-use mate_refusals::{Refusal, Status, words};
 use std::io::{BufWriter, Read, Write};
 use std::process::ExitCode;
 use std::rt::Files;
 use std::{fs, io};
-use view_cli::{Request, Stop, read, view};
+use view_cli::{Request, Stop, VERSION, Words, read, view};
 use view_records::Ink;
 
 /// How many bytes are written to standard output at once.
@@ -17,12 +17,21 @@ fn main(rt: HostRuntime) -> ExitCode {
     let mut err = OsSink::new(rt.stderr());
     let status = match words(&rt) {
         Ok(words) => match read(rt.alloc(), &words) {
-            Ok(request) => run(&rt, &request, &mut err),
+            Ok(Words::View(request)) => run(&rt, &request, &mut err),
+            Ok(Words::Version) => tell_version(&rt, &mut err),
             Err(refusal) => refusal.refuse(&mut err),
         },
         Err(refusal) => refusal.refuse(&mut err),
     };
     ExitCode::from(status.code())
+}
+
+/// Writes the name of the program and its version.
+fn tell_version<E: Sink>(rt: &impl Print, err: &mut E) -> Status {
+    match println!(rt; "mate-view {VERSION}") {
+        Ok(()) => Status::Ok,
+        Err(_) => Refusal::SinkFault.refuse(err),
+    }
 }
 
 /// Opens the report, and makes the view of it.
@@ -36,7 +45,7 @@ fn run<E: Sink>(
     }
     match fs::open(rt, request.report) {
         Ok(file) => written(rt, request, file, err),
-        Err(_) => Stop::Unread.tell(request.report, err),
+        Err(_) => Stop::Unread.tell(rt.alloc(), request.report, request.machine, err),
     }
 }
 
@@ -58,6 +67,6 @@ fn written<T: Files + Print + AllocGlobal, R: Read + Drop, E: Sink>(
     match made {
         Ok(()) if flushed => Status::Ok,
         Ok(()) => Refusal::SinkFault.refuse(err),
-        Err(stop) => stop.tell(request.report, err),
+        Err(stop) => stop.tell(rt.alloc(), request.report, request.machine, err),
     }
 }

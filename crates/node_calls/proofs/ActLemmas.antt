@@ -9,7 +9,7 @@ use Rattle.mate_code.specs.Run.{Over}
 use Rattle.context_sched.specs.Ready.{without}
 use Rattle.exec_unit.specs.declared.step_end.StepEnd.{StepEnd}
 use Rattle.exec_unit.specs.Step.{own_after}
-use Rattle.vm_desc.specs.declared.description.Description.{Description}
+use Rattle.vm_shape.specs.declared.description.Description.{Description}
 use Rattle.mate_journal.specs.declared.entry.Entry.{Entry}
 use Rattle.mate_journal.specs.Log.{Log}
 use Rattle.mate_journal.specs.Journal.{JournalEntry, is_live, is_started, NodeState, whole_run, changed, next_state}

@@ -14,7 +14,7 @@ use Rattle.lock_manager.specs.Claims.{Claims}
 use Rattle.exec_unit.specs.declared.step_end.StepEnd.{StepEnd}
 use Rattle.exec_unit.specs.declared.step_end.StepEnd.TheVariants.{Ask}
 use Rattle.exec_unit.specs.Step.{own_after}
-use Rattle.vm_desc.specs.declared.description.Description.{Description}
+use Rattle.vm_shape.specs.declared.description.Description.{Description}
 use Rattle.mate_journal.specs.declared.entry.Entry.{Entry}
 use Rattle.mate_journal.specs.declared.entry.Entry.TheVariants as entry
 use Rattle.mate_journal.specs.Log.{Log}

@@ -18,8 +18,8 @@ use Rattle.split_phase.specs.Calls.{Asked}
 use Rattle.lock_manager.specs.Claims.{Claims}
 use Rattle.lock_manager.proofs.ClaimLemmas.{same_context}
 use Rattle.code_verifier.specs.Verified.{IsAtVerified as FitsCode}
-use Rattle.vm_desc.specs.declared.description.Description.{Description}
-use Rattle.vm_desc.specs.Shapes.{shape_of}
+use Rattle.vm_shape.specs.declared.description.Description.{Description}
+use Rattle.vm_shape.specs.Shapes.{shape_of}
 use Rattle.mate_journal.specs.declared.entry.Entry.TheVariants as entry
 use Rattle.mate_journal.specs.Machine.{Machine}
 use Rattle.mate_journal.specs.Journal.{Answered, Phase, Ready, Waiting, is_started, Invocation, NodeState, answers_of, next_state}

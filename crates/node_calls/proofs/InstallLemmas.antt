@@ -31,8 +31,8 @@ use Rattle.mate_code.specs.Verification.{Marks, verification}
 use Rattle.std.proofs.lemmas.List.Elements.{All-nil, All-cons, All-append}
 use Rattle.mate_journal.specs.Tidy.{IsStoreOf}
 use Rattle.journal_laws.proofs.TidyLemmas.{NumbersInOrder-install, NamesInLog-numbered}
-use Rattle.vm_desc.specs.declared.description.Description.{Description}
-use Rattle.vm_desc.specs.Shapes.{shape_of}
+use Rattle.vm_shape.specs.declared.description.Description.{Description}
+use Rattle.vm_shape.specs.Shapes.{shape_of}
 use Rattle.mate_journal.specs.declared.entry.Entry.TheVariants as entry
 use Rattle.mate_journal.specs.Log.{Log}
 use Rattle.mate_journal.specs.Machine.{Machine, HeldProgram}

@@ -16,13 +16,13 @@ use Rattle.lock_manager.proofs.ClaimLemmas.{same_context}
 use Rattle.context_sched.specs.Ready.{is_same, holds}
 use Rattle.code_verifier.specs.Verified.{VerifiedCode, IsVerifiedCode, IsAtVerified as FitsCode}
 use Rattle.exec_unit.specs.Machine.{begun}
-use Rattle.vm_desc.specs.declared.description.Description.{Description}
-use Rattle.vm_desc.specs.declared.handler.Handler.{Handler}
-use Rattle.vm_desc.specs.declared.handler.HandlerKind.{HandlerKind}
-use Rattle.vm_desc.specs.declared.handler.HandlerKind.TheVariants as kind
-use Rattle.vm_desc.specs.Bounds.{HasBounds}
-use Rattle.vm_desc.specs.Contexts.{first_context}
-use Rattle.vm_desc.proofs.DescriptionLemmas.{bounds_of, first_context-within}
+use Rattle.vm_shape.specs.declared.description.Description.{Description}
+use Rattle.vm_shape.specs.declared.handler.Handler.{Handler}
+use Rattle.vm_shape.specs.declared.handler.HandlerKind.{HandlerKind}
+use Rattle.vm_shape.specs.declared.handler.HandlerKind.TheVariants as kind
+use Rattle.vm_shape.specs.Bounds.{HasBounds}
+use Rattle.vm_shape.specs.Contexts.{first_context}
+use Rattle.vm_shape.proofs.DescriptionLemmas.{bounds_of, first_context-within}
 use Rattle.mate_journal.specs.declared.entry.DropCause.TheVariants as drop
 use Rattle.mate_journal.specs.declared.entry.Entry.TheVariants as entry
 use Rattle.mate_journal.specs.Described.{is_once, runs_once}

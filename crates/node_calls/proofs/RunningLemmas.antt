@@ -11,7 +11,7 @@ use Rattle.code_verifier.specs.Verified.{IsAtVerified as FitsCode}
 use Rattle.exec_unit.specs.declared.step_end.StepEnd.{StepEnd}
 use Rattle.exec_unit.specs.declared.step_end.StepEnd.TheVariants.{Next, Ask, Halt, Fault}
 use Rattle.exec_unit.specs.Step.{HasLengths, IsStep}
-use Rattle.vm_desc.specs.declared.description.Description.{Description}
+use Rattle.vm_shape.specs.declared.description.Description.{Description}
 use Rattle.mate_journal.specs.Journal.{Phase, Ready, Invocation, NodeState}
 use Rattle.node_state.specs.declared.handlers.Held.{Held}
 use Rattle.exec_unit.specs.declared.running.Ran.{Ran}

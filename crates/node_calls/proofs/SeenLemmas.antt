@@ -7,7 +7,7 @@ use Rattle.std.specs.Prelude.{All}
 use Rattle.arrayvec.specs.ArrayVec.{ArrayVec}
 use Rattle.mate_journal.specs.Tidy.{IsStoreOf}
 use Rattle.journal_laws.proofs.TidyLemmas.{NumbersInOrder-seen, NamesInLog-numbered, lengths-add}
-use Rattle.vm_desc.specs.declared.description.Description.{Description}
+use Rattle.vm_shape.specs.declared.description.Description.{Description}
 use Rattle.mate_journal.specs.declared.entry.Entry.TheVariants as entry
 use Rattle.mate_journal.specs.declared.entry.VoidCause.{VoidCause}
 use Rattle.mate_journal.specs.declared.entry.DropCause.{DropCause}

@@ -10,7 +10,7 @@ use Rattle.context_sched.specs.Ready.{is_same, without}
 use Rattle.lock_manager.proofs.ClaimLemmas.{same_context}
 use Rattle.exec_unit.specs.declared.step_end.StepEnd.{StepEnd}
 use Rattle.exec_unit.specs.Step.{own_after}
-use Rattle.vm_desc.specs.declared.description.Description.{Description}
+use Rattle.vm_shape.specs.declared.description.Description.{Description}
 use Rattle.mate_journal.specs.Journal.{is_started, Invocation, NodeState, whole_run, changed}
 use Rattle.node_state.specs.declared.seat.Seat.{Seat}
 use Rattle.node_state.specs.declared.contexts.Contexts.{Contexts}

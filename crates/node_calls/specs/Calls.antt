@@ -6,7 +6,7 @@ use Rattle.mate_num.specs.declared.id.ContextId.{ContextId}
 use Rattle.mate_journal.specs.Journal.{JournalEntry, Seen, NodeState}
 use Rattle.mate_journal.specs.WellFormed.{IsWaiting}
 use Rattle.node_state.specs.At.{AreIdle}
-use Rattle.vm_desc.specs.declared.description.Description.{Description}
+use Rattle.vm_shape.specs.declared.description.Description.{Description}
 use Rattle.node_state.specs.declared.parts.Parts.{Parts}
 use Rattle.node_state.specs.Keeps.{reading, TellsMore}
 use Rattle.mate_journal.specs.Pace.{Pace, paced_all}

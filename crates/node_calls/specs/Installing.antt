@@ -9,8 +9,8 @@ use Rattle.mate_code.specs.declared.fault.VerifyFault.{VerifyFault}
 use Rattle.mate_code.specs.BytesVerification.{bytes_verification}
 use Rattle.mate_code.specs.Run.{Code as InstrCode}
 use Rattle.mate_code.specs.Verification.{Marks}
-use Rattle.vm_desc.specs.declared.description.Description.{Description}
-use Rattle.vm_desc.specs.Shapes.{shape_of}
+use Rattle.vm_shape.specs.declared.description.Description.{Description}
+use Rattle.vm_shape.specs.Shapes.{shape_of}
 use Rattle.mate_journal.specs.Machine.{HeldProgram}
 use Rattle.mate_journal.specs.Journal.{JournalEntry, NodeState, held}
 use Rattle.mate_journal.specs.NodeScript.{Installs}

@@ -9,7 +9,7 @@ use Rattle.mate_journal.specs.Journal.{JournalEntry, Posted as PostedEntry, Node
 use Rattle.mate_journal.specs.NodeScript.{DropsNoCode, DropsAllBusy, IsFirstIdle, Posts}
 use Rattle.mate_num.specs.declared.call.Stamp.{Stamp}
 use Rattle.mate_num.specs.declared.lock_set.LockSet.{LockSet}
-use Rattle.vm_desc.specs.declared.description.Description.{Description}
+use Rattle.vm_shape.specs.declared.description.Description.{Description}
 use Rattle.node_state.specs.declared.handlers.Held.{Held}
 use Rattle.node_state.specs.Programs.{held_at}
 use Rattle.node_state.specs.declared.parts.Parts.{Parts}

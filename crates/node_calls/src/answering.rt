@@ -11,7 +11,7 @@ use mate_journal::Entry;
 use mate_num::{ContextId, Stamp};
 use node_state::{Parts, answer, number, tell};
 use split_phase::NotWaiting;
-use vm_desc::Description;
+use vm_shape::Description;
 
 /// Gives the invocation that waits in the context the answer to its call: it is ready, behind all others. `NotWaiting`
 /// comes exactly if none waits there, and then nothing changes.

@@ -11,7 +11,7 @@ use crate::showing::seen_in;
 use mate_journal::Entry;
 use mate_num::Stamp;
 use node_state::{Parts, tell};
-use vm_desc::Description;
+use vm_shape::Description;
 
 /// Cuts all live invocations, sets all shared variables to 0, and empties all buffers.
 pub(crate) fn clear(description: &Description, parts: &mut Parts)

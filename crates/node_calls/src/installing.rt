@@ -2,7 +2,7 @@
 
 ghost use Rattle.std.specs.Prelude.{◌≡◌, ◌<◌, ◌∷◌, [], length, All, IsTrue, MatchOption};
 ghost use Rattle.mate_journal.specs.Journal.{Installed};
-ghost use Rattle.vm_desc.specs.Shapes.{shape_of};
+ghost use Rattle.vm_shape.specs.Shapes.{shape_of};
 ghost use Rattle.code_verifier.specs.Verified.{IsVerificationOf};
 ghost use Rattle.node_state.specs.Programs.{HasOwnRoom, held_at};
 ghost use Rattle.node_state.specs.Fits.{IsHeld, program_of};
@@ -21,7 +21,7 @@ use lock_inference::locks;
 use mate_code::Table;
 use mate_num::{HandlerId, Image, Payload, Stamp};
 use node_state::{Held, Parts, SharedHeld};
-use vm_desc::{Description, HandlerKind, shape};
+use vm_shape::{Description, HandlerKind, shape};
 
 /// Why a capsule isn't installed.
 #[derive(Clone, Copy)]

@@ -13,7 +13,7 @@ use exec_unit::Machine;
 use mate_journal::{DropCause, Entry};
 use mate_num::{ContextId, HandlerId, LockSet, Payload, Stamp};
 use node_state::{Contexts, Parts, Seat, start_all, tell};
-use vm_desc::Description;
+use vm_shape::Description;
 
 /// What became of an event.
 #[derive(Clone, Copy)]

@@ -1,7 +1,7 @@
 //! Capsules that are ready to be installed on the nodes of a machine.
 
 ghost use Rattle.std.specs.Prelude.{◌≡◌, ◌≤◌, All, length, IfOk, IfSome, IsTrue};
-ghost use Rattle.vm_desc.specs.Shapes.{shape_of};
+ghost use Rattle.vm_shape.specs.Shapes.{shape_of};
 ghost use Rattle.code_verifier.specs.Verified.{IsVerificationOf};
 ghost use Rattle.node_calls.specs.Installing.{IsInstallable, IsReadAs, IsReady, IsReadyOn};
 
@@ -12,7 +12,7 @@ use mate_code::Table;
 use mate_num::{HandlerId, IMAGE_HEAD, NoMemory};
 use node_state::SharedHeld;
 use std::alloc::Global;
-use vm_desc::{Description, shape};
+use vm_shape::{Description, shape};
 
 /// A right capsule, as it is installed: its handler, and its program, which is in one place for all nodes.
 #[derive(Drop)]

@@ -8,12 +8,12 @@ ghost use Rattle.node_state.specs.Programs.{held_at};
 ghost use Rattle.node_state.specs.Starting.{KeepsOrder};
 ghost use Rattle.node_calls.specs.Pacing.{RunsFor};
 
+use code_runs::run;
 use exec_unit::Ran;
-use fused_runs::run;
 use mate_num::ContextId;
 use node_heap::Heap;
 use node_state::{Contexts, Handlers, Parts};
-use vm_desc::Description;
+use vm_shape::Description;
 
 /// Executes n instructions of the invocation in the context, or fewer if it calls a function or ends.
 pub fn run_some(description: &Description, parts: &mut Parts, ctx: ContextId, n: u32) -> Ran

@@ -10,7 +10,7 @@ use mate_journal::{Entry, HasStore, VoidCause};
 use mate_num::{BufId, Stamp};
 use node_heap::Heap;
 use node_state::{Parts, tell};
-use vm_desc::Description;
+use vm_shape::Description;
 
 /// The memory of a node, whose store is recorded from where it is.
 #[derive(Drop)]

@@ -13,7 +13,7 @@ use exec_unit::{Ran, StepEnd};
 use mate_journal::Entry;
 use mate_num::{ContextId, Stamp, copy_of};
 use node_state::{Parts, number, start_all, tell};
-use vm_desc::Description;
+use vm_shape::Description;
 
 /// The ready invocation in the context has a turn of n instructions. If it calls a function or ends, that is recorded; if it
 /// ends, those that it held back start. Answers how many instructions it executed.

@@ -1,6 +1,6 @@
 -- What a node with its whole log keeps.
 use Rattle.std.specs.Prelude.{◌≡◌}
-use Rattle.open_node.specs.View.{HasPlaces}
+use Rattle.node_open.specs.View.{HasPlaces}
 use Rattle.node_core.specs.declared.node.Node.TheInside.{Inside}
 use Rattle.mate_journal.specs.OpenLog.{nothing_gone}
 

@@ -4,3 +4,5 @@
 pub mod node;
 
 pub use node::Node;
+pub use node_calls::{InstallFault, PostAnswer};
+pub use node_open::{Asked, NotReady, Standing};

@@ -13,17 +13,17 @@ ghost use Rattle.node_calls.specs.Pacing.{SettlesWithin};
 ghost use Rattle.node_calls.specs.Calls.{NobodyWaits};
 ghost use Rattle.node_calls.specs.Posting.{PostGives};
 ghost use Rattle.node_calls.specs.Installing.{InstallsBytes, Refuses};
-ghost use Rattle.open_node.specs.Journal.{KeepsJournal};
-ghost use Rattle.open_node.specs.declared.open_node.TheConstants.{SETTLING_ENTRIES, TURN_ENTRIES};
+ghost use Rattle.node_open.specs.Journal.{KeepsJournal};
+ghost use Rattle.node_open.specs.declared.open_node.TheConstants.{SETTLING_ENTRIES, TURN_ENTRIES};
 
 use mate_journal::{NodeLog, VoidCause};
 use mate_num::{ContextId, HandlerId, Image, NoMemory, Payload, Stamp};
 use node_calls::{InstallFault, PostAnswer};
-use open_node::{Asked, NotReady, OpenNode, Standing};
+use node_open::{Asked, NotReady, OpenNode, Standing};
 use split_phase::NotWaiting;
 use std::alloc::Global;
 use std::marker::Model;
-use vm_desc::Description;
+use vm_shape::Description;
 
 /// A node. Its calls are those of `OpenNode`, over a log of which nothing is gone.
 #[derive(Drop)]
@@ -33,7 +33,7 @@ pub struct Node {
 }
 
 impl Model for Node {
-    ghost use Rattle.open_node.specs.View.{NodeView};
+    ghost use Rattle.node_open.specs.View.{NodeView};
 
     ghost Value = { NodeView };
 
@@ -45,8 +45,8 @@ impl Model for Node {
 }
 
 impl Node {
-    ghost use Rattle.open_node.specs.View.{heard_of, HasPace, Tells, IsSameNode};
-    ghost use Rattle.open_node.specs.Calls.{Pacing, HasStepped, StandsAs, IsAsked, IsImageOf};
+    ghost use Rattle.node_open.specs.View.{heard_of, HasPace, Tells, IsSameNode};
+    ghost use Rattle.node_open.specs.Calls.{Pacing, HasStepped, StandsAs, IsAsked, IsImageOf};
 
     /// A node of this machine. Nothing is installed, all variables are 0, all buffers are empty, and no entry was made.
     pub fn new(alloc: Global, description: &Description) -> Result<Node, NoMemory>

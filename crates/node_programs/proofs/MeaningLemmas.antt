@@ -7,8 +7,8 @@ use Rattle.std.proofs.lemmas.List.Elements.{All-head, All-tail}
 use Rattle.arrayvec.specs.ArrayVec.{ArrayVec}
 use Rattle.mate_num.specs.declared.store.Store.{Store}
 use Rattle.ts_checked.specs.Checked.{ScriptTree}
-use Rattle.vm_desc.specs.Shapes.{shape_of}
-use Rattle.vm_desc.specs.declared.description.Description.{Description}
+use Rattle.vm_shape.specs.Shapes.{shape_of}
+use Rattle.vm_shape.specs.declared.description.Description.{Description}
 use Rattle.mate_journal.specs.Machine.{HeldProgram}
 use Rattle.mate_journal.specs.declared.program.Program.{Program}
 use Rattle.node_state.specs.Meaning.{image_code, meaning_of}

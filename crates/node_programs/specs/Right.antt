@@ -8,10 +8,10 @@ use Rattle.mate_code.specs.CodeUses.{uses_of as code_uses}
 use Rattle.mate_code.specs.Run.{Code, code_run}
 use Rattle.capsule_codec.specs.Image.{CapsuleParts, capsule_image, IsCapsule, IsOfMachine}
 use Rattle.ts_checked.specs.Checked.{ScriptTree}
-use Rattle.ts_meaning.specs.Meaning.{run_of}
-use Rattle.ts_meaning.specs.Uses.{script_uses}
-use Rattle.vm_desc.specs.Shapes.{shape_of}
-use Rattle.vm_desc.specs.declared.description.Description.{Description}
+use Rattle.ts_semantics.specs.Meaning.{run_of}
+use Rattle.ts_semantics.specs.Uses.{script_uses}
+use Rattle.vm_shape.specs.Shapes.{shape_of}
+use Rattle.vm_shape.specs.declared.description.Description.{Description}
 use Rattle.mate_journal.specs.declared.program.Program.{Program}
 use Rattle.node_state.specs.Meaning.{image_code}
 

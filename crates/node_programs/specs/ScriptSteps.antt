@@ -1,10 +1,10 @@
 -- The steps of a node that a script gives with its programs.
 use Rattle.std.specs.Prelude.{◌≡◌, ℕ, List, Option, Some, None, length, map, slice_get, All, IsSome, IsNone, IsSomeAnd, ⊤}
 use Rattle.std.specs.Option.{option_map_or}
-use Rattle.vm_desc.specs.declared.description.Description.{Description}
-use Rattle.script_reader.specs.declared.steps.Step.{Step}
-use Rattle.script_reader.specs.declared.steps.Step.TheVariants as step
-use Rattle.script_reader.specs.Steps.{NodeScript, IsRightSteps}
+use Rattle.vm_shape.specs.declared.description.Description.{Description}
+use Rattle.script_steps.specs.declared.steps.Step.{Step}
+use Rattle.script_steps.specs.declared.steps.Step.TheVariants as step
+use Rattle.script_steps.specs.Steps.{NodeScript, IsRightSteps}
 use Rattle.mate_journal.specs.Machine.{HeldProgram}
 use Rattle.mate_journal.specs.Journal.{no_program}
 use Rattle.mate_journal.specs.NodeScript as node

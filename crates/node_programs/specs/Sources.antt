@@ -6,11 +6,11 @@ use Rattle.mate_num.specs.Uses.{Uses}
 use Rattle.mate_num.specs.declared.shape.Shape.{Shape}
 use Rattle.mate_num.specs.declared.store.Store.{Store}
 use Rattle.ts_checked.specs.Checked.{ScriptTree}
-use Rattle.ts_meaning.specs.Meaning.{run_of}
-use Rattle.ts_meaning.specs.Uses.{script_uses}
+use Rattle.ts_semantics.specs.Meaning.{run_of}
+use Rattle.ts_semantics.specs.Uses.{script_uses}
 use Rattle.mate_num.specs.declared.outcome.Outcome.{Outcome}
-use Rattle.vm_desc.specs.Shapes.{shape_of}
-use Rattle.vm_desc.specs.declared.description.Description.{Description}
+use Rattle.vm_shape.specs.Shapes.{shape_of}
+use Rattle.vm_shape.specs.declared.description.Description.{Description}
 use Rattle.mate_journal.specs.Machine.{HeldProgram, Meaning}
 use Rattle.mate_journal.specs.declared.program.Program.{Program}
 use Rattle.node_state.specs.Meaning.{meaning_of}

@@ -1,13 +1,13 @@
 -- The programs that a world is run with.
 use Rattle.std.specs.Prelude.{◌≡◌, List, length, slice_get, IsSomeAnd, All, ⊤}
-use Rattle.vm_desc.specs.declared.description.Description.{Description}
+use Rattle.vm_shape.specs.declared.description.Description.{Description}
 use Rattle.mate_journal.specs.declared.program.Program.{Program}
 use Rattle.node_programs.specs.Right.{AreRightPrograms}
-use Rattle.world_script.specs.declared.world.World.{World}
-use Rattle.world_script.specs.declared.world.Planned.{Planned}
-use Rattle.world_script.specs.declared.world.What.{What}
-use Rattle.world_script.specs.declared.world.What.TheVariants as what
-use Rattle.world_script.specs.World.{IsRightWorld}
+use Rattle.script_steps.specs.declared.world.World.{World}
+use Rattle.script_steps.specs.declared.world.Planned.{Planned}
+use Rattle.script_steps.specs.declared.world.What.{What}
+use Rattle.script_steps.specs.declared.world.What.TheVariants as what
+use Rattle.script_steps.specs.World.{IsRightWorld}
 
 -- the program of an injection has the handler and the version of its line
 abbrev pub IsProgramOfWhat : List Program → What → Type 0

@@ -1,8 +1,8 @@
 //! The laws of right programs. Each is the contract of a function that does nothing.
 
 ghost use Rattle.std.specs.Prelude.{◌≡◌, List};
-ghost use Rattle.vm_desc.specs.Shapes.{shape_of};
-ghost use Rattle.vm_desc.specs.declared.description.Description.{Description};
+ghost use Rattle.vm_shape.specs.Shapes.{shape_of};
+ghost use Rattle.vm_shape.specs.declared.description.Description.{Description};
 ghost use Rattle.mate_journal.specs.NodeScript.{Step, RunEnd};
 ghost use Rattle.mate_journal.specs.NodeReport.{IsNodeReport};
 ghost use Rattle.mate_journal.specs.declared.program.Program.{Program};

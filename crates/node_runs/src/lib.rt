@@ -1,8 +1,15 @@
-//! The run of a node script, and its report.
+//! The run of a node script: its report written as its events end, counted, or kept.
 #![tactic(auto)]
 
+pub mod counting;
+mod events;
+pub mod heap_node;
+pub mod kept_run;
 pub mod running;
 pub mod writing;
+pub mod written_run;
 
-pub use running::run_steps;
-pub use writing::run_steps_into;
+pub use counting::sum_steps;
+pub use kept_run::run_steps;
+pub use writing::write_steps;
+pub use written_run::run_steps_into;

@@ -16,8 +16,8 @@ use Rattle.mate_code.proofs.RunLemmas.{Matches, step-Matches, after-Matches, ste
 use Rattle.code_verifier.specs.Verified.{VerifiedCode}
 use Rattle.exec_unit.specs.declared.step_end.StepEnd.{StepEnd}
 use Rattle.exec_unit.specs.Step.{IsStep, going, own_after}
-use Rattle.vm_desc.specs.declared.description.Description.{Description}
-use Rattle.vm_desc.specs.Shapes.{shape_of}
+use Rattle.vm_shape.specs.declared.description.Description.{Description}
+use Rattle.vm_shape.specs.Shapes.{shape_of}
 use Rattle.mate_journal.specs.Journal.{Phase, Unposted, Queued, Ready, Waiting, Over as Gone, is_started, Invocation, NodeState, changed}
 use Rattle.node_state.specs.declared.seat.Seat.{Seat}
 use Rattle.node_state.specs.declared.contexts.Contexts.{Contexts}

@@ -32,9 +32,9 @@ use Rattle.mate_code.specs.Instr.{size_of}
 use Rattle.mate_code.specs.Table.{Layout, IsInTable, table_of}
 use Rattle.mate_code.proofs.OpcodeLemmas.{opcode_of-kind_at}
 use Rattle.mate_code.proofs.ReadLemmas.{kind_of-instr_of, instr_at_ok}
-use Rattle.vm_desc.specs.declared.description.Description.{Description}
-use Rattle.vm_desc.specs.declared.function.Function.{Function}
-use Rattle.vm_desc.specs.Shapes.{shape_of, fun_shape}
+use Rattle.vm_shape.specs.declared.description.Description.{Description}
+use Rattle.vm_shape.specs.declared.function.Function.{Function}
+use Rattle.vm_shape.specs.Shapes.{shape_of, fun_shape}
 use Rattle.mate_journal.specs.Devices.{WritesWhatItAsks}
 use Rattle.node_state.specs.Meaning.{image_code, meaning_of, machine_in}
 use Rattle.mate_code.proofs.CellLemmas.{is_same-refl}

@@ -20,7 +20,7 @@ use Rattle.mate_journal.specs.Stores.{ShowsStore, IsSeenBefore, ShowsStores}
 use Rattle.journal_laws.proofs.Append.{heard_all-push, journal_of-push, FollowsLast-push, IsWellFormed-push, IsSerial-push, ShowsStores-push}
 use Rattle.node_state.specs.Programs.{held_at}
 use Rattle.node_state.proofs.SerialLemmas.{stands}
-use Rattle.vm_desc.specs.declared.description.Description.{Description}
+use Rattle.vm_shape.specs.declared.description.Description.{Description}
 use Rattle.node_state.specs.declared.parts.Parts.{Parts}
 use Rattle.node_state.specs.Meaning.{machine_in}
 use Rattle.node_state.specs.Keeps.{reading, Keeps, IsTimely, event_at, Grows}

@@ -16,7 +16,7 @@ use Rattle.mate_journal.specs.Machine.{HeldProgram, Machine}
 use Rattle.mate_journal.specs.WellFormed.{IsIdle, IsBusy}
 use Rattle.mate_journal.specs.NodeScript.{IsReadyIn}
 use Rattle.mate_journal.specs.Journal.{Posted, Started, Asked as AskedTold, Answered, Ended, Phase, Unposted, Queued, Ready, Waiting, Over, is_live, in_phase, cut_at_era, next_state, Invocation, NodeState, changed}
-use Rattle.vm_desc.specs.declared.description.Description.{Description}
+use Rattle.vm_shape.specs.declared.description.Description.{Description}
 use Rattle.node_state.specs.declared.handlers.Held.{Held}
 use Rattle.node_state.specs.declared.seat.Seat.{Seat}
 use Rattle.node_state.specs.declared.contexts.Contexts.{Contexts}

@@ -8,9 +8,9 @@ use Rattle.std.specs.Option.{option_map}
 use Rattle.mate_num.specs.Store.{zero_store}
 use Rattle.mate_num.specs.declared.id.HandlerId.{HandlerId}
 use Rattle.mate_num.specs.declared.store.Store.{Store}
-use Rattle.vm_desc.specs.Whole.{context_count}
-use Rattle.vm_desc.specs.declared.description.Description.{Description}
-use Rattle.vm_desc.specs.Shapes.{shape_of}
+use Rattle.vm_shape.specs.Whole.{context_count}
+use Rattle.vm_shape.specs.declared.description.Description.{Description}
+use Rattle.vm_shape.specs.Shapes.{shape_of}
 use Rattle.mate_journal.specs.Log.{IsEmpty}
 use Rattle.mate_journal.specs.Journal.{TimedEntry, Unposted, Queued, Waiting, NodeState, journal_of, first_state, state_after_all}
 use Rattle.mate_journal.specs.WellFormed.{IsWellFormed}

@@ -20,7 +20,7 @@ use Rattle.journal_laws.specs.Growth.{GrantsBefore, last_start}
 use Rattle.journal_laws.proofs.Append.{heard_all-push, GrantsBefore-push, last_start-push}
 use Rattle.journal_laws.proofs.Moves.{Moves, started-Moves, asked-Moves, answered-Moves, ended-Moves, Joins, posted-Joins, Cuts, cut-unposted}
 use Rattle.journal_laws.proofs.Apart.{conflicting_by, orderly-after, nothing_heard-orderly}
-use Rattle.vm_desc.specs.declared.description.Description.{Description}
+use Rattle.vm_shape.specs.declared.description.Description.{Description}
 use Rattle.node_state.specs.declared.seat.Seat.{Seat}
 use Rattle.node_state.specs.declared.contexts.Contexts.{Contexts}
 use Rattle.node_state.specs.At.{At, at, idle, queued, Becomes, AreIdle}

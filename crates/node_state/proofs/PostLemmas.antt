@@ -8,11 +8,11 @@ use Rattle.mate_num.specs.declared.id.HandlerId.{HandlerId}
 use Rattle.lock_manager.specs.Claims.{Enqueues}
 use Rattle.code_verifier.specs.Verified.{IsAtVerified as FitsCode}
 use Rattle.exec_unit.specs.Machine.{begun}
-use Rattle.vm_desc.specs.declared.description.Description.{Description}
-use Rattle.vm_desc.specs.declared.handler.Handler.{Handler}
-use Rattle.vm_desc.specs.Contexts.{first_context}
-use Rattle.vm_desc.specs.Whole.{context_count}
-use Rattle.vm_desc.proofs.DescriptionLemmas.{first_context-within}
+use Rattle.vm_shape.specs.declared.description.Description.{Description}
+use Rattle.vm_shape.specs.declared.handler.Handler.{Handler}
+use Rattle.vm_shape.specs.Contexts.{first_context}
+use Rattle.vm_shape.specs.Whole.{context_count}
+use Rattle.vm_shape.proofs.DescriptionLemmas.{first_context-within}
 use Rattle.mate_journal.specs.Described.{contexts_of}
 use Rattle.mate_journal.specs.declared.entry.Entry.TheVariants as entry
 use Rattle.mate_journal.specs.Machine.{Machine, HeldProgram, IsContextOf}

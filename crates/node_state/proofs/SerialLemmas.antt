@@ -20,8 +20,8 @@ use Rattle.mate_code.proofs.BoundLemmas.{verified-EndsInTime}
 use Rattle.mate_code.proofs.RunLemmas.{after-add, after-over}
 use Rattle.code_verifier.specs.Verified.{VerifiedCode, IsVerifiedCode, marks_of}
 use Rattle.exec_unit.specs.Step.{HasLengths}
-use Rattle.vm_desc.specs.declared.description.Description.{Description}
-use Rattle.vm_desc.specs.Shapes.{shape_of}
+use Rattle.vm_shape.specs.declared.description.Description.{Description}
+use Rattle.vm_shape.specs.Shapes.{shape_of}
 use Rattle.mate_journal.specs.Journal.{Phase, Unposted, Queued, Ready, Waiting, Over as Gone, is_started, is_live, Invocation, NodeState}
 use Rattle.mate_journal.specs.Serial.{RunsSoFar}
 use Rattle.mate_journal.specs.Stores.{values_at, WritesResource, IsShown}

@@ -10,8 +10,8 @@ use Rattle.mate_num.specs.declared.store.Store.{Store}
 use Rattle.mate_code.specs.Cells.{read, Agree}
 use Rattle.mate_code.specs.Effect.{Private}
 use Rattle.mate_code.specs.Run.{Own, Run, Going, begun_run, after}
-use Rattle.vm_desc.specs.declared.description.Description.{Description}
-use Rattle.vm_desc.specs.Shapes.{shape_of}
+use Rattle.vm_shape.specs.declared.description.Description.{Description}
+use Rattle.vm_shape.specs.Shapes.{shape_of}
 use Rattle.mate_journal.specs.Journal.{Phase, Queued, Ready, is_started, in_phase, Invocation, NodeState, changed}
 use Rattle.node_state.specs.declared.seat.Seat.{Seat}
 use Rattle.node_state.specs.declared.contexts.Contexts.{Contexts}

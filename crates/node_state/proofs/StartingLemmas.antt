@@ -19,7 +19,7 @@ use Rattle.mate_journal.specs.Grants.{IsStart}
 use Rattle.journal_laws.specs.Growth.{GrantsBefore, IsPushed, last_start}
 use Rattle.journal_laws.proofs.Append.{heard_all-push, GrantsBefore-push, last_start-push}
 use Rattle.journal_laws.proofs.Moves.{Moves, started-Moves}
-use Rattle.vm_desc.specs.declared.description.Description.{Description}
+use Rattle.vm_shape.specs.declared.description.Description.{Description}
 use Rattle.node_state.specs.declared.seat.Seat.{Seat}
 use Rattle.node_state.specs.declared.contexts.Contexts.{Contexts}
 use Rattle.node_state.specs.At.{At, at, queued, CanStart, StartsContext, IsPlaced}

@@ -19,7 +19,7 @@ use Rattle.mate_journal.specs.Journal.{Started, Phase, Unposted, Queued, Ready, 
 use Rattle.mate_journal.specs.Grants.{IsAhead, AreConflicting, IsHeldBack, AllHeldBack, MayStart}
 use Rattle.journal_laws.proofs.Moves.{Moves, started-Moves}
 use Rattle.journal_laws.proofs.Apart.{conflicting_by}
-use Rattle.vm_desc.specs.declared.description.Description.{Description}
+use Rattle.vm_shape.specs.declared.description.Description.{Description}
 use Rattle.node_state.specs.declared.seat.Seat.{Seat}
 use Rattle.node_state.specs.declared.contexts.Contexts.{Contexts}
 use Rattle.node_state.specs.At.{At, at}

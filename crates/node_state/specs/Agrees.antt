@@ -9,8 +9,8 @@ use Rattle.mate_code.specs.Cells.{read, AreAsLong, Agree}
 use Rattle.mate_code.specs.CodeUses.{uses_of}
 use Rattle.mate_code.specs.Run.{Code, Status, Going, Over, Own, Run, run_after}
 use Rattle.exec_unit.specs.Machine.{begun}
-use Rattle.vm_desc.specs.declared.description.Description.{Description}
-use Rattle.vm_desc.specs.Shapes.{shape_of}
+use Rattle.vm_shape.specs.declared.description.Description.{Description}
+use Rattle.vm_shape.specs.Shapes.{shape_of}
 use Rattle.mate_journal.specs.Journal.{Phase, Unposted, Queued, Ready, Waiting, Over as Gone, is_started, Invocation, NodeState, answers_of}
 use Rattle.node_state.specs.declared.seat.Seat.{Seat}
 use Rattle.node_state.specs.declared.contexts.Contexts.{Contexts}

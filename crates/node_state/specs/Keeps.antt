@@ -10,9 +10,9 @@ use Rattle.mate_journal.specs.WellFormed.{IsWellFormed}
 use Rattle.mate_journal.specs.Serial.{IsSerial}
 use Rattle.mate_journal.specs.Stores.{ShowsStores}
 use Rattle.exec_unit.specs.Step.{HasLengths}
-use Rattle.vm_desc.specs.declared.description.Description.{Description}
-use Rattle.vm_desc.specs.Shapes.{shape_of}
-use Rattle.vm_desc.specs.Whole.{context_count}
+use Rattle.vm_shape.specs.declared.description.Description.{Description}
+use Rattle.vm_shape.specs.Shapes.{shape_of}
+use Rattle.vm_shape.specs.Whole.{context_count}
 use Rattle.node_state.specs.declared.parts.Parts.{Parts}
 use Rattle.node_state.specs.Meaning.{machine_in}
 use Rattle.node_state.specs.Programs.{held_at}

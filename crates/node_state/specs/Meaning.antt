@@ -11,8 +11,8 @@ use Rattle.mate_code.specs.Run.{Code, code_run, next_mark, code_after}
 use Rattle.mate_code.specs.Table.{table_of}
 use Rattle.mate_journal.specs.Described.{machine_of}
 use Rattle.mate_journal.specs.Machine.{Machine, Meaning}
-use Rattle.vm_desc.specs.declared.description.Description.{Description}
-use Rattle.vm_desc.specs.Shapes.{shape_of}
+use Rattle.vm_shape.specs.declared.description.Description.{Description}
+use Rattle.vm_shape.specs.Shapes.{shape_of}
 
 -- the code of an image, which is after its head
 unfoldable pub image_code : Shape → ArrayVec ℕ → Code

@@ -8,7 +8,7 @@ use Rattle.mate_journal.specs.Journal.{JournalEntry, Started, Queued, journal_of
 use Rattle.mate_journal.specs.Grants.{IsHeldBack, AllHeldBack}
 use Rattle.mate_journal.specs.Grants.{IsStart}
 use Rattle.journal_laws.specs.Growth.{GrantsBefore, last_start}
-use Rattle.vm_desc.specs.declared.description.Description.{Description}
+use Rattle.vm_shape.specs.declared.description.Description.{Description}
 use Rattle.node_state.specs.declared.parts.Parts.{Parts}
 use Rattle.node_state.specs.Meaning.{machine_in}
 use Rattle.node_state.specs.Keeps.{reading, Keeps, Grows}

@@ -8,7 +8,7 @@ use crate::executing::number;
 use crate::{Parts, tell};
 use mate_journal::Entry;
 use mate_num::Stamp;
-use vm_desc::Description;
+use vm_shape::Description;
 
 /// Starts the first queued invocation that nothing holds back. Answers false exactly if there is none.
 pub fn start_next(description: &Description, parts: &mut Parts, at: Stamp) -> bool

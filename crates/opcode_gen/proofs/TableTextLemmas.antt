@@ -9,8 +9,8 @@ use Rattle.mate_code.specs.Kind.{IsKindNamed}
 use Rattle.mate_code.specs.Table.{Layout, table_of, kinds_of, kind_at}
 use Rattle.mate_code.proofs.OpcodeLemmas.{opcode_of-kind_at}
 use Rattle.mate_code.proofs.NameLemmas.{IsNamed-IsInTable}
-use Rattle.vm_desc.specs.declared.description.Description.{Description}
-use Rattle.vm_desc.specs.Shapes.{shape_of, fun_shape}
+use Rattle.vm_shape.specs.declared.description.Description.{Description}
+use Rattle.vm_shape.specs.Shapes.{shape_of, fun_shape}
 use Rattle.opcode_gen.specs.TableText.{names_of_functions, table_row, table_rows}
 
 -- there is a kind at each opcode of the table

@@ -7,8 +7,8 @@ use Rattle.mate_code.specs.Run.{Code}
 use Rattle.capsule_codec.specs.Image.{CapsuleParts, IsOfMachine}
 use Rattle.code_verifier.specs.Verified.{VerifiedCode}
 use Rattle.opcode_gen.specs.TableText.{names_of_functions}
-use Rattle.vm_desc.specs.Shapes.{shape_of}
-use Rattle.vm_desc.specs.declared.description.Description.{Description}
+use Rattle.vm_shape.specs.Shapes.{shape_of}
+use Rattle.vm_shape.specs.declared.description.Description.{Description}
 use Rattle.opcode_gen.specs.LockLine.{lock_line}
 
 -- the name of the handler at a place

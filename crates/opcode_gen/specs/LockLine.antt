@@ -5,7 +5,7 @@ use Rattle.mate_num.specs.Uses.{Uses}
 use Rattle.mate_num.specs.declared.bounds.TheConstants.{BUFFERS_MAX, DEVICES_MAX, SHARED_MAX}
 use Rattle.mate_num.specs.declared.resource.Resource.{Resource}
 use Rattle.mate_num.specs.declared.resource.Resource.TheVariants.{Shared, Buffer, Device}
-use Rattle.vm_desc.specs.declared.description.Description.{Description}
+use Rattle.vm_shape.specs.declared.description.Description.{Description}
 use Rattle.opcode_gen.specs.declared.lock_line.Group.{Group}
 use Rattle.opcode_gen.specs.declared.lock_line.Group.TheVariants as group
 

@@ -6,8 +6,8 @@ use Rattle.mate_code.specs.declared.kind.Kind.{Kind}
 use Rattle.mate_code.specs.Kind.{form_of, kind_name}
 use Rattle.mate_code.specs.Row.{width_of}
 use Rattle.mate_code.specs.Table.{table_of, kinds_of}
-use Rattle.vm_desc.specs.declared.description.Description.{Description}
-use Rattle.vm_desc.specs.Shapes.{shape_of}
+use Rattle.vm_shape.specs.declared.description.Description.{Description}
+use Rattle.vm_shape.specs.Shapes.{shape_of}
 
 -- the names of a machine's functions, in their order
 abbrev pub names_of_functions : Description → List (List ℕ)

@@ -5,14 +5,14 @@ ghost use Rattle.mate_files.specs.Sink.{Puts};
 ghost use Rattle.mate_files.specs.Pen.{Prints};
 ghost use Rattle.mate_code.specs.Kind.{IsKindNamed};
 ghost use Rattle.mate_code.specs.Table.{table_of};
-ghost use Rattle.vm_desc.specs.Shapes.{shape_of};
+ghost use Rattle.vm_shape.specs.Shapes.{shape_of};
 ghost use Rattle.opcode_gen.specs.TableText.{names_of_functions, table_row, table_text};
 
 use arrayvec::ArrayVec;
 use mate_code::{Kind, Table};
 use mate_files::{Pen, Sink, SinkFault};
 use mate_num::{FUNCTIONS_MAX, Name};
-use vm_desc::{Description, shape};
+use vm_shape::{Description, shape};
 
 /// The opcode table of the machine.
 pub fn table(desc: &Description) -> Table

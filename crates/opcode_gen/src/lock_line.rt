@@ -7,7 +7,7 @@ ghost use Rattle.opcode_gen.specs.LockLine.{mention, mentions, lock_line, resour
 
 use mate_files::{Pen, Sink};
 use mate_num::{BufId, DeviceId, LockSet, Name, Resource, VarId};
-use vm_desc::Description;
+use vm_shape::Description;
 
 /// The groups of resources, each of which is a list of a description.
 #[derive(Clone, Copy)]

@@ -6,7 +6,7 @@ ghost use Rattle.mate_files.specs.Pen.{Prints};
 ghost use Rattle.mate_files.specs.Sink.{Puts};
 ghost use Rattle.capsule_codec.specs.Image.{capsule_parts};
 ghost use Rattle.opcode_gen.specs.TableText.{names_of_functions};
-ghost use Rattle.vm_desc.specs.Shapes.{shape_of};
+ghost use Rattle.vm_shape.specs.Shapes.{shape_of};
 ghost use Rattle.opcode_gen.specs.CapsuleText.{capsule_text, handler_name_at, head_line, IsVerifiedFor};
 
 use crate::generate::{function_names, table};
@@ -17,7 +17,7 @@ use lock_inference::locks;
 use mate_code::listing;
 use mate_files::{Pen, Sink, SinkFault};
 use mate_num::{HandlerId, Name};
-use vm_desc::Description;
+use vm_shape::Description;
 
 /// Writes the capsule's text: `capsule`, the name of its handler, its version and how many bytes its code has; then a
 /// line for each instruction of `code`, which is the capsule's code; and `locks`, with the names of the shared

@@ -7,9 +7,9 @@ use Rattle.std.proofs.lemmas.Bool.Decides.{nat_tests}
 use Rattle.std.proofs.lemmas.Nat.{be_bytes_4, from_be_bytes-to_be_bytes_4}
 use Rattle.arrayvec.specs.ArrayVec.{ArrayVec}
 use Rattle.mate_num.specs.declared.id.HandlerId.{HandlerId}
-use Rattle.vm_desc.specs.Bounds.{HasBounds}
-use Rattle.vm_desc.specs.declared.description.Description.{Description}
-use Rattle.vm_desc.proofs.DescriptionLemmas.{bounds_of}
+use Rattle.vm_shape.specs.Bounds.{HasBounds}
+use Rattle.vm_shape.specs.declared.description.Description.{Description}
+use Rattle.vm_shape.proofs.DescriptionLemmas.{bounds_of}
 use Rattle.capsule_codec.specs.Image.{IsBytes}
 use Rattle.capsule_codec.proofs.ImageLemmas.{IsBytes-drop, part_fits}
 use Rattle.packet_codec.specs.declared.decoding.PacketFault.{PacketFault}

@@ -2,7 +2,7 @@
 use Rattle.std.specs.Prelude.{◌≡◌, ℕ, ◌+◌, ◌*◌, nat_lt, nat_le, ◌==◌, ℤ, Bool, true, false, not, ◌&&◌, ◌||◌, if◌then◌else◌, List, [], ◌∷◌, length, Result, Ok, Err, is_err}
 use Rattle.std.specs.Int.{w16, w32, from_be_bytes, cast_signed, is_in_range}
 use Rattle.mate_num.specs.declared.bounds.TheConstants.{FRAGMENTS_MAX, PAYLOAD_MAX}
-use Rattle.vm_desc.specs.declared.description.Description.{Description}
+use Rattle.vm_shape.specs.declared.description.Description.{Description}
 use Rattle.packet_codec.specs.declared.packet.Packet.{Packet}
 use Rattle.packet_codec.specs.declared.packet.Packet.TheVariants.{Vector, Status, Fragment, App}
 use Rattle.packet_codec.specs.declared.decoding.PacketFault.{PacketFault}

@@ -11,7 +11,7 @@ use crate::packet::Packet;
 use arrayvec::ArrayVec;
 use capsule_codec::{PIECE_MAX, Piece, SHORT_PIECE};
 use mate_num::{FRAGMENTS_MAX, HANDLERS_MAX, HandlerId, PAYLOAD_MAX, Payload};
-use vm_desc::Description;
+use vm_shape::Description;
 
 /// Why bytes are no packet of the machine.
 #[derive(Clone, Copy, Debug)]

@@ -10,7 +10,7 @@ ghost use Rattle.packet_codec.specs.Reading.{packet_in};
 
 use crate::packet::Packet;
 use mate_num::PacketBytes;
-use vm_desc::Description;
+use vm_shape::Description;
 
 /// The packet's one form as bytes: its kind, the machine's number, and its fields.
 pub fn encode(desc: &Description, packet: &Packet) -> PacketBytes

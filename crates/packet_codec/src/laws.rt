@@ -1,7 +1,7 @@
 //! The law of packets, as the contract of a function that does nothing.
 
 ghost use Rattle.std.specs.Prelude.{◌≡◌, ℕ, List, length, Ok};
-ghost use Rattle.vm_desc.specs.declared.description.Description.{Description};
+ghost use Rattle.vm_shape.specs.declared.description.Description.{Description};
 ghost use Rattle.capsule_codec.specs.Image.{IsBytes};
 ghost use Rattle.packet_codec.specs.declared.packet.Packet.{Packet};
 ghost use Rattle.packet_codec.specs.Packet.{IsRightPacket, HasPacketRanges};

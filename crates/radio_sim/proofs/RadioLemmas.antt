@@ -11,10 +11,10 @@ use Rattle.arrayvec.specs.ArrayVec.{ArrayVec}
 use Rattle.event_queue.specs.Agenda.{Agenda, scheduled_all}
 use Rattle.mate_num.specs.declared.no_memory.NoMemory.{NoMemory}
 use Rattle.mate_journal.specs.declared.air.Aired.{Aired}
-use Rattle.world_script.specs.declared.world.Link.{Link}
-use Rattle.world_script.specs.declared.world.World.{World}
-use Rattle.world_script.specs.World.{AreOtherLinks, IsRightWorld}
-use Rattle.vm_desc.specs.declared.description.Description.{Description}
+use Rattle.script_steps.specs.declared.world.Link.{Link}
+use Rattle.script_steps.specs.declared.world.World.{World}
+use Rattle.script_steps.specs.World.{AreOtherLinks, IsRightWorld}
+use Rattle.vm_shape.specs.declared.description.Description.{Description}
 use Rattle.radio_sim.specs.declared.event.Event.{Event}
 use Rattle.radio_sim.specs.declared.wire.Sending.{Sending}
 use Rattle.radio_sim.specs.declared.wire.Wire.{Wire}

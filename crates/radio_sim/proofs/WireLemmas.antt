@@ -10,7 +10,7 @@ use Rattle.trickle_timer.proofs.StreamLemmas.{advance_step, advance_none}
 use Rattle.arrayvec.specs.ArrayVec.{ArrayVec}
 use Rattle.mate_journal.specs.declared.air.Air.TheVariants as air
 use Rattle.mate_journal.specs.declared.air.Aired.{Aired}
-use Rattle.world_script.specs.declared.world.Link.{Link}
+use Rattle.script_steps.specs.declared.world.Link.{Link}
 use Rattle.radio_sim.specs.declared.waiting.Delivery.{Delivery}
 use Rattle.radio_sim.specs.declared.wire.Wire.{Wire}
 use Rattle.radio_sim.specs.declared.wire.Sending.{Sending}

@@ -3,8 +3,8 @@ use Rattle.std.specs.Prelude.{◌≡◌, ℕ, ◌+◌, ◌<◌, ◌≤◌, ◌==
 use Rattle.arrayvec.specs.ArrayVec.{ArrayVec}
 use Rattle.event_queue.specs.Agenda.{Agenda, scheduled_all}
 use Rattle.mate_journal.specs.declared.air.Aired.{Aired}
-use Rattle.world_script.specs.declared.world.World.{World}
-use Rattle.vm_desc.specs.declared.description.Description.{Description}
+use Rattle.script_steps.specs.declared.world.World.{World}
+use Rattle.vm_shape.specs.declared.description.Description.{Description}
 use Rattle.radio_sim.specs.declared.radio.TheConstants.{NODES}
 use Rattle.radio_sim.specs.declared.event.Event.{Event}
 use Rattle.radio_sim.specs.declared.waiting.Waiting.{Waiting}

@@ -3,7 +3,7 @@ use Rattle.std.specs.Prelude.{◌≡◌, ℕ, ◌<◌, List, [], ◌++◌, slice
 use Rattle.arrayvec.specs.ArrayVec.{ArrayVec}
 use Rattle.mate_journal.specs.declared.air.Air.TheVariants as air
 use Rattle.mate_journal.specs.declared.air.Aired.{Aired}
-use Rattle.world_script.specs.declared.world.Link.{Link}
+use Rattle.script_steps.specs.declared.world.Link.{Link}
 use Rattle.radio_sim.specs.declared.radio.TheConstants.{NODES}
 use Rattle.radio_sim.specs.declared.wire.Wire.{Wire}
 use Rattle.radio_sim.specs.declared.wire.Sending.{Sending}

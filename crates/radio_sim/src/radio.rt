@@ -3,10 +3,10 @@
 ghost use Rattle.std.specs.Prelude.{◌≡◌, ◌+◌, ◌<◌, ◌≤◌, ◌^◌, [], ◌∷◌, ◌++◌, ℕ, drop, filter, slice_index_or, length, MatchOption};
 ghost use Rattle.std.specs.Prelude.{MatchResult, List, IfNone, IfOk, OnOk};
 ghost use Rattle.event_queue.specs.Agenda.{scheduled, scheduled_all, is_other, Adds, AddsAll, Comes};
-ghost use Rattle.world_script.specs.World.{IsRightWorld};
+ghost use Rattle.script_steps.specs.World.{IsRightWorld};
 ghost use Rattle.std.specs.List.{All};
 ghost use Rattle.mate_num.specs.declared.bounds.TheConstants.{HOUR};
-ghost use Rattle.world_script.specs.declared.world.Link.{Link};
+ghost use Rattle.script_steps.specs.declared.world.Link.{Link};
 ghost use Rattle.radio_sim.specs.declared.radio.TheConstants.{NODES};
 ghost use Rattle.radio_sim.specs.Events.{group_of, cancel_number};
 ghost use Rattle.radio_sim.specs.declared.waiting.Delivery.{Delivery as Coming};
@@ -22,11 +22,11 @@ use crate::wire::{Sending, Wire, Wires, copy_of};
 use event_queue::{Queue, Timed};
 use mate_journal::{Air, Aired, Airs};
 use mate_num::{NoMemory, PacketBytes, Stamp};
+use script_steps::{Link, World};
 use std::alloc::Global;
 use std::marker::Model;
 use std::mem;
-use vm_desc::Description;
-use world_script::{Link, World};
+use vm_shape::Description;
 
 /// How many numbers of nodes there are.
 const NODES: usize = 256;
@@ -77,7 +77,7 @@ impl Model for Radio {
 
 impl Radio {
     ghost use Rattle.std.specs.Prelude.{List};
-    ghost use Rattle.world_script.specs.declared.world.World.{World};
+    ghost use Rattle.script_steps.specs.declared.world.World.{World};
     ghost use Rattle.radio_sim.specs.Radio.{StartsRadio, wires_of, transmitted, IsEtherOf};
     ghost use Rattle.radio_sim.specs.declared.event.Event.TheVariants.{Planned};
 

@@ -6,7 +6,7 @@ use crate::shared::SharedPacket;
 use crate::waiting::{Deliveries, no_deliveries};
 use mate_num::{NoMemory, PacketBytes};
 use std::alloc::Global;
-use vm_desc::Description;
+use vm_shape::Description;
 
 /// What transmissions took of memory and need no more: one that is sent when those before it are over takes little anew.
 #[derive(Drop)]

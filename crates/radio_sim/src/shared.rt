@@ -9,7 +9,7 @@ use packet_codec::{Packet, decode};
 use std::alloc::Global;
 use std::marker::Model;
 use std::rc::Rc;
-use vm_desc::Description;
+use vm_shape::Description;
 
 /// The bytes of a packet, and what they are to a machine.
 #[derive(Drop)]

@@ -10,10 +10,10 @@ use mate_journal::{Air, Aired, Airs};
 use mate_num::{NoMemory, PacketBytes, Stamp};
 use rand_core::utils::NextWord;
 use rand_pcg::Lcg64Xsh32;
+use script_steps::Link;
 use std::alloc::Global;
 use std::collections::VecDeque;
 use std::marker::Model;
-use world_script::Link;
 
 /// A link that leaves a node.
 #[derive(Drop)]

@@ -3,7 +3,7 @@
 ghost use Rattle.std.specs.Prelude.{◌≡◌, IfOk, OnOk};
 ghost use Rattle.mate_journal.specs.Tidy.{IsTidyLog};
 ghost use Rattle.node_programs.specs.Right.{AreRightPrograms};
-ghost use Rattle.report_text.specs.Tidy.{IsTidy};
+ghost use Rattle.report_writer.specs.Tidy.{IsTidy};
 ghost use Rattle.audit_programs.specs.Trials.{HasKept};
 ghost use Rattle.audit_rules.specs.Tests.{failed_by};
 ghost use Rattle.audit_rules.specs.Verdicts.{IsVerdict};
@@ -15,7 +15,7 @@ use audit_rules::{Law, Verdict, entries_follow};
 use mate_journal::{NodeLog, Programs, Report};
 use mate_num::NoMemory;
 use std::alloc::Global;
-use vm_desc::Description;
+use vm_shape::Description;
 
 /// The first law that the log of a node fails, by the tests in their order. Programs that were made ready for other nodes stay ready.
 fn first_failed<'a>(

@@ -15,7 +15,7 @@ ghost use Rattle.report_audit.specs.Versions.{HasVersions};
 use audit_programs::find_program;
 use mate_journal::{Entry, ImageRef, NodeLog, Programs};
 use mate_num::{HANDLERS_MAX, HandlerId};
-use vm_desc::Description;
+use vm_shape::Description;
 
 /// Whether one of the programs has this handler, version and image. The search begins at `place`, which then is the position of the
 /// program.

@@ -17,7 +17,7 @@ use mate_journal::Entry;
 use mate_num::{End, NoMemory, Store};
 use node_heap::Heap;
 use std::alloc::Global;
-use vm_desc::Description;
+use vm_shape::Description;
 
 /// The store at the beginning of an era.
 pub fn zero_store(desc: &Description) -> Store

@@ -1,23 +1,15 @@
-//! The texts of reports and of their lines, and the summary of a run, counted while it goes on.
+//! The text of a report, written and read: a report is read back whole, or refused at its first bad line.
 #![tactic(auto)]
 
-pub mod air_line;
-mod chunk;
-pub mod entry_line;
-mod front;
-pub mod kinds;
+pub mod fault;
+pub mod last_line;
 pub mod laws;
-pub mod pass;
-mod store_words;
-pub mod summary;
-pub mod tally;
+pub mod parts;
+pub mod place;
 pub mod text;
-pub mod words;
-pub mod write_fault;
 
-pub use laws::node_report_is_tidy;
-pub use pass::{Pass, nothing_run};
-pub use summary::{RunTally, Summary, text_of_counts};
-pub use tally::{AirTally, EntryCounts, LogTally, Versions};
-pub use text::{write_end, write_event};
-pub use write_fault::{WriteFault, ended, stopped};
+pub use fault::TextFault;
+pub use last_line::LastLine;
+pub use laws::{one_verdict_holds, read_report_is_tidy};
+pub use report_writer::{brief, write, write_end, write_event};
+pub use text::read;

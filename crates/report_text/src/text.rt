@@ -1,109 +1,93 @@
-//! The pieces of a report's text: the lines of an event, and the last line.
+//! A whole text as a report.
 
-ghost use Rattle.std.specs.Prelude.{◌≡◌, ◌≤◌, ◌++◌, length, flat_map};
-ghost use Rattle.mate_files.specs.Pen.{Prints};
-ghost use Rattle.mate_files.specs.Sink.{Puts};
-ghost use Rattle.report_text.specs.Text.{air_line, event_piece, lines, entry_line, end_word, end_line};
-ghost use Rattle.report_text.specs.Pieces.{AddsPiece};
+ghost use Rattle.std.specs.Prelude.{◌≡◌, ◌≤◌, ◌<◌, ◌+◌, ◌∷◌, ◌++◌, not, ◌==◌, true, List, ℕ, length, MatchOption, IfOk};
+ghost use Rattle.report_writer.specs.Text.{text};
+ghost use Rattle.report_writer.specs.Tidy.{IsTidy};
+ghost use Rattle.std.specs.List.{prefix_len};
+ghost use Rattle.vm_shape.specs.declared.description.Description.{Description};
+ghost use Rattle.report_line_reader.specs.declared.line.Line.{Line};
+ghost use Rattle.mate_journal.specs.Ranges.{HasReportRanges};
 ghost use Rattle.mate_journal.specs.declared.report.Report.{Report};
+ghost use Rattle.report_text.specs.Reads.{ReadsReport};
+ghost use Rattle.report_text.specs.Written.{GivesBack};
+ghost use Rattle.report_text.specs.Steps.{IsOneLine, TellsNone, HasRead, ReadsLast};
 
-use crate::air_line::air_line;
-use crate::entry_line::entry_line;
-use crate::words::number;
-use mate_files::{Pen, Sink, SinkFault};
-use mate_journal::{Aired, NodeLog, Stamped};
-use vm_desc::Description;
+use crate::fault::TextFault;
+use crate::last_line::last_line_of;
+use crate::parts::Parts;
+use mate_journal::Report;
+use memchr::memchr;
+use report_line_reader::{Bulk, light_line_of};
+use std::alloc::Global;
+use vm_shape::Description;
 
-/// The lines of entries of a node's log.
-fn entry_lines<S: Sink>(
-    pen: &mut Pen,
-    out: &mut S,
-    desc: &Description,
-    log: &NodeLog,
-    node: u8,
-    entries: &[Stamped],
-)
-    ensures { Prints (S.written out.old) (S.faults out.old) pen.old.result (S.written out.new) (S.faults out.new) pen.new.result
-        (flat_map (entry_line desc.now log.now node) entries.now) }
-{
-    for stamped in entries {
-        entry_line(pen, out, desc, log, node, stamped);
-    }
-}
-
-/// The lines of what happened on the air.
-fn air_lines<S: Sink>(pen: &mut Pen, out: &mut S, air: &[Aired])
-    ensures { Prints (S.written out.old) (S.faults out.old) pen.old.result (S.written out.new) (S.faults out.new) pen.new.result
-        (flat_map air_line air.now) }
-{
-    for aired in air {
-        air_line(pen, out, aired);
-    }
-}
-
-/// The word of the last line: `end`, or `full` if the run is not whole.
-pub fn end_word(whole: bool) -> &'static str
-    ensures { result.now ≡ end_word whole }
-{
-    if whole { "end" } else { "full" }
-}
-
-/// Prints the last line of a report: `end` or `full`, and the numbers of records, events and nodes.
-pub fn end_line<S: Sink>(
-    pen: &mut Pen,
-    out: &mut S,
-    records: u64,
-    events: u64,
-    nodes: u64,
-    whole: bool,
-)
-    ensures { Prints (S.written out.old) (S.faults out.old) pen.old.result (S.written out.new) (S.faults out.new) pen.new.result
-        (end_line records events nodes whole) }
-{
-    pen.text(out, end_word(whole));
-    number(pen, out, records);
-    number(pen, out, events);
-    number(pen, out, nodes);
-    pen.text(out, "\n");
-}
-
-/// Writes the lines of what happened on the air, and then those of a log's entries from position `from`.
+/// Reads the text of a report.
 ///
-/// A part that the description or the log doesn't have is written as no bytes. If a run's report is written piece by
-/// piece, each piece goes after the lines so far, and `write_end` makes a text of them (`makes_up`).
-pub fn write_event<S: Sink>(
-    desc: &Description,
-    air: &[Aired],
-    log: &NodeLog,
-    from: usize,
-    node: u8,
-    out: &mut S,
-) -> Result<(), SinkFault>
-    requires { from ≤ length log.now.entries }
-    ensures writes { Puts (S.written out.old) (S.faults out.old) (S.written out.new) (S.faults out.new) result
-        (event_piece desc.now air.now log.now from node) }
-    ensures makes_up { (before after : Report) → AddsPiece before after air.now log.now from node
-        → lines desc.now after ≡ lines desc.now before ++ event_piece desc.now air.now log.now from node }
+/// It gives the report whose text the bytes are, and refuses with `BadLine` exactly if they aren't the text of one, at the first
+/// line that doesn't fit after the lines before it. The text of a tidy report is read as that report (its numbers are in the ranges
+/// of their types, as every report's are: `report_is_in_range`).
+pub fn read(alloc: Global, desc: &Description, bytes: &[u8]) -> Result<Report, TextFault>
+    requires { length bytes.now ≤ 4000000000 }
+    ensures reads { ReadsReport desc.now bytes.now result }
+    ensures tidy { IfOk result (λ r. IsTidy desc.now r) }
+    ensures same { IfOk result (λ r. text desc.now r ≡ bytes.now) }
+    ensures back { (r : Report) → IsTidy desc.now r → HasReportRanges r → bytes.now ≡ text desc.now r → GivesBack r result }
 {
-    let mut pen = Pen::new();
-    air_lines(&mut pen, out, air);
-    entry_lines(&mut pen, out, desc, log, node, &log.entries()[from..]);
-    pen.finish()
+    read_lines(alloc, desc, bytes)
 }
 
-/// Writes the last line of a report: `end`, or `full` if the run is not whole, and the numbers of records, events
-/// and nodes.
-pub fn write_end<S: Sink>(
-    records: u64,
-    events: u64,
-    nodes: u8,
-    whole: bool,
-    out: &mut S,
-) -> Result<(), SinkFault>
-    ensures { Puts (S.written out.old) (S.faults out.old) (S.written out.new) (S.faults out.new) result
-        (end_line records events nodes whole) }
+fn read_lines(alloc: Global, desc: &Description, bytes: &[u8]) -> Result<Report, TextFault>
+    requires { length bytes.now ≤ 4000000000 }
+    ensures { ReadsReport desc.now bytes.now result }
 {
-    let mut pen = Pen::new();
-    end_line(&mut pen, out, records, events, nodes as u64, whole);
-    pen.finish()
+    let mut parts = Parts::new(alloc)?;
+    let mut bulk = Bulk::new();
+    let mut left = bytes;
+    while let Some((line, behind)) = first_line(left) {
+        let Some(told) = light_line_of(desc, line, &mut bulk) else {
+            return read_last(alloc, parts, line, behind);
+        };
+        parts.take(told, &bulk)?;
+        left = behind;
+    }
+    Err(parts.bad_line())
+}
+
+/// The bytes before the first LF and those after it; None exactly if there is none.
+fn first_line(bytes: &[u8]) -> Option<(&[u8], &[u8])>
+    ensures { MatchOption result (IsOneLine bytes.now) (λ cut. IsOneLine cut.0.now × (bytes.now ≡ cut.0.now ++ 10 ∷ cut.1.now)) }
+{
+    let length = line_len(bytes);
+    if length == bytes.len() {
+        return None;
+    }
+    Some((&bytes[..length], bytes.split_at(length + 1).1))
+}
+
+/// How many bytes come before the first LF, or before the end if there is none.
+fn line_len(bytes: &[u8]) -> usize
+    ensures value { result ≡ prefix_len (λ b. not (b == 10)) bytes.now }
+    ensures within { result ≤ length bytes.now }
+{
+    memchr(b'\n', bytes).unwrap_or(bytes.len())
+}
+
+/// Reads the last line, after which nothing may come.
+fn read_last(alloc: Global, parts: Parts, line: &[u8], behind: &[u8]) -> Result<Report, TextFault>
+    requires { parts.count ≤ 4000000000 }
+    ensures { (d : Description) (ls : List Line) → HasRead d ls parts → TellsNone d line.now
+        → ReadsLast d ls (line.now ++ 10 ∷ behind.now) result }
+{
+    let Some(last) = last_line_of(line) else {
+        return Err(parts.bad_line());
+    };
+    if !parts.fits_last(&last) {
+        return Err(parts.bad_line());
+    }
+    if !behind.is_empty() {
+        return Err(TextFault::BadLine {
+            line: parts.count + 2,
+        });
+    }
+    Ok(parts.into_report(alloc, last)?)
 }

@@ -1,9 +1,10 @@
-pub mod SplitLemmas
-mod SpellLemmas
-pub mod NumberLemmas
-pub mod PayloadLemmas
-pub mod StepLemmas
-pub mod LineLemmas
-pub mod NodeLemmas
-mod ReadingLemmas
-pub mod LeadingLemmas
+pub mod SeriesLemmas
+pub mod KeepsLemmas
+pub mod LineEnd
+pub mod ValueLemmas
+pub mod ListLemmas
+pub mod SortLemmas
+pub mod RightLemmas
+pub mod NameLemmas
+pub mod CutLemmas
+pub mod SoundLemmas

@@ -1,6 +1,7 @@
-pub mod Lines
-pub mod Words
-pub mod Script
-pub mod Steps
-pub mod NodeScript
-pub mod NodeReader
+pub mod WorldScript
+pub mod WorldWords
+pub mod WorldLines
+pub mod Draft
+pub mod Made
+pub mod Source
+pub mod Sound

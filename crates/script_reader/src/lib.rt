@@ -1,18 +1,31 @@
-//! The script of a node: its lines, their words, and the steps that they ask for.
+//! The scripts of nodes and of worlds, read or refused at their first bad line, and worlds that are made from a number.
 #![tactic(auto)]
 
-pub mod fault;
-pub mod lines;
-pub mod message;
-pub mod newest;
-pub mod node;
-pub mod steps;
-pub mod words;
+mod adding;
+pub mod command;
+pub mod draft;
+mod events;
+pub mod laws;
+mod line;
+mod links;
+pub mod made;
+mod made_events;
+mod reader;
+pub mod refusal;
+mod settings;
+pub mod source;
+pub mod stage;
+mod world_words;
 
-pub use fault::{Cause, ScriptFault};
-pub use lines::Lines;
-pub use message::Message;
-pub use newest::{newest_of, note_newest};
-pub use node::node_script;
-pub use steps::{Step, Steps};
-pub use words::{Words, spells};
+pub use command::Command;
+pub use draft::Draft;
+pub use laws::sources_law;
+pub use made::{Generated, generate};
+pub use reader::world_script;
+pub use refusal::Refusal;
+pub use script_steps::{
+    Cause, Lines, Link, Links, Message, Plan, Planned, ScriptFault, Series, SeriesList, Step,
+    Steps, Values, What, Words, World, newest_of, node_script, note_newest, spells,
+};
+pub use source::source_of;
+pub use stage::Stage;

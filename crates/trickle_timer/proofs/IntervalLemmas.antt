@@ -5,8 +5,8 @@ use Rattle.std.specs.Option.{option_map_or}
 use Rattle.rand_pcg.specs.Lcg.{Lcg, advance, state_after}
 use Rattle.rand_pcg.specs.Pcg.{multiplier_64}
 use Rattle.trickle_timer.proofs.StreamLemmas.{advance_step}
-use Rattle.vm_desc.specs.declared.settings.TrickleSet.{TrickleSet}
-use Rattle.vm_desc.specs.Limits.{is_trickle}
+use Rattle.vm_shape.specs.declared.settings.TrickleSet.{TrickleSet}
+use Rattle.vm_shape.specs.Limits.{is_trickle}
 use Rattle.trickle_timer.specs.declared.timer.Fire.{Fire}
 use Rattle.trickle_timer.specs.declared.timer.Fire.TheVariants.{Send, Keep}
 use Rattle.trickle_timer.specs.Intervals.{Interval, TimerHappening, TimerEvent, Consistent, Inconsistent, Reset, Again, Expired, Start, stream, lcg_word, interval, next_length, count, intervals_from, intervals, at_point}

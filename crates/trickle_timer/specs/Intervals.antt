@@ -3,8 +3,8 @@ use Rattle.std.specs.Prelude.{ℕ, ◌+◌, ◌*◌, ◌/◌, ◌%◌, min, List
 use Rattle.std.specs.Option.{option_map_or}
 use Rattle.rand_pcg.specs.Lcg.{Lcg, started, increment_of, advance}
 use Rattle.rand_pcg.specs.Pcg.{multiplier_64, pcg32}
-use Rattle.vm_desc.specs.declared.settings.TrickleSet.{TrickleSet}
-use Rattle.vm_desc.specs.Limits.{longest}
+use Rattle.vm_shape.specs.declared.settings.TrickleSet.{TrickleSet}
+use Rattle.vm_shape.specs.Limits.{longest}
 use Rattle.trickle_timer.specs.declared.timer.Fire.{Fire}
 use Rattle.trickle_timer.specs.declared.timer.Fire.TheVariants.{Send, Keep}
 

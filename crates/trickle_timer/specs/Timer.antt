@@ -4,8 +4,8 @@ use Rattle.std.specs.Option.{option_map_or}
 use Rattle.mate_num.specs.declared.bounds.TheConstants.{HOUR}
 use Rattle.rand_pcg.specs.Lcg.{Lcg, advance}
 use Rattle.rand_pcg.specs.Pcg.{multiplier_64, pcg32}
-use Rattle.vm_desc.specs.declared.settings.TrickleSet.{TrickleSet}
-use Rattle.vm_desc.specs.Limits.{is_trickle, longest}
+use Rattle.vm_shape.specs.declared.settings.TrickleSet.{TrickleSet}
+use Rattle.vm_shape.specs.Limits.{is_trickle, longest}
 use Rattle.trickle_timer.specs.Intervals.{Interval, TimerHappening, TimerEvent, Consistent, Inconsistent, Start, stream, interval, next_length, count, intervals, at_point}
 use Rattle.trickle_timer.specs.declared.timer.Fire.{Fire}
 

@@ -3,13 +3,13 @@
 ghost use Rattle.std.specs.Prelude.{◌≡◌, ◌+◌, ◌/◌, ◌%◌, ◌^◌, ◌<◌, ◌≤◌, ◌&&◌, [], List, not, nat_lt, nat_le, IsTrue, if◌then◌else◌};
 ghost use Rattle.mate_num.specs.declared.bounds.TheConstants.{HOUR, NODES_MAX};
 ghost use Rattle.rand_pcg.specs.Pcg.{pcg32};
-ghost use Rattle.vm_desc.specs.Limits.{is_trickle, longest};
+ghost use Rattle.vm_shape.specs.Limits.{is_trickle, longest};
 ghost use Rattle.trickle_timer.specs.Intervals.{Reset, Again, Expired};
 
 use rand_core::utils::NextWord;
 use rand_pcg::Lcg64Xsh32;
 use std::marker::Model;
-use vm_desc::TrickleSet;
+use vm_shape::TrickleSet;
 
 /// What a node does at the point of its interval.
 #[derive(Clone, Copy)]

@@ -5,13 +5,13 @@ use Rattle.std.specs.Prelude.{pos, ◌%◌}
 use Rattle.std.proofs.lemmas.Bool.{eq-eqb, ne_eqb}
 use Rattle.mate_num.specs.Number.{wrap}
 use Rattle.mate_num.specs.declared.id.FunId.{FunId}
-use Rattle.vm_desc.specs.Limits.{function_args}
-use Rattle.vm_desc.specs.Shapes.{sends_buffer}
-use Rattle.vm_desc.specs.declared.function.FunKind.{FunKind}
+use Rattle.vm_shape.specs.Limits.{function_args}
+use Rattle.vm_shape.specs.Shapes.{sends_buffer}
+use Rattle.vm_shape.specs.declared.function.FunKind.{FunKind}
 use Rattle.ts_checked.specs.Expression.{Arguments}
-use Rattle.ts_syntax.specs.Seen.{tree_of, trees_of}
-use Rattle.ts_syntax.specs.declared.expr.Expr.{Expr}
-use Rattle.ts_syntax.specs.declared.word.Word.{Word}
+use Rattle.ts_trees.specs.Seen.{tree_of, trees_of}
+use Rattle.ts_trees.specs.declared.expr.Expr.{Expr}
+use Rattle.ts_trees.specs.declared.word.Word.{Word}
 use Rattle.ts_checker.specs.declared.fault.CheckFault.{CheckFault}
 use Rattle.ts_checker.specs.declared.fault.CheckFault.TheVariants.{Arity, Kind}
 use Rattle.mate_num.specs.Results.{◌>>=◌}

@@ -1,6 +1,6 @@
 -- Declarations, one after another.
 use Rattle.std.proofs.Common.{◌≡◌, ℕ, ◌+◌, ◌<◌, List, length, drop, get_or, Ok, Err, ap, ◌∙◌}
-use Rattle.ts_syntax.specs.declared.script.Decl.{Decl}
+use Rattle.ts_trees.specs.declared.script.Decl.{Decl}
 use Rattle.ts_checked.proofs.ListLemmas.{drop_item}
 use Rattle.ts_checker.specs.declared.fault.CheckFault.{CheckFault}
 use Rattle.mate_num.specs.Results.{◌>>=◌}

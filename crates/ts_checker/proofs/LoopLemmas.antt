@@ -3,9 +3,9 @@ use Rattle.std.proofs.Common.{◌≡◌, ℕ, ◌+◌, ◌<◌, ◌≤◌, List,
 use Rattle.std.proofs.lemmas.List.{drop_all}
 use Rattle.ts_checked.specs.Expression.{Expression, Arguments, no_arguments, argument, arguments}
 use Rattle.ts_checked.specs.Statement.{Statement, Block, no_statements, statement, block}
-use Rattle.ts_syntax.specs.Seen.{trees_of, acts_of, tree_of, act_of}
-use Rattle.ts_syntax.specs.declared.expr.Expr.{Expr}
-use Rattle.ts_syntax.specs.declared.stmt.Stmt.{Stmt}
+use Rattle.ts_trees.specs.Seen.{trees_of, acts_of, tree_of, act_of}
+use Rattle.ts_trees.specs.declared.expr.Expr.{Expr}
+use Rattle.ts_trees.specs.declared.stmt.Stmt.{Stmt}
 use Rattle.ts_checked.proofs.ListLemmas.{drop_item}
 use Rattle.ts_checker.specs.declared.fault.CheckFault.{CheckFault}
 use Rattle.mate_num.specs.Results.{◌>>=◌}

@@ -4,10 +4,10 @@ use Rattle.std.specs.declared.alloc.Global.{Global}
 use Rattle.std.specs.declared.boxed.Box.{Box}
 use Rattle.mate_num.specs.declared.id.BufId.{BufId}
 use Rattle.ts_checked.specs.declared.bin_op.BinOp.{BinOp}
-use Rattle.ts_syntax.specs.declared.word.Word.{Word}
-use Rattle.ts_syntax.specs.declared.stmt.Step.{Step}
-use Rattle.ts_syntax.specs.declared.expr.Expr.{Expr}
-use Rattle.ts_syntax.specs.declared.expr.Expr.TheVariants as of
+use Rattle.ts_trees.specs.declared.word.Word.{Word}
+use Rattle.ts_trees.specs.declared.stmt.Step.{Step}
+use Rattle.ts_trees.specs.declared.expr.Expr.{Expr}
+use Rattle.ts_trees.specs.declared.expr.Expr.TheVariants as of
 use Rattle.ts_checked.specs.declared.checked_expr.CExpr.{CExpr}
 use Rattle.ts_checked.specs.declared.checked_expr.CExpr.TheFolds.{fold-roll-CExpr}
 use Rattle.ts_checked.specs.declared.checked_expr.CExpr.TheOpen.{CExpr-F}
@@ -19,11 +19,11 @@ use Rattle.ts_checked.specs.declared.checked_stmt.CStmt.TheOpen.{CStmt-F}
 use Rattle.ts_checked.specs.declared.checked_stmt.CStmt.TheVariants as stmt
 use Rattle.ts_checked.specs.Expression.{Expression, Item, MsgItem, Neg, Not, Two}
 use Rattle.ts_checked.specs.Statement.{Statement, For, While}
-use Rattle.ts_syntax.specs.Seen.{tree_of}
-use Rattle.ts_syntax.specs.Tree as given
-use Rattle.ts_syntax.specs.Tree.{Tree, Acts}
+use Rattle.ts_trees.specs.Seen.{tree_of}
+use Rattle.ts_trees.specs.Tree as given
+use Rattle.ts_trees.specs.Tree.{Tree, Acts}
 use Rattle.ts_checked.specs.TreeOf.{expr_step, args_step, expr_tree, stmt_step, block_step, stmt_tree, block_tree}
-use Rattle.ts_syntax.proofs.SeenLemmas.{tree_message_size, tree_two}
+use Rattle.ts_trees.proofs.SeenLemmas.{tree_message_size, tree_two}
 use Rattle.mate_num.specs.Results.{◌>>=◌}
 use Rattle.ts_checker.specs.Names.{ScriptNames, buffer as buffer_at, closes_for}
 use Rattle.ts_checker.specs.Checks.{checked_expr, checked_head, checked_stmt, checked_block}

@@ -4,14 +4,14 @@ use Rattle.std.specs.Prelude.{IsErrAnd}
 use Rattle.std.specs.declared.alloc.Global.{Global}
 use Rattle.std.specs.declared.boxed.Box.{Box}
 use Rattle.ts_checked.specs.declared.bin_op.BinOp.{BinOp}
-use Rattle.ts_syntax.specs.declared.expr.Expr.TheVariants as of
-use Rattle.ts_syntax.specs.Seen.{tree_of, act_of, acts_of}
+use Rattle.ts_trees.specs.declared.expr.Expr.TheVariants as of
+use Rattle.ts_trees.specs.Seen.{tree_of, act_of, acts_of}
 use Rattle.ts_checked.specs.Expression.{Expression, Two}
 use Rattle.ts_checked.specs.Statement.{If, IfElse}
-use Rattle.ts_syntax.specs.declared.expr.Expr.{Expr}
-use Rattle.ts_syntax.specs.declared.stmt.Stmt.{Stmt}
-use Rattle.ts_syntax.specs.declared.stmt.Stmt.TheVariants as does
-use Rattle.ts_syntax.proofs.SeenLemmas.{tree_two, act_if_then, act_if_else}
+use Rattle.ts_trees.specs.declared.expr.Expr.{Expr}
+use Rattle.ts_trees.specs.declared.stmt.Stmt.{Stmt}
+use Rattle.ts_trees.specs.declared.stmt.Stmt.TheVariants as does
+use Rattle.ts_trees.proofs.SeenLemmas.{tree_two, act_if_then, act_if_else}
 use Rattle.ts_checker.specs.declared.fault.CheckFault.{CheckFault}
 use Rattle.ts_checker.specs.declared.fault.CheckFault.TheVariants.{NoMemory}
 use Rattle.mate_num.specs.Results.{◌>>=◌}

@@ -10,21 +10,21 @@ use Rattle.mate_num.specs.declared.id.FunId.{FunId}
 use Rattle.mate_num.specs.declared.id.BufId.{BufId}
 use Rattle.mate_num.specs.declared.shape.Shape.{Shape}
 use Rattle.mate_num.specs.declared.shape.FunShape.{FunShape}
-use Rattle.vm_desc.specs.Limits.{function_args}
-use Rattle.vm_desc.specs.Shapes.{shape_of, fun_shape, sends_buffer}
-use Rattle.vm_desc.proofs.DescriptionLemmas.{shape_of-limits}
-use Rattle.vm_desc.specs.declared.description.Description.{Description}
-use Rattle.vm_desc.specs.declared.function.Function.{Function}
-use Rattle.vm_desc.specs.declared.function.FunKind.{FunKind}
-use Rattle.ts_syntax.specs.declared.word.Word.{Word}
-use Rattle.ts_syntax.specs.declared.stmt.Step.{Step}
-use Rattle.ts_syntax.specs.declared.script.Decl.{Decl}
-use Rattle.ts_syntax.specs.declared.script.DeclKind.{DeclKind}
-use Rattle.ts_syntax.specs.declared.script.DeclKind.TheVariants as of
+use Rattle.vm_shape.specs.Limits.{function_args}
+use Rattle.vm_shape.specs.Shapes.{shape_of, fun_shape, sends_buffer}
+use Rattle.vm_shape.proofs.DescriptionLemmas.{shape_of-limits}
+use Rattle.vm_shape.specs.declared.description.Description.{Description}
+use Rattle.vm_shape.specs.declared.function.Function.{Function}
+use Rattle.vm_shape.specs.declared.function.FunKind.{FunKind}
+use Rattle.ts_trees.specs.declared.word.Word.{Word}
+use Rattle.ts_trees.specs.declared.stmt.Step.{Step}
+use Rattle.ts_trees.specs.declared.script.Decl.{Decl}
+use Rattle.ts_trees.specs.declared.script.DeclKind.{DeclKind}
+use Rattle.ts_trees.specs.declared.script.DeclKind.TheVariants as of
 use Rattle.ts_checked.specs.declared.checked_stmt.CVar.{CVar}
 use Rattle.ts_checked.specs.declared.checked_stmt.CVar.TheVariants as var
-use Rattle.ts_syntax.specs.Tree as given
-use Rattle.ts_syntax.specs.Tree.{Tree, Trees, no_trees, tree_then, Act, Acts, no_acts, act_then, Source}
+use Rattle.ts_trees.specs.Tree as given
+use Rattle.ts_trees.specs.Tree.{Tree, Trees, no_trees, tree_then, Act, Acts, no_acts, act_then, Source}
 use Rattle.ts_checked.specs.Expression.{Expression, Arguments}
 use Rattle.ts_checked.specs.Statement.{Statement, Block}
 use Rattle.mate_num.specs.Shapes.{is_shape}

@@ -12,11 +12,11 @@ use Rattle.std.proofs.lemmas.List.Sums.{sum_by-cons, sum_by_push}
 use Rattle.std.proofs.lemmas.Map.Keys.{IsDistinct-push}
 use Rattle.std.proofs.lemmas.Map.Made.{length-le_from_is_member}
 use Rattle.std.proofs.lemmas.Map.Steps.{list_any_congr}
-use Rattle.vm_desc.specs.Bounds.{HasBounds}
-use Rattle.vm_desc.proofs.DescriptionLemmas.{bounds_of}
-use Rattle.vm_desc.specs.declared.description.Description.{Description}
-use Rattle.ts_syntax.specs.declared.script.DeclKind.{DeclKind}
-use Rattle.ts_syntax.specs.declared.script.DeclKind.TheVariants as of
+use Rattle.vm_shape.specs.Bounds.{HasBounds}
+use Rattle.vm_shape.proofs.DescriptionLemmas.{bounds_of}
+use Rattle.vm_shape.specs.declared.description.Description.{Description}
+use Rattle.ts_trees.specs.declared.script.DeclKind.{DeclKind}
+use Rattle.ts_trees.specs.declared.script.DeclKind.TheVariants as of
 use Rattle.ts_checked.specs.declared.checked_stmt.CVar.TheVariants.{Shared, Private}
 use Rattle.ts_checker.specs.declared.scope.Symbol.{Symbol}
 use Rattle.ts_checker.specs.declared.scope.Symbol.TheVariants.{Variable, Buffer}

@@ -1,14 +1,14 @@
 -- The checks of a script never refuse because memory ran out.
 use Rattle.std.proofs.Common.{◌≡◌, ℕ, Bool, true, false, if◌then◌else◌, List, [], ◌∷◌, Option, Some, None, Result, Ok, Err, ap}
 use Rattle.std.specs.Prelude.{ok_or}
-use Rattle.vm_desc.specs.declared.description.Description.{Description}
-use Rattle.ts_syntax.specs.declared.script.Decl.{Decl}
-use Rattle.ts_syntax.specs.declared.script.DeclKind.{DeclKind}
-use Rattle.ts_syntax.specs.declared.script.DeclKind.TheVariants as of
-use Rattle.ts_syntax.specs.declared.stmt.Step.{Step}
-use Rattle.ts_syntax.specs.declared.word.Word.{Word}
-use Rattle.ts_syntax.specs.Tree as given
-use Rattle.ts_syntax.specs.Tree.{Tree, Trees, no_trees, tree_then, Act, Acts, no_acts, act_then, Source}
+use Rattle.vm_shape.specs.declared.description.Description.{Description}
+use Rattle.ts_trees.specs.declared.script.Decl.{Decl}
+use Rattle.ts_trees.specs.declared.script.DeclKind.{DeclKind}
+use Rattle.ts_trees.specs.declared.script.DeclKind.TheVariants as of
+use Rattle.ts_trees.specs.declared.stmt.Step.{Step}
+use Rattle.ts_trees.specs.declared.word.Word.{Word}
+use Rattle.ts_trees.specs.Tree as given
+use Rattle.ts_trees.specs.Tree.{Tree, Trees, no_trees, tree_then, Act, Acts, no_acts, act_then, Source}
 use Rattle.ts_checker.specs.Checks.{checked_expr, checked_args, checked_call, called_function, sent, sent_name, name_alone, checked_step, checked_head, checked_stmt, checked_block, checked_source}
 use Rattle.ts_checker.specs.Names.{ScriptNames, names_before, made, declare, declare_all, found_symbol, as_variable, as_buffer, variable, buffer, function, listed, closes_for}
 use Rattle.mate_num.specs.Results.{◌>>=◌}

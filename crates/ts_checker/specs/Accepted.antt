@@ -1,11 +1,11 @@
 -- Which texts are scripts of a machine, with the tree that they mean, and which refusal comes first for the others.
 use Rattle.std.specs.Prelude.{◌≡◌, ℕ, List, length, Result, Ok, Err}
-use Rattle.vm_desc.specs.declared.description.Description.{Description}
-use Rattle.ts_syntax.specs.declared.token.Token.{Token}
-use Rattle.ts_syntax.specs.Cut.{cut, CutFault}
-use Rattle.ts_syntax.specs.Tree.{Source}
-use Rattle.ts_syntax.specs.Script.{IsScript}
-use Rattle.ts_syntax.specs.Faults.{Spells, IsUnexpected, IsTooDeep}
+use Rattle.vm_shape.specs.declared.description.Description.{Description}
+use Rattle.ts_trees.specs.declared.token.Token.{Token}
+use Rattle.ts_trees.specs.Cut.{cut, CutFault}
+use Rattle.ts_trees.specs.Tree.{Source}
+use Rattle.ts_trees.specs.Script.{IsScript}
+use Rattle.ts_trees.specs.Faults.{Spells, IsUnexpected, IsTooDeep}
 use Rattle.ts_checked.specs.Statement.{Block}
 use Rattle.ts_checker.specs.declared.fault.CheckFault.{CheckFault}
 use Rattle.ts_checker.specs.Checks.{checked_source}

@@ -5,16 +5,16 @@ use Rattle.std.specs.Prelude.{Result, Ok, Err}
 use Rattle.mate_num.specs.Number.{wrap}
 use Rattle.mate_num.specs.declared.id.FunId.{FunId}
 use Rattle.mate_num.specs.declared.id.BufId.{BufId}
-use Rattle.vm_desc.specs.Limits.{function_args}
-use Rattle.vm_desc.specs.Shapes.{sends_buffer}
-use Rattle.vm_desc.specs.declared.description.Description.{Description}
-use Rattle.vm_desc.specs.declared.function.FunKind.{FunKind}
-use Rattle.ts_syntax.specs.declared.word.Word.{Word}
-use Rattle.ts_syntax.specs.declared.stmt.Step.{Step}
+use Rattle.vm_shape.specs.Limits.{function_args}
+use Rattle.vm_shape.specs.Shapes.{sends_buffer}
+use Rattle.vm_shape.specs.declared.description.Description.{Description}
+use Rattle.vm_shape.specs.declared.function.FunKind.{FunKind}
+use Rattle.ts_trees.specs.declared.word.Word.{Word}
+use Rattle.ts_trees.specs.declared.stmt.Step.{Step}
 use Rattle.ts_checked.specs.declared.checked_stmt.CVar.{CVar}
 use Rattle.ts_checked.specs.declared.checked_stmt.CVar.TheVariants as var
-use Rattle.ts_syntax.specs.Tree as given
-use Rattle.ts_syntax.specs.Tree.{Tree, Trees, no_trees, tree_then, Act, Acts, no_acts, act_then, Source}
+use Rattle.ts_trees.specs.Tree as given
+use Rattle.ts_trees.specs.Tree.{Tree, Trees, no_trees, tree_then, Act, Acts, no_acts, act_then, Source}
 use Rattle.ts_checked.specs.Expression.{Expression, Arguments, no_arguments, argument, Num, Shared, Private, Item, Size, MsgItem, MsgSize}
 use Rattle.ts_checked.specs.Expression.{Call, SendBuf, Neg, Not, Two}
 use Rattle.ts_checked.specs.Statement.{Statement, Block, no_statements, statement, Set, SetItem, Append, Take, Clear, Do, DoSend, If, IfElse}

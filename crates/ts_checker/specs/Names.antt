@@ -4,13 +4,13 @@ use Rattle.std.specs.Prelude.{position, count_by, Result, Ok, Err, bytes_eq, ⊤
 use Rattle.mate_num.specs.declared.bounds.TheConstants.{PRIVATES}
 use Rattle.mate_num.specs.declared.id.FunId.{FunId}
 use Rattle.mate_num.specs.declared.id.BufId.{BufId}
-use Rattle.vm_desc.specs.declared.description.Description.{Description}
-use Rattle.vm_desc.specs.declared.function.Function.{Function}
-use Rattle.vm_desc.specs.declared.function.FunKind.{FunKind}
-use Rattle.ts_syntax.specs.declared.word.Word.{Word}
-use Rattle.ts_syntax.specs.declared.script.Decl.{Decl}
-use Rattle.ts_syntax.specs.declared.script.DeclKind.{DeclKind}
-use Rattle.ts_syntax.specs.declared.script.DeclKind.TheVariants as of
+use Rattle.vm_shape.specs.declared.description.Description.{Description}
+use Rattle.vm_shape.specs.declared.function.Function.{Function}
+use Rattle.vm_shape.specs.declared.function.FunKind.{FunKind}
+use Rattle.ts_trees.specs.declared.word.Word.{Word}
+use Rattle.ts_trees.specs.declared.script.Decl.{Decl}
+use Rattle.ts_trees.specs.declared.script.DeclKind.{DeclKind}
+use Rattle.ts_trees.specs.declared.script.DeclKind.TheVariants as of
 use Rattle.ts_checked.specs.declared.checked_stmt.CVar.{CVar}
 use Rattle.ts_checked.specs.declared.checked_stmt.CVar.TheVariants as var
 use Rattle.ts_checker.specs.declared.scope.Symbol.{Symbol}

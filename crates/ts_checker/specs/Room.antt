@@ -2,8 +2,8 @@
 use Rattle.std.specs.Prelude.{◌≤◌, ℕ, Bool, true, List, map, bytes_eq, IsTrue}
 use Rattle.std.specs.List.{IsDistinct, list_all}
 use Rattle.mate_num.specs.declared.bounds.TheConstants.{PRIVATES}
-use Rattle.vm_desc.specs.Names.{stands_in}
-use Rattle.vm_desc.specs.declared.description.Description.{Description}
+use Rattle.vm_shape.specs.Names.{stands_in}
+use Rattle.vm_shape.specs.declared.description.Description.{Description}
 use Rattle.ts_checked.specs.declared.checked_stmt.CVar.TheVariants.{Shared, Private}
 use Rattle.ts_checker.specs.declared.scope.Symbol.{Symbol}
 use Rattle.ts_checker.specs.declared.scope.Symbol.TheVariants.{Variable, Buffer}

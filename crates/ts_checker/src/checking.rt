@@ -1,9 +1,9 @@
 //! The checks of a whole script.
 
 ghost use Rattle.std.specs.Prelude.{◌≡◌, IfOk};
-ghost use Rattle.vm_desc.specs.Shapes.{shape_of as shape_of_machine};
+ghost use Rattle.vm_shape.specs.Shapes.{shape_of as shape_of_machine};
 ghost use Rattle.ts_checked.specs.Checked.{checked_shape, checked_tree};
-ghost use Rattle.ts_syntax.specs.Seen.{source_seen};
+ghost use Rattle.ts_trees.specs.Seen.{source_seen};
 ghost use Rattle.ts_checker.specs.Answer.{GivesChecked};
 ghost use Rattle.ts_checker.specs.Checks.{checked_source};
 
@@ -12,8 +12,8 @@ use crate::scope::Scope;
 use crate::stmts::block;
 use std::alloc::Global;
 use ts_checked::Checked;
-use ts_syntax::Script;
-use vm_desc::{Description, shape};
+use ts_trees::Script;
+use vm_shape::{Description, shape};
 
 /// Checks a script for the machine of `desc`, and resolves its names. The answer is the checked tree, or the first
 /// refusal: declarations from left to right, then the statements word by word. `NoMemory` may come instead of either.

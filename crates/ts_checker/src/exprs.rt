@@ -2,10 +2,10 @@
 
 ghost use Rattle.std.specs.Prelude.{◌≡◌, option_map, pos, true};
 ghost use Rattle.mate_num.specs.Number.{wrap};
-ghost use Rattle.vm_desc.specs.Limits.{function_args};
-ghost use Rattle.vm_desc.specs.Shapes.{sends_buffer};
-ghost use Rattle.ts_syntax.specs.Seen.{tree_of, trees_of};
-ghost use Rattle.ts_syntax.specs.Tree as given;
+ghost use Rattle.vm_shape.specs.Limits.{function_args};
+ghost use Rattle.vm_shape.specs.Shapes.{sends_buffer};
+ghost use Rattle.ts_trees.specs.Seen.{tree_of, trees_of};
+ghost use Rattle.ts_trees.specs.Tree as given;
 ghost use Rattle.ts_checked.specs.TreeOf.{expr_tree};
 ghost use Rattle.ts_checker.specs.Answer.{GivesChecked};
 ghost use Rattle.ts_checker.specs.Checks.{variable_expression, name_alone, sent, checked_call, checked_expr, checked_args};
@@ -17,8 +17,8 @@ use crate::scope::Scope;
 use mate_num::BufId;
 use std::alloc::Global;
 use ts_checked::{BinOp, CArgs, CExpr, CVar};
-use ts_syntax::{Args, Expr, Word};
-use vm_desc::FunKind;
+use ts_trees::{Args, Expr, Word};
+use vm_shape::FunKind;
 
 /// Checks an expression; `calls` says whether calls are allowed in it.
 #[cycle(expression)]

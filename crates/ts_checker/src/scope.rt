@@ -8,8 +8,8 @@ use crate::fault::CheckFault;
 use arrayvec::ArrayVec;
 use mate_num::{BUFFERS_MAX, BufId, FunId, Name, PRIVATES, SHARED_MAX, VarId};
 use ts_checked::CVar;
-use ts_syntax::{Decl, DeclKind, Word};
-use vm_desc::{Description, FunKind, Function};
+use ts_trees::{Decl, DeclKind, Word};
+use vm_shape::{Description, FunKind, Function};
 
 /// What a declared name names.
 #[derive(Clone, Copy)]

@@ -1,8 +1,8 @@
 //! The checks of statements.
 
 ghost use Rattle.std.specs.Prelude.{◌≡◌, [], IfOk};
-ghost use Rattle.ts_syntax.specs.Seen.{tree_of, trees_of, act_of, acts_of};
-ghost use Rattle.ts_syntax.specs.Tree as given;
+ghost use Rattle.ts_trees.specs.Seen.{tree_of, trees_of, act_of, acts_of};
+ghost use Rattle.ts_trees.specs.Tree as given;
 ghost use Rattle.ts_checked.specs.TreeOf.{stmt_tree, block_tree, block_trees};
 ghost use Rattle.ts_checker.specs.Answer.{GivesChecked};
 ghost use Rattle.ts_checker.specs.Checks.{checked_step, checked_head, checked_stmt, checked_block};
@@ -14,7 +14,7 @@ use crate::scope::Scope;
 use mate_num::NoMemory;
 use std::alloc::Global;
 use ts_checked::{CBlock, CForHead, CStmt};
-use ts_syntax::{Args, Block, Expr, ForHead, Step, Stmt, Word};
+use ts_trees::{Args, Block, Expr, ForHead, Step, Stmt, Word};
 
 /// Checks the statements of a block.
 #[cycle(block)]

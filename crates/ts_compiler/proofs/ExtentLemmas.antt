@@ -5,8 +5,8 @@ use Rattle.mate_code.specs.declared.instr.Instr.{Instr}
 use Rattle.mate_code.specs.Instr.{size_of}
 use Rattle.ts_checked.specs.Expression.{Expression, Arguments, arguments, argument}
 use Rattle.ts_checked.specs.Statement.{Statement, block}
-use Rattle.ts_meaning.specs.Translation.{size_of_instrs, expr_code, args_code, expr_size, expr_need, args_need, stmt_size, stmt_need, block_size, block_need}
-use Rattle.ts_meaning.proofs.PlaceLemmas.{bytes_of-append}
+use Rattle.ts_semantics.specs.Translation.{size_of_instrs, expr_code, args_code, expr_size, expr_need, args_need, stmt_size, stmt_need, block_size, block_need}
+use Rattle.ts_semantics.proofs.PlaceLemmas.{bytes_of-append}
 use Rattle.ts_compiler.specs.Parts.{capped}
 
 -- all arguments take what those so far do, and what the rest does above them

@@ -8,8 +8,8 @@ use Rattle.mate_code.specs.Instr.{size_of}
 use Rattle.ts_checked.specs.Expression.{Expression, arguments}
 use Rattle.ts_checked.specs.Statement.{Statement, Block, block, If, IfElse, For, While}
 use Rattle.ts_checked.specs.declared.checked_stmt.CVar.{CVar}
-use Rattle.ts_meaning.specs.Translation.{size_of_instrs, get_code, set_code, number_code, within_code, expr_code, args_code, expr_size, stmt_code, block_code, stmt_size, block_size, while_end, else_begin, else_end, for_test, for_body, for_end, step_code, script_code, script_size}
-use Rattle.ts_meaning.proofs.PlaceLemmas.{bytes_of-append, bytes_of-stmt_code, bytes_of-block_code, size_of-set_code, size_of-get_code, size_of-within_code}
+use Rattle.ts_semantics.specs.Translation.{size_of_instrs, get_code, set_code, number_code, within_code, expr_code, args_code, expr_size, stmt_code, block_code, stmt_size, block_size, while_end, else_begin, else_end, for_test, for_body, for_end, step_code, script_code, script_size}
+use Rattle.ts_semantics.proofs.PlaceLemmas.{bytes_of-append, bytes_of-stmt_code, bytes_of-block_code, size_of-set_code, size_of-get_code, size_of-within_code}
 use Rattle.ts_compiler.specs.Parts.{HasRoom, WritesInstrs, guarded_code, head_code, other_code}
 
 -- each takes a byte or more

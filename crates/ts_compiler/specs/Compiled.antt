@@ -8,7 +8,7 @@ use Rattle.mate_code.specs.Code.{code_bytes}
 use Rattle.mate_code.specs.Table.{table_of}
 use Rattle.mate_code.specs.Verification.{Marks}
 use Rattle.ts_checked.specs.Statement.{Block}
-use Rattle.ts_meaning.specs.Translation.{script_code, script_size, script_need, code_of}
+use Rattle.ts_semantics.specs.Translation.{script_code, script_size, script_need, code_of}
 use Rattle.ts_compiler.specs.Parts.{capped}
 use Rattle.ts_compiler.specs.declared.fault.CompileFault.{CompileFault}
 use Rattle.ts_compiler.specs.declared.fault.CompileFault.TheVariants.{StackDepth, TooLong}

@@ -6,7 +6,7 @@ use Rattle.mate_code.specs.declared.instr.Instr.TheVariants.{Jz, Jmp}
 use Rattle.ts_checked.specs.Expression.{Expression}
 use Rattle.ts_checked.specs.Statement.{Block}
 use Rattle.ts_checked.specs.declared.checked_stmt.CVar.{CVar}
-use Rattle.ts_meaning.specs.Translation.{size_of_instrs, get_code, set_code, within_code, expr_code, expr_size, block_code, block_size}
+use Rattle.ts_semantics.specs.Translation.{size_of_instrs, get_code, set_code, within_code, expr_code, expr_size, block_code, block_size}
 
 -- a number that stops at 1,000,000,000
 abbrev pub capped : ℕ → ℕ

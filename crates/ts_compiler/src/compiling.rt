@@ -4,8 +4,8 @@ ghost use Rattle.std.specs.Prelude.{◌≡◌, Ok, IfOk};
 ghost use Rattle.mate_code.specs.Code.{decoded};
 ghost use Rattle.mate_code.specs.Table.{table_of};
 ghost use Rattle.ts_checked.specs.Checked.{checked_shape, checked_tree};
-ghost use Rattle.ts_meaning.specs.Laws.{RunsAsItsScript, UsesAsItsScript};
-ghost use Rattle.ts_meaning.specs.Translation.{code_of};
+ghost use Rattle.ts_semantics.specs.Laws.{RunsAsItsScript, UsesAsItsScript};
+ghost use Rattle.ts_semantics.specs.Translation.{code_of};
 ghost use Rattle.ts_compiler.specs.Compiled.{Compiles, AreAccepted};
 
 use crate::emitter::Emitter;
@@ -14,7 +14,7 @@ use crate::fault::CompileFault;
 use mate_code::{Table, encode};
 use mate_num::{CODE_MAX, Code, STACK_MAX};
 use ts_checked::Checked;
-use ts_meaning::{
+use ts_semantics::{
     code_is_encodable, code_is_verified, code_runs_as_its_script, code_uses_as_its_script,
 };
 

@@ -6,8 +6,8 @@ ghost use Rattle.mate_code.specs.declared.instr.Instr.TheVariants.{Add, BSet, BT
 ghost use Rattle.ts_checked.specs.Expression.{arguments};
 ghost use Rattle.ts_checked.specs.Statement.{If, For, While};
 ghost use Rattle.ts_checked.specs.TreeOf.{expr_tree, args_trees, stmt_tree, block_tree};
-ghost use Rattle.ts_meaning.specs.Translation.{size_of_instrs, get_code, set_code, expr_code, args_code, stmt_code, block_code, for_test};
-ghost use Rattle.ts_meaning.specs.Translation.{script_code, script_size};
+ghost use Rattle.ts_semantics.specs.Translation.{size_of_instrs, get_code, set_code, expr_code, args_code, stmt_code, block_code, for_test};
+ghost use Rattle.ts_semantics.specs.Translation.{script_code, script_size};
 ghost use Rattle.ts_compiler.specs.Parts.{HasRoom, WritesInstrs, guarded_code, head_code, other_code};
 
 use crate::extent::small_block_size;
@@ -33,7 +33,7 @@ impl Model for Emitter {
     ghost use Rattle.std.specs.Prelude.{◌≡◌, ◌≤◌, List};
     ghost use Rattle.mate_num.specs.declared.bounds.TheConstants.{CODE_MAX};
     ghost use Rattle.mate_code.specs.declared.instr.Instr.{Instr};
-    ghost use Rattle.ts_meaning.specs.Translation.{size_of_instrs};
+    ghost use Rattle.ts_semantics.specs.Translation.{size_of_instrs};
 
     ghost Value = { List Instr };
 

@@ -5,8 +5,8 @@ ghost use Rattle.mate_num.specs.declared.bounds.TheConstants.{CODE_MAX};
 ghost use Rattle.mate_code.specs.Instr.{size_of};
 ghost use Rattle.ts_checked.specs.Expression.{arguments};
 ghost use Rattle.ts_checked.specs.TreeOf.{expr_tree, args_trees, stmt_tree, block_tree};
-ghost use Rattle.ts_meaning.specs.Translation.{size_of_instrs, args_code, args_need, expr_size, expr_need, stmt_size, stmt_need};
-ghost use Rattle.ts_meaning.specs.Translation.{block_size, block_need, script_size, script_need, number_code};
+ghost use Rattle.ts_semantics.specs.Translation.{size_of_instrs, args_code, args_need, expr_size, expr_need, stmt_size, stmt_need};
+ghost use Rattle.ts_semantics.specs.Translation.{block_size, block_need, script_size, script_need, number_code};
 ghost use Rattle.ts_compiler.specs.Parts.{capped};
 
 use crate::words::number_size;

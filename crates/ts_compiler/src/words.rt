@@ -2,7 +2,7 @@
 
 ghost use Rattle.std.specs.Prelude.{◌≡◌, ◌≤◌};
 ghost use Rattle.mate_code.specs.Instr.{size_of};
-ghost use Rattle.ts_meaning.specs.Translation.{number_code, get_code, set_code, operator_code, within_code};
+ghost use Rattle.ts_semantics.specs.Translation.{number_code, get_code, set_code, operator_code, within_code};
 
 use mate_code::Instr;
 use ts_checked::{BinOp, CVar};

@@ -3,21 +3,21 @@ use Rattle.std.proofs.Common.{◌≡◌, ℕ, List, [], ◌∷◌, ◌++◌, Som
 use Rattle.std.specs.declared.alloc.Global.{Global}
 use Rattle.std.specs.declared.boxed.Box.{Box}
 use Rattle.ts_expressions.specs.Boxed.{boxed_tree}
-use Rattle.ts_syntax.specs.declared.word.Word.{Word}
-use Rattle.ts_syntax.specs.declared.token.Token.{Token}
-use Rattle.ts_syntax.specs.declared.token.TokenKind.{TokenKind}
-use Rattle.ts_syntax.specs.declared.token.TokenKind.TheVariants as kind
-use Rattle.ts_syntax.specs.Tree.{Tree, variable, call, call_alone, run_procedure, negative, paren, item, size, message_size, message_item, Trees, no_trees, tree_then}
-use Rattle.ts_syntax.specs.declared.expr.Expr.{Expr}
-use Rattle.ts_syntax.specs.Seen.{tree_of, trees_of}
+use Rattle.ts_trees.specs.declared.word.Word.{Word}
+use Rattle.ts_trees.specs.declared.token.Token.{Token}
+use Rattle.ts_trees.specs.declared.token.TokenKind.{TokenKind}
+use Rattle.ts_trees.specs.declared.token.TokenKind.TheVariants as kind
+use Rattle.ts_trees.specs.Tree.{Tree, variable, call, call_alone, run_procedure, negative, paren, item, size, message_size, message_item, Trees, no_trees, tree_then}
+use Rattle.ts_trees.specs.declared.expr.Expr.{Expr}
+use Rattle.ts_trees.specs.Seen.{tree_of, trees_of}
 use Rattle.std.specs.Result.{IsErrAnd}
-use Rattle.ts_syntax.specs.declared.halt.Halt.{Halt}
-use Rattle.ts_syntax.specs.Code.{kind_code}
-use Rattle.ts_syntax.specs.Machine.{Operand, in_negative, first_product, in_product, Inverse, in_inverse, in_and, Conjunction, in_args, in_call, in_do, in_paren, in_item, in_message, State, want, want_inverse, named, opened, call_opened, do_opened, sized, size_opened, size_named, word, message, have_inverse, have_and, have, closed, with_tree, inverse_due, expr_due, give, step, finish, wants_size}
-use Rattle.ts_syntax.specs.Parsing.{reads, Reads, Starts, StartsName, Lacks, Caller, of_operand, of_stmt, of_do, called_open, called_with, called}
-use Rattle.ts_syntax.proofs.Turns.{given_step, given_size}
-use Rattle.ts_syntax.proofs.Parts.{halts, ends_as}
-use Rattle.ts_syntax.proofs.Reading.{sign_read, name_read, alike_at, alike_end}
+use Rattle.ts_trees.specs.declared.halt.Halt.{Halt}
+use Rattle.ts_trees.specs.Code.{kind_code}
+use Rattle.ts_trees.specs.Machine.{Operand, in_negative, first_product, in_product, Inverse, in_inverse, in_and, Conjunction, in_args, in_call, in_do, in_paren, in_item, in_message, State, want, want_inverse, named, opened, call_opened, do_opened, sized, size_opened, size_named, word, message, have_inverse, have_and, have, closed, with_tree, inverse_due, expr_due, give, step, finish, wants_size}
+use Rattle.ts_trees.specs.Parsing.{reads, Reads, Starts, StartsName, Lacks, Caller, of_operand, of_stmt, of_do, called_open, called_with, called}
+use Rattle.ts_trees.proofs.Turns.{given_step, given_size}
+use Rattle.ts_trees.proofs.Parts.{halts, ends_as}
+use Rattle.ts_trees.proofs.Reading.{sign_read, name_read, alike_at, alike_end}
 
 -- `not`, or a comparison
 pub not_read : (k : Inverse) {ts rest : List Token} → Starts kind.Not ts rest → reads ts (want_inverse k) ≡ reads rest (want_inverse (in_inverse k))

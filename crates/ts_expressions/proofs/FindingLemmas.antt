@@ -4,22 +4,22 @@ use Rattle.std.specs.declared.alloc.Global.{Global}
 use Rattle.std.specs.declared.boxed.Box.{Box}
 use Rattle.ts_expressions.specs.Boxed.{boxed_tree}
 use Rattle.ts_expressions.specs.Finding.{Found, Made, Joined, MadeCall}
-use Rattle.ts_syntax.specs.Parsing.{Ended, reads, noted_then, Reads, Starts, Lacks, LacksOperator, StartsOperator, Caller, called_open, called_with, called, of_operand}
-use Rattle.ts_syntax.specs.declared.halt.Halt.{Halt}
-use Rattle.ts_syntax.specs.declared.halt.Halt.TheVariants as halt
-use Rattle.ts_syntax.specs.Machine.{Operand, in_product, Product, first_product, in_sum, Sum, sum_due, Inverse, inverse_due, in_compare, in_and, Conjunction, first_and, in_or, in_paren, in_item, in_message, Whole, State, sized, size_opened, size_named, want, want_inverse, named, expr_due, give, have_product, have_sum, have_inverse, have_and, have, with_tree, product_sign, sum_sign}
-use Rattle.ts_syntax.proofs.Parts.{starts_shorter}
-use Rattle.ts_syntax.proofs.Turns.{inverse_is_next}
+use Rattle.ts_trees.specs.Parsing.{Ended, reads, noted_then, Reads, Starts, Lacks, LacksOperator, StartsOperator, Caller, called_open, called_with, called, of_operand}
+use Rattle.ts_trees.specs.declared.halt.Halt.{Halt}
+use Rattle.ts_trees.specs.declared.halt.Halt.TheVariants as halt
+use Rattle.ts_trees.specs.Machine.{Operand, in_product, Product, first_product, in_sum, Sum, sum_due, Inverse, inverse_due, in_compare, in_and, Conjunction, first_and, in_or, in_paren, in_item, in_message, Whole, State, sized, size_opened, size_named, want, want_inverse, named, expr_due, give, have_product, have_sum, have_inverse, have_and, have, with_tree, product_sign, sum_sign}
+use Rattle.ts_trees.proofs.Parts.{starts_shorter}
+use Rattle.ts_trees.proofs.Turns.{inverse_is_next}
 use Rattle.ts_checked.specs.declared.bin_op.BinOp.{BinOp}
 use Rattle.ts_checked.specs.declared.bin_op.BinOp.TheVariants as op
-use Rattle.ts_syntax.specs.declared.expr.Expr.{Expr}
-use Rattle.ts_syntax.specs.declared.token.Token.{Token}
-use Rattle.ts_syntax.specs.declared.token.TokenKind.{TokenKind}
-use Rattle.ts_syntax.specs.declared.token.TokenKind.TheVariants as kind
-use Rattle.ts_syntax.specs.declared.word.Word.{Word}
-use Rattle.ts_syntax.specs.Seen.{trees_of}
-use Rattle.ts_syntax.specs.Spelling.{kinds}
-use Rattle.ts_syntax.specs.Tree.{Tree, two, call, paren, item, message_item}
+use Rattle.ts_trees.specs.declared.expr.Expr.{Expr}
+use Rattle.ts_trees.specs.declared.token.Token.{Token}
+use Rattle.ts_trees.specs.declared.token.TokenKind.{TokenKind}
+use Rattle.ts_trees.specs.declared.token.TokenKind.TheVariants as kind
+use Rattle.ts_trees.specs.declared.word.Word.{Word}
+use Rattle.ts_trees.specs.Seen.{trees_of}
+use Rattle.ts_trees.specs.Spelling.{kinds}
+use Rattle.ts_trees.specs.Tree.{Tree, two, call, paren, item, message_item}
 use Rattle.ts_expressions.proofs.ExprLemmas.{part_halts, paren_closed, item_closed, message_closed, arguments_closed, call_read, call_halts, size_begins, size_closed}
 use Rattle.ts_expressions.proofs.OperatorLemmas.{product_over, and_over, sum_over}
 use Rattle.ts_expressions.proofs.StoppingLemmas.{paren_open, item_open, message_open, arguments_open, size_open}

@@ -1,15 +1,15 @@
 -- Reading operators: a sign that lengthens a part, and a part that no sign lengthens.
 use Rattle.std.proofs.Common.{◌≡◌, ℕ, List, [], ◌∷◌, Option, Some, None, refl, sym, ◌∙◌, ap}
 use Rattle.ts_checked.specs.declared.bin_op.BinOp.{BinOp}
-use Rattle.ts_syntax.specs.declared.token.Token.{Token}
-use Rattle.ts_syntax.specs.declared.token.TokenKind.{TokenKind}
-use Rattle.ts_syntax.specs.declared.token.TokenKind.TheVariants as kind
-use Rattle.ts_syntax.specs.Parsing.{Holds, reads, Starts, StartsOperator, Lacks, LacksOperator}
-use Rattle.ts_syntax.specs.Tree.{Tree, two}
-use Rattle.ts_syntax.specs.Code.{kind_code}
-use Rattle.ts_syntax.specs.Machine.{Product, first_sum, in_product, in_sum, Sum, first_compare, Inverse, in_compare, Conjunction, first_or, in_or, first_and, first_product, Whole, State, want, want_inverse, sum_due, have_product, have_sum, have_inverse, have_and, have, product_sign, sum_sign, comparison_sign, lengthened, give_inverse, give_sum, give_product, step, finish}
-use Rattle.ts_syntax.proofs.Turns.{summed, summed_step, summed_size, sum_step, compare_step, joined, joined_size}
-use Rattle.ts_syntax.proofs.Reading.{is_plain, sign_read, alike_at, alike_end}
+use Rattle.ts_trees.specs.declared.token.Token.{Token}
+use Rattle.ts_trees.specs.declared.token.TokenKind.{TokenKind}
+use Rattle.ts_trees.specs.declared.token.TokenKind.TheVariants as kind
+use Rattle.ts_trees.specs.Parsing.{Holds, reads, Starts, StartsOperator, Lacks, LacksOperator}
+use Rattle.ts_trees.specs.Tree.{Tree, two}
+use Rattle.ts_trees.specs.Code.{kind_code}
+use Rattle.ts_trees.specs.Machine.{Product, first_sum, in_product, in_sum, Sum, first_compare, Inverse, in_compare, Conjunction, first_or, in_or, first_and, first_product, Whole, State, want, want_inverse, sum_due, have_product, have_sum, have_inverse, have_and, have, product_sign, sum_sign, comparison_sign, lengthened, give_inverse, give_sum, give_product, step, finish}
+use Rattle.ts_trees.proofs.Turns.{summed, summed_step, summed_size, sum_step, compare_step, joined, joined_size}
+use Rattle.ts_trees.proofs.Reading.{is_plain, sign_read, alike_at, alike_end}
 
 no_sign : {o : BinOp} → None ≡ Some o → ⊥
 no_sign h = cc

@@ -1,8 +1,8 @@
 -- A part begins with no more tokens than the whole, and says nothing of what is left if it stops.
 use Rattle.std.proofs.Common.{◌≡◌, ℕ, ◌+◌, ◌*◌, ◌<◌, ◌≤◌, Result, Ok, Err, IfOk, List, length, Bor, ◌∷◌, ap, lt_trans, lt_of_le_of_lt, le_of_lt, arith}
 use Rattle.std.specs.Result.{IsErrAnd}
-use Rattle.ts_syntax.specs.declared.token.Token.{Token}
-use Rattle.ts_syntax.specs.declared.halt.Halt.{Halt}
+use Rattle.ts_trees.specs.declared.token.Token.{Token}
+use Rattle.ts_trees.specs.declared.halt.Halt.{Halt}
 
 -- nothing is told of what is left where a part stops
 pub untold : {X : Type 0} (P : X → Type 0) (r : Result X Halt) (e : Halt) → IsErrAnd r (λ x. x ≡ e) → IfOk r P

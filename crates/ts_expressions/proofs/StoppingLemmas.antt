@@ -1,18 +1,18 @@
 -- When the machine stops, as a part of the parser does: at a token that is missing, or because memory ran out.
 use Rattle.std.proofs.Common.{◌≡◌, ℕ, List, None, Result, Ok, Err, Bor, refl, sym, subst}
 use Rattle.std.specs.Result.{IsErrAnd}
-use Rattle.ts_syntax.specs.declared.token.Token.{Token}
-use Rattle.ts_syntax.specs.declared.token.TokenKind.{TokenKind}
-use Rattle.ts_syntax.specs.declared.token.TokenKind.TheVariants as kind
-use Rattle.ts_syntax.specs.declared.word.Word.{Word}
-use Rattle.ts_syntax.specs.Spelling.{kinds}
-use Rattle.ts_syntax.specs.Tree.{Tree, Trees}
-use Rattle.ts_syntax.specs.declared.halt.Halt.{Halt}
-use Rattle.ts_syntax.specs.declared.halt.Halt.TheVariants as halt
-use Rattle.ts_syntax.specs.Machine.{Operand, Whole, in_paren, in_item, in_message, State, sized, size_opened, size_named, message, have, step}
-use Rattle.ts_syntax.specs.Parsing.{Gives, reads, Reads, Lacks, Takes, LacksName, TakesName, Caller, of_operand, of_stmt, of_do, called_with}
-use Rattle.ts_syntax.proofs.Missing.{IsOther, lacks_first, lacks_name, only_box, only_close, only_open}
-use Rattle.ts_syntax.proofs.Reading.{stops}
+use Rattle.ts_trees.specs.declared.token.Token.{Token}
+use Rattle.ts_trees.specs.declared.token.TokenKind.{TokenKind}
+use Rattle.ts_trees.specs.declared.token.TokenKind.TheVariants as kind
+use Rattle.ts_trees.specs.declared.word.Word.{Word}
+use Rattle.ts_trees.specs.Spelling.{kinds}
+use Rattle.ts_trees.specs.Tree.{Tree, Trees}
+use Rattle.ts_trees.specs.declared.halt.Halt.{Halt}
+use Rattle.ts_trees.specs.declared.halt.Halt.TheVariants as halt
+use Rattle.ts_trees.specs.Machine.{Operand, Whole, in_paren, in_item, in_message, State, sized, size_opened, size_named, message, have, step}
+use Rattle.ts_trees.specs.Parsing.{Gives, reads, Reads, Lacks, Takes, LacksName, TakesName, Caller, of_operand, of_stmt, of_do, called_with}
+use Rattle.ts_trees.proofs.Missing.{IsOther, lacks_first, lacks_name, only_box, only_close, only_open}
+use Rattle.ts_trees.proofs.Reading.{stops}
 
 pub out_of_memory : {X : Type 0} (P : X → Type 0) (Q : List Token → Type 0) (r : Result X Halt) → IsErrAnd r (λ e. e ≡ halt.Memory) → Gives {X = X} r P Q
 out_of_memory P Q (Ok x) i = absurd i

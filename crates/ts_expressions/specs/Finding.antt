@@ -5,14 +5,14 @@ use Rattle.std.specs.Result.{IsErrAnd}
 use Rattle.std.specs.declared.alloc.Global.{Global}
 use Rattle.std.specs.declared.boxed.Box.{Box}
 use Rattle.ts_expressions.specs.Boxed.{boxed_tree}
-use Rattle.ts_syntax.specs.declared.halt.Halt.{Halt}
-use Rattle.ts_syntax.specs.declared.halt.Halt.TheVariants as halt
+use Rattle.ts_trees.specs.declared.halt.Halt.{Halt}
+use Rattle.ts_trees.specs.declared.halt.Halt.TheVariants as halt
 use Rattle.ts_checked.specs.declared.bin_op.BinOp.{BinOp}
-use Rattle.ts_syntax.specs.declared.expr.Expr.{Expr}
-use Rattle.ts_syntax.specs.declared.token.Token.{Token}
-use Rattle.ts_syntax.specs.declared.word.Word.{Word}
-use Rattle.ts_syntax.specs.Seen.{trees_of}
-use Rattle.ts_syntax.specs.Tree.{Tree, two, call}
+use Rattle.ts_trees.specs.declared.expr.Expr.{Expr}
+use Rattle.ts_trees.specs.declared.token.Token.{Token}
+use Rattle.ts_trees.specs.declared.word.Word.{Word}
+use Rattle.ts_trees.specs.Seen.{trees_of}
+use Rattle.ts_trees.specs.Tree.{Tree, two, call}
 
 abbrev pub Found : Type 0
 Found = Result (Box Expr Global × Bor (List Token)) Halt

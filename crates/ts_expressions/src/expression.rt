@@ -1,11 +1,11 @@
 //! Expressions, by recursive descent: loops for chains and arguments, recursion for nesting.
 
 ghost use Rattle.std.specs.Prelude.{◌<◌, ◌≤◌, length, IfOk};
-ghost use Rattle.ts_syntax.specs.Machine.{Operand, Product, Sum, Inverse, Conjunction, Whole, want, want_inverse, in_paren, in_item, named, message, sized, size_opened, size_named, first_product, first_and, sum_due, inverse_due, expr_due, give, have_product, have_sum, have_inverse, have_and, have, product_sign, sum_sign};
-ghost use Rattle.ts_syntax.specs.Parsing.{Reads, Lacks, LacksOperator, Caller, called_open, called};
+ghost use Rattle.ts_trees.specs.Machine.{Operand, Product, Sum, Inverse, Conjunction, Whole, want, want_inverse, in_paren, in_item, named, message, sized, size_opened, size_named, first_product, first_and, sum_due, inverse_due, expr_due, give, have_product, have_sum, have_inverse, have_and, have, product_sign, sum_sign};
+ghost use Rattle.ts_trees.specs.Parsing.{Reads, Lacks, LacksOperator, Caller, called_open, called};
 ghost use Rattle.ts_expressions.specs.Boxed.{boxed_tree};
-ghost use Rattle.ts_syntax.specs.Seen.{tree_of, trees_of};
-ghost use Rattle.ts_syntax.specs.declared.token.TokenKind.TheVariants as kind;
+ghost use Rattle.ts_trees.specs.Seen.{tree_of, trees_of};
+ghost use Rattle.ts_trees.specs.declared.token.TokenKind.TheVariants as kind;
 
 use crate::found::{Found, append, called, closed, closed_call, discard_all, joined, made};
 use crate::node::{
@@ -13,10 +13,10 @@ use crate::node::{
 };
 use std::alloc::Global;
 use ts_checked::BinOp;
-use ts_syntax::expect::{
+use ts_trees::expect::{
     after, after_comparison_sign, after_product_sign, after_sum_sign, ended, expect, name,
 };
-use ts_syntax::{Args, Expr, Halt, Token, TokenKind, Word};
+use ts_trees::{Args, Expr, Halt, Token, TokenKind, Word};
 
 /// Reads an expression, with all the operators that follow its parts: the expression, and the tokens after it, of
 /// which the first is no `or`. It stops at the first token that doesn't fit, or after all tokens if they end too

@@ -1,17 +1,17 @@
 //! What a part of the parser found: as a new node, and together with another part.
 
 ghost use Rattle.std.specs.Prelude.{◌≡◌, ◌∷◌, ◌++◌, [], Ok, MatchResult};
-ghost use Rattle.ts_syntax.specs.Parsing.{Ended};
-ghost use Rattle.ts_syntax.specs.declared.halt.Halt.TheVariants as halt;
-ghost use Rattle.ts_syntax.specs.declared.token.TokenKind.TheVariants as kind;
+ghost use Rattle.ts_trees.specs.Parsing.{Ended};
+ghost use Rattle.ts_trees.specs.declared.halt.Halt.TheVariants as halt;
+ghost use Rattle.ts_trees.specs.declared.token.TokenKind.TheVariants as kind;
 ghost use Rattle.ts_expressions.specs.Boxed.{boxed_tree};
 ghost use Rattle.ts_expressions.specs.Finding.{Made, Joined, MadeCall};
 
 use crate::node::{call, two};
 use std::alloc::{AllocError, Global};
 use ts_checked::BinOp;
-use ts_syntax::expect::ended;
-use ts_syntax::{Args, Expr, Halt, Token, TokenKind, Word};
+use ts_trees::expect::ended;
+use ts_trees::{Args, Expr, Halt, Token, TokenKind, Word};
 
 /// What a part of the parser found, and the tokens after it. It is boxed at once, so that recursive functions need little stack.
 pub type Found<'a> = Result<(Box<Expr>, &'a [Token]), Halt<'a>>;

@@ -3,12 +3,12 @@
 
 ghost use Rattle.std.specs.Prelude.{◌≡◌, IfOk};
 ghost use Rattle.ts_expressions.specs.Boxed.{boxed_tree};
-ghost use Rattle.ts_syntax.specs.Tree.{number, variable, size, message_size, call, negative, inverse, two, paren, item, message_item};
-ghost use Rattle.ts_syntax.specs.Seen.{trees_of};
+ghost use Rattle.ts_trees.specs.Tree.{number, variable, size, message_size, call, negative, inverse, two, paren, item, message_item};
+ghost use Rattle.ts_trees.specs.Seen.{trees_of};
 
 use std::alloc::{AllocError, Global};
 use ts_checked::BinOp;
-use ts_syntax::{Args, Expr, Word};
+use ts_trees::{Args, Expr, Word};
 
 #[inline(never)]
 pub fn number(alloc: Global, value: u16) -> Result<Box<Expr>, AllocError>

@@ -21,12 +21,12 @@ use Rattle.mate_code.specs.declared.uses.Use.TheVariants.{Gets, Calls}
 use Rattle.ts_checked.specs.Expression.{Expression, Arguments, no_arguments, argument, Num, Shared, Private, Item, Size, MsgItem, MsgSize, Call, SendBuf, Neg, Not, Two}
 use Rattle.ts_checked.specs.Right.{is_buffer, is_call, argument_count, is_right_expr, are_right}
 use Rattle.ts_checked.specs.declared.bin_op.BinOp.{BinOp}
-use Rattle.ts_meaning.specs.State.{ScriptState, Evaluation, Done, Over, then_do, value_or_fault, first_ten, next_answer}
-use Rattle.ts_meaning.specs.Meaning.{applied, value_of, values_of}
+use Rattle.ts_semantics.specs.State.{ScriptState, Evaluation, Done, Over, then_do, value_or_fault, first_ten, next_answer}
+use Rattle.ts_semantics.specs.Meaning.{applied, value_of, values_of}
 use Rattle.mate_num.specs.Operators.{truth_value}
-use Rattle.ts_meaning.specs.Uses.{expr_has, args_have}
-use Rattle.ts_meaning.specs.Translation.{size_of_instrs, number_code, operator_code, expr_code, args_code, expr_need, args_need, expr_size}
-use Rattle.ts_meaning.proofs.PlaceLemmas.{bytes_of-append, bytes_of-then, size_of-operator_code}
+use Rattle.ts_semantics.specs.Uses.{expr_has, args_have}
+use Rattle.ts_semantics.specs.Translation.{size_of_instrs, number_code, operator_code, expr_code, args_code, expr_need, args_need, expr_size}
+use Rattle.ts_semantics.proofs.PlaceLemmas.{bytes_of-append, bytes_of-then, size_of-operator_code}
 use Rattle.ts_fold.specs.Folded.{literal_of, operated, negation, inverse, operation, folded_expr, folded_args}
 
 -- ---- tests

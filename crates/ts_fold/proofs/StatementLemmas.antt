@@ -15,14 +15,14 @@ use Rattle.mate_num.specs.Shapes.{is_shape}
 use Rattle.ts_checked.specs.Right.{is_buffer, is_variable, is_call, argument_count, is_step, is_right_expr, are_right, is_head, is_right_stmt, is_right_block, is_right}
 use Rattle.ts_checked.specs.Statement.{Statement, Block, no_statements, statement, block, Set, SetItem, Append, Take, Clear, Do, DoSend, If, IfElse, For, While}
 use Rattle.ts_checked.specs.declared.checked_stmt.CVar.{CVar}
-use Rattle.ts_meaning.specs.State.{ScriptState, Evaluation, Done, Over, then_do, with_variable, buffer_changed, dropped, loop_does, choose, round_if, begun_state}
-use Rattle.ts_meaning.specs.Meaning.{value_of, while_round, for_round, run_stmt, run_block, played}
+use Rattle.ts_semantics.specs.State.{ScriptState, Evaluation, Done, Over, then_do, with_variable, buffer_changed, dropped, loop_does, choose, round_if, begun_state}
+use Rattle.ts_semantics.specs.Meaning.{value_of, while_round, for_round, run_stmt, run_block, played}
 use Rattle.mate_code.specs.CodeUses.{reads_in, writes_in}
 use Rattle.mate_code.specs.declared.uses.Use.{Use}
 use Rattle.mate_code.specs.declared.uses.Use.TheVariants.{Gets, Changes}
-use Rattle.ts_meaning.specs.Uses.{variable_has, expr_has, stmt_has, block_has, script_uses}
-use Rattle.ts_meaning.proofs.LoopLemmas.{loop_ends, while_wins_none}
-use Rattle.ts_meaning.specs.Translation.{number_code, expr_need, expr_size, stmt_need, block_need, stmt_size, block_size, script_need, script_size}
+use Rattle.ts_semantics.specs.Uses.{variable_has, expr_has, stmt_has, block_has, script_uses}
+use Rattle.ts_semantics.proofs.LoopLemmas.{loop_ends, while_wins_none}
+use Rattle.ts_semantics.specs.Translation.{number_code, expr_need, expr_size, stmt_need, block_need, stmt_size, block_size, script_need, script_size}
 use Rattle.ts_fold.specs.Folded.{decision, branch_left, if_left, if_else_left, while_left, folded_expr, folded_args, folded_stmt, folded_stmts, folded}
 use Rattle.ts_fold.specs.Laws.{RunsAs, UsesNoMore, TakesNoMore}
 use Rattle.ts_fold.proofs.ExpressionLemmas.{or_within, and_within, then_same, Keeps, KeepsArgs, keeps_call, keeps_expr, keeps_args}

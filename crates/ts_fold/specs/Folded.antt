@@ -9,7 +9,7 @@ use Rattle.ts_checked.specs.Expression.{Call, SendBuf, Neg, Not, Two}
 use Rattle.ts_checked.specs.Statement.{Statement, Block, no_statements, statement, block, Set, SetItem, Append, Take, Clear, Do, DoSend, If}
 use Rattle.ts_checked.specs.Statement.{IfElse, For, While}
 use Rattle.ts_checked.specs.declared.bin_op.BinOp.{BinOp}
-use Rattle.ts_meaning.specs.Meaning.{applied}
+use Rattle.ts_semantics.specs.Meaning.{applied}
 
 -- the number that an expression is
 abbrev pub literal_of : Expression → Option ℤ

@@ -5,9 +5,9 @@ use Rattle.mate_num.specs.declared.resource.Resource.{Resource}
 use Rattle.mate_num.specs.declared.shape.Shape.{Shape}
 use Rattle.mate_num.specs.declared.store.Store.{Store}
 use Rattle.ts_checked.specs.Statement.{Block}
-use Rattle.ts_meaning.specs.Meaning.{run_of}
-use Rattle.ts_meaning.specs.Uses.{script_uses}
-use Rattle.ts_meaning.specs.Translation.{script_need, script_size}
+use Rattle.ts_semantics.specs.Meaning.{run_of}
+use Rattle.ts_semantics.specs.Uses.{script_uses}
+use Rattle.ts_semantics.specs.Translation.{script_need, script_size}
 
 -- the new tree runs as the old one: the end, the store and the calls are the same, whatever the store, the message,
 -- the answers and the turns are

@@ -11,7 +11,7 @@ ghost use Rattle.ts_fold.specs.Folded.{literal_of, operated, negation, inverse, 
 use mate_num::{NoMemory, Num16};
 use std::alloc::Global;
 use ts_checked::{BinOp, CArgs, CExpr};
-use ts_meaning::apply;
+use ts_semantics::apply;
 
 /// An expression, folded.
 #[cycle(expression)]

@@ -1,9 +1,9 @@
 -- How runs of bytes are cut.
 use Rattle.std.proofs.Common.{◌≡◌, ℕ, ◌+◌, ◌-◌, ◌*◌, ◌<◌, ◌≤◌, Bool, true, false, not, ◌&&◌, ◌||◌, ◌==◌, nat_lt, nat_le, inl, inr, List, [], ◌∷◌, ◌++◌, length, Result, Ok, Err, refl, sym, ◌∙◌, ap, subst, append_assoc, append-nil, add-zero, length-append, arith}
 use Rattle.std.proofs.lemmas.Bool.{false≢true, cond-true, cond-false, or_cases, or_from, or_right, and_parts, and_left, and_right, not-true, not-false, leb-true, eqb-true, lt-leb, lt-ltb, le-ltb, ne_eqb, cases_lt}
-use Rattle.ts_syntax.specs.declared.token.Token.{Token}
-use Rattle.ts_syntax.specs.declared.token.TokenKind.TheVariants as kind
-use Rattle.ts_syntax.specs.Cut.{is_blank, is_digit, begins_name, in_name, word_kind, token, CutFault, bad_byte, big_literal, Mode, between, comment, word, literal, CutStep, stop, go, behind, fresh, turn, with_front, turned, cut_from}
+use Rattle.ts_trees.specs.declared.token.Token.{Token}
+use Rattle.ts_trees.specs.declared.token.TokenKind.TheVariants as kind
+use Rattle.ts_trees.specs.Cut.{is_blank, is_digit, begins_name, in_name, word_kind, token, CutFault, bad_byte, big_literal, Mode, between, comment, word, literal, CutStep, stop, go, behind, fresh, turn, with_front, turned, cut_from}
 use Rattle.ts_lexer.specs.Spans.{begins, BeginsWith, Passes, digits_value}
 
 -- the bytes are at their end, or their first one fails the test

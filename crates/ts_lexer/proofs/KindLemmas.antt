@@ -5,12 +5,12 @@ use Rattle.std.proofs.lemmas.List.{map-append}
 use Rattle.std.proofs.lemmas.Bool.{false≢true, cond_both, or_left, ltb-true, ltb-false}
 use Rattle.mate_num.specs.Lists.{Each}
 use Rattle.mate_num.proofs.ListLemmas.{each-append}
-use Rattle.ts_syntax.specs.declared.token.Token.{Token}
-use Rattle.ts_syntax.specs.declared.token.TokenKind.{TokenKind}
-use Rattle.ts_syntax.specs.declared.token.TokenKind.TheVariants as kind
-use Rattle.ts_syntax.specs.Text.{token_text}
-use Rattle.ts_syntax.specs.Spelling.{kinds}
-use Rattle.ts_syntax.specs.Cut.{is_blank, is_digit, begins_name, in_name, sign_of, keywords, keyword_among, word_kind, token, CutFault, Mode, between, comment, word, literal, less, greater, CutStep, stop, go, behind, sign_turn, fresh, turn, with_front, turned, cut_from, cut}
+use Rattle.ts_trees.specs.declared.token.Token.{Token}
+use Rattle.ts_trees.specs.declared.token.TokenKind.{TokenKind}
+use Rattle.ts_trees.specs.declared.token.TokenKind.TheVariants as kind
+use Rattle.ts_trees.specs.Text.{token_text}
+use Rattle.ts_trees.specs.Spelling.{kinds}
+use Rattle.ts_trees.specs.Cut.{is_blank, is_digit, begins_name, in_name, sign_of, keywords, keyword_among, word_kind, token, CutFault, Mode, between, comment, word, literal, less, greater, CutStep, stop, go, behind, sign_turn, fresh, turn, with_front, turned, cut_from, cut}
 use Rattle.ts_lexer.specs.Spans.{BeginsWith, Passes}
 use Rattle.ts_lexer.specs.Printed.{IsWord, IsKind, AreKinds}
 use Rattle.ts_lexer.proofs.WordLemmas.{sign-is}

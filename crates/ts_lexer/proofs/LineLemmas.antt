@@ -1,8 +1,8 @@
 -- A line feed after a text changes no token.
 use Rattle.std.proofs.Common.{◌≡◌, ℕ, ◌+◌, Bool, true, false, nat_lt, if◌then◌else◌, List, [], ◌∷◌, ◌++◌, Result, Ok, Err, refl, sym, ◌∙◌, ap}
-use Rattle.ts_syntax.specs.declared.token.Token.{Token}
-use Rattle.ts_syntax.specs.declared.token.TokenKind.TheVariants as kind
-use Rattle.ts_syntax.specs.Cut.{token, CutFault, big_literal, Mode, between, comment, word, literal, less, greater, CutStep, stop, go, turn, with_front, turned, cut_from, cut}
+use Rattle.ts_trees.specs.declared.token.Token.{Token}
+use Rattle.ts_trees.specs.declared.token.TokenKind.TheVariants as kind
+use Rattle.ts_trees.specs.Cut.{token, CutFault, big_literal, Mode, between, comment, word, literal, less, greater, CutStep, stop, go, turn, with_front, turned, cut_from, cut}
 use Rattle.ts_lexer.proofs.CutLemmas.{cut_from-nil, cut_from-cons}
 
 turned_same : (f g : Mode → Result (List Token) CutFault) → ((m : Mode) → f m ≡ g m) → (u : CutStep) → turned f u ≡ turned g u

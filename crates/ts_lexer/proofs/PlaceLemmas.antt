@@ -1,15 +1,15 @@
 -- A script with other places.
 use Rattle.std.proofs.Common.{◌≡◌, ℕ, suc, ◌+◌, ◌-◌, ◌≤◌, List, [], ◌∷◌, ◌++◌, length, take, drop, map, Option, Some, None, refl, sym, ◌∙◌, ap, subst, length-append, length-drop, arith}
 use Rattle.std.proofs.lemmas.List.{take-append-drop, length-take-le}
-use Rattle.ts_syntax.specs.declared.word.Word.{Word}
-use Rattle.ts_syntax.specs.declared.stmt.Step.{Step}
-use Rattle.ts_syntax.specs.declared.dialect.Dialect.TheVariants as dialect
-use Rattle.ts_syntax.specs.declared.script.Decl.{Decl}
-use Rattle.ts_syntax.specs.declared.script.DeclKind.{DeclKind}
-use Rattle.ts_syntax.specs.declared.token.TokenKind.TheVariants as kind
-use Rattle.ts_syntax.specs.Tree.{Tree, number, variable, item, size, message_item, message_size, call, negative, inverse, two, paren, Trees, no_trees, tree_then, Act, set, set_item, append, take_last, clear, call_alone, if_then, if_else, for_next, while_do, run_procedure, Acts, no_acts, act_then, Source}
-use Rattle.ts_syntax.specs.Spelling.{name, sign, spelled, args_spelled, more_spelled, step_spelled, act_spelled, acts_spelled, decl_start, decls_gap, decls_spelled, source_spelled, places, args_places, step_places, act_places, acts_places, decls_places, source_places}
-use Rattle.ts_syntax.specs.Derived.{level, Derived, ArgsDerived, ActDerived, ActsDerived, NamesFollow, DeclsDerived, IsDerived}
+use Rattle.ts_trees.specs.declared.word.Word.{Word}
+use Rattle.ts_trees.specs.declared.stmt.Step.{Step}
+use Rattle.ts_trees.specs.declared.dialect.Dialect.TheVariants as dialect
+use Rattle.ts_trees.specs.declared.script.Decl.{Decl}
+use Rattle.ts_trees.specs.declared.script.DeclKind.{DeclKind}
+use Rattle.ts_trees.specs.declared.token.TokenKind.TheVariants as kind
+use Rattle.ts_trees.specs.Tree.{Tree, number, variable, item, size, message_item, message_size, call, negative, inverse, two, paren, Trees, no_trees, tree_then, Act, set, set_item, append, take_last, clear, call_alone, if_then, if_else, for_next, while_do, run_procedure, Acts, no_acts, act_then, Source}
+use Rattle.ts_trees.specs.Spelling.{name, sign, spelled, args_spelled, more_spelled, step_spelled, act_spelled, acts_spelled, decl_start, decls_gap, decls_spelled, source_spelled, places, args_places, step_places, act_places, acts_places, decls_places, source_places}
+use Rattle.ts_trees.specs.Derived.{level, Derived, ArgsDerived, ActDerived, ActsDerived, NamesFollow, DeclsDerived, IsDerived}
 use Rattle.ts_lexer.specs.Bare.{bare_word, bare_tree, bare_trees, bare_step, bare_act, bare_acts, bare_decl, bare}
 
 -- the first place of a list, and those behind it

@@ -3,12 +3,12 @@ use Rattle.std.proofs.Common.{◌≡◌, ℕ, ◌+◌, ◌-◌, ◌*◌, ◌/◌
 use Rattle.std.specs.List.{list_all}
 use Rattle.std.proofs.lemmas.Bool.{false≢true, and_parts, and_from, le-leb, leb-true}
 use Rattle.std.proofs.lemmas.Fmt.{decimal_by_steps}
-use Rattle.ts_syntax.specs.declared.token.Token.{Token}
-use Rattle.ts_syntax.specs.declared.token.TokenKind.{TokenKind}
-use Rattle.ts_syntax.specs.declared.token.TokenKind.TheVariants as kind
-use Rattle.ts_syntax.specs.Text.{token_text, written, text_of}
-use Rattle.ts_syntax.specs.Spelling.{kinds}
-use Rattle.ts_syntax.specs.Cut.{is_digit, begins_name, in_name, word_kind, token, between, less, greater, go, behind, fresh, turn, with_front, cut_from}
+use Rattle.ts_trees.specs.declared.token.Token.{Token}
+use Rattle.ts_trees.specs.declared.token.TokenKind.{TokenKind}
+use Rattle.ts_trees.specs.declared.token.TokenKind.TheVariants as kind
+use Rattle.ts_trees.specs.Text.{token_text, written, text_of}
+use Rattle.ts_trees.specs.Spelling.{kinds}
+use Rattle.ts_trees.specs.Cut.{is_digit, begins_name, in_name, word_kind, token, between, less, greater, go, behind, fresh, turn, with_front, cut_from}
 use Rattle.ts_lexer.specs.Spans.{BeginsWith, Passes, digits_value}
 use Rattle.ts_lexer.specs.Printed.{IsKind, AreKinds, IsCutInto}
 use Rattle.ts_lexer.proofs.CutLemmas.{Stops, cut_from-nil, cut_from-go, cut_from-turn, ends_before, word_cut, literal_cut, blank_cut}

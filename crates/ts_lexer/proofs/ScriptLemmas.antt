@@ -1,11 +1,11 @@
 -- What is printed of a script spells it, except for its places.
 use Rattle.std.proofs.Common.{◌≡◌, ℕ, List, length, None, sym, ◌∙◌, ap, subst}
-use Rattle.ts_syntax.specs.declared.token.TokenKind.{TokenKind}
-use Rattle.ts_syntax.specs.Tree.{Source}
-use Rattle.ts_syntax.specs.Spelling.{source_spelled, source_places, noted}
-use Rattle.ts_syntax.specs.Depth.{first_deep}
-use Rattle.ts_syntax.specs.Derived.{IsDerived}
-use Rattle.ts_syntax.specs.Text.{text_of}
+use Rattle.ts_trees.specs.declared.token.TokenKind.{TokenKind}
+use Rattle.ts_trees.specs.Tree.{Source}
+use Rattle.ts_trees.specs.Spelling.{source_spelled, source_places, noted}
+use Rattle.ts_trees.specs.Depth.{first_deep}
+use Rattle.ts_trees.specs.Derived.{IsDerived}
+use Rattle.ts_trees.specs.Text.{text_of}
 use Rattle.ts_lexer.specs.Printed.{AreKinds, IsCutInto, IsTextOf, IsTextButPlaces}
 use Rattle.ts_lexer.proofs.CountLemmas.{noted_of_source}
 use Rattle.ts_lexer.proofs.KindLemmas.{cut-AreKinds}

@@ -2,11 +2,11 @@
 use Rattle.std.proofs.Common.{◌≡◌, ℕ, ◌+◌, ◌<◌, ◌≤◌, Bool, true, false, ◌||◌, ◌==◌, if◌then◌else◌, List, [], ◌∷◌, length, drop, Option, Some, None, Result, Err, MatchResult, refl, sym, ◌∙◌, ap, subst, arith, rules}
 use Rattle.std.specs.Option.{option_map}
 use Rattle.std.proofs.lemmas.Bool.{false≢true, cond-true, cond-false, cond_both, or_from, or_parts, eqb-true, ne_eqb, not-true, not_from_false}
-use Rattle.ts_syntax.specs.declared.token.TokenKind.{TokenKind}
-use Rattle.ts_syntax.specs.declared.token.TokenKind.TheVariants as kind
-use Rattle.ts_syntax.specs.declared.dialect.Dialect.{Dialect}
-use Rattle.ts_syntax.specs.declared.dialect.Dialect.TheVariants as dialect
-use Rattle.ts_syntax.specs.Cut.{is_blank, is_digit, begins_name, sign_of, procedure_kind, kind_in, token, bad_byte, between, less, greater, stop, go, sign_turn, fresh, with_front, cut_from}
+use Rattle.ts_trees.specs.declared.token.TokenKind.{TokenKind}
+use Rattle.ts_trees.specs.declared.token.TokenKind.TheVariants as kind
+use Rattle.ts_trees.specs.declared.dialect.Dialect.{Dialect}
+use Rattle.ts_trees.specs.declared.dialect.Dialect.TheVariants as dialect
+use Rattle.ts_trees.specs.Cut.{is_blank, is_digit, begins_name, sign_of, procedure_kind, kind_in, token, bad_byte, between, less, greater, stop, go, sign_turn, fresh, with_front, cut_from}
 use Rattle.ts_lexer.specs.declared.fault.TokenFault.{TokenFault}
 use Rattle.ts_lexer.specs.declared.fault.TokenFault.TheVariants.{NoMemory}
 use Rattle.ts_lexer.specs.declared.scanner.Scanner.{Scanner}

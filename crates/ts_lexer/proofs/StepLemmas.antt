@@ -5,12 +5,12 @@ use Rattle.std.proofs.lemmas.Bool.{false≢true, or_left, eqb-true, ltb-true, lt
 use Rattle.std.proofs.lemmas.List.{take-append-drop}
 use Rattle.std.proofs.lemmas.List.Sums.{prefix_len-le-length}
 use Rattle.std.proofs.lemmas.List.Folds.{length-prefix_len}
-use Rattle.ts_syntax.specs.declared.token.TokenKind.{TokenKind}
-use Rattle.ts_syntax.specs.declared.token.TokenKind.TheVariants as kind
-use Rattle.ts_syntax.specs.declared.dialect.Dialect.{Dialect}
-use Rattle.ts_syntax.specs.declared.dialect.Dialect.TheVariants as dialect
-use Rattle.ts_syntax.specs.declared.token.Token.{Token}
-use Rattle.ts_syntax.specs.Cut.{is_blank, is_digit, begins_name, in_name, word_kind, token, CutFault, bad_byte, big_literal, between, with_front, cut_from, token_in, all_in, cut_in}
+use Rattle.ts_trees.specs.declared.token.TokenKind.{TokenKind}
+use Rattle.ts_trees.specs.declared.token.TokenKind.TheVariants as kind
+use Rattle.ts_trees.specs.declared.dialect.Dialect.{Dialect}
+use Rattle.ts_trees.specs.declared.dialect.Dialect.TheVariants as dialect
+use Rattle.ts_trees.specs.declared.token.Token.{Token}
+use Rattle.ts_trees.specs.Cut.{is_blank, is_digit, begins_name, in_name, word_kind, token, CutFault, bad_byte, big_literal, between, with_front, cut_from, token_in, all_in, cut_in}
 use Rattle.ts_lexer.specs.declared.fault.TokenFault.{TokenFault}
 use Rattle.ts_lexer.specs.declared.fault.TokenFault.TheVariants.{BadByte, BigLiteral, NoMemory}
 use Rattle.ts_lexer.specs.declared.scanner.Scanner.{Scanner}

@@ -3,7 +3,7 @@ use Rattle.std.proofs.Common.{◌≡◌, ℕ, ◌+◌, ◌-◌, ◌*◌, ◌<◌
 use Rattle.std.specs.Option.{SomeIff}
 use Rattle.std.proofs.lemmas.Bool.{cond-true, cond-false, and_parts, leb-true, lt-ltb, le-ltb}
 use Rattle.std.proofs.lemmas.List.{drop_more, drop_all}
-use Rattle.ts_syntax.specs.Cut.{is_digit}
+use Rattle.ts_trees.specs.Cut.{is_digit}
 use Rattle.ts_lexer.specs.Spans.{Passes, digits_value}
 use Rattle.ts_lexer.proofs.CutLemmas.{value_of-ge}
 

@@ -7,12 +7,12 @@ use Rattle.std.proofs.lemmas.Str.{IsUtf8-from_ascii}
 use Rattle.std.proofs.lemmas.Str.Ascii.{IsAscii-nil, IsAscii-cons}
 use Rattle.std.proofs.lemmas.Slice.Eq.{bytes_eq-Decides}
 use Rattle.mate_num.specs.Lists.{Each}
-use Rattle.ts_syntax.specs.declared.token.TokenKind.{TokenKind}
-use Rattle.ts_syntax.specs.declared.token.TokenKind.TheVariants as kind
-use Rattle.ts_syntax.specs.declared.dialect.Dialect.{Dialect}
-use Rattle.ts_syntax.specs.declared.dialect.Dialect.TheVariants as dialect
-use Rattle.ts_syntax.specs.Text.{token_text}
-use Rattle.ts_syntax.specs.Cut.{is_digit, begins_name, in_name, signs, sign_of, keywords, keyword_among, procedure_kind, kind_in}
+use Rattle.ts_trees.specs.declared.token.TokenKind.{TokenKind}
+use Rattle.ts_trees.specs.declared.token.TokenKind.TheVariants as kind
+use Rattle.ts_trees.specs.declared.dialect.Dialect.{Dialect}
+use Rattle.ts_trees.specs.declared.dialect.Dialect.TheVariants as dialect
+use Rattle.ts_trees.specs.Text.{token_text}
+use Rattle.ts_trees.specs.Cut.{is_digit, begins_name, in_name, signs, sign_of, keywords, keyword_among, procedure_kind, kind_in}
 use Rattle.ts_lexer.specs.Spans.{Passes}
 
 in_name-lt : (b : ℕ) → in_name b ≡ true → b < 128

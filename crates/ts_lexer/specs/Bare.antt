@@ -1,11 +1,11 @@
 -- A script without its places.
 use Rattle.std.specs.Prelude.{map, Option, Some, None}
-use Rattle.ts_syntax.specs.declared.word.Word.{Word}
-use Rattle.ts_syntax.specs.declared.stmt.Step.{Step}
-use Rattle.ts_syntax.specs.declared.script.Decl.{Decl}
-use Rattle.ts_syntax.specs.Tree.{Tree, number, variable, item, size, message_item, message_size, call, negative, inverse, two, paren, Trees}
-use Rattle.ts_syntax.specs.Tree.{no_trees, tree_then, Act, set, set_item, append, take_last, clear, call_alone, if_then, if_else, for_next}
-use Rattle.ts_syntax.specs.Tree.{while_do, run_procedure, Acts, no_acts, act_then, Source}
+use Rattle.ts_trees.specs.declared.word.Word.{Word}
+use Rattle.ts_trees.specs.declared.stmt.Step.{Step}
+use Rattle.ts_trees.specs.declared.script.Decl.{Decl}
+use Rattle.ts_trees.specs.Tree.{Tree, number, variable, item, size, message_item, message_size, call, negative, inverse, two, paren, Trees}
+use Rattle.ts_trees.specs.Tree.{no_trees, tree_then, Act, set, set_item, append, take_last, clear, call_alone, if_then, if_else, for_next}
+use Rattle.ts_trees.specs.Tree.{while_do, run_procedure, Acts, no_acts, act_then, Source}
 
 -- a word at place 0
 abbrev pub bare_word : Word → Word

@@ -2,13 +2,13 @@
 use Rattle.std.specs.Prelude.{◌≡◌, ◌≤◌, ℕ, List, [], ◌∷◌, length, Ok}
 use Rattle.mate_num.specs.Lists.{Each}
 use Rattle.mate_num.specs.declared.bounds.TheConstants.{NAME_MAX}
-use Rattle.ts_syntax.specs.declared.token.Token.{Token}
-use Rattle.ts_syntax.specs.declared.token.TokenKind.{TokenKind}
-use Rattle.ts_syntax.specs.declared.token.TokenKind.TheVariants as kind
-use Rattle.ts_syntax.specs.Tree.{Source}
-use Rattle.ts_syntax.specs.Cut.{begins_name, in_name, word_kind, cut}
-use Rattle.ts_syntax.specs.Spelling.{kinds}
-use Rattle.ts_syntax.specs.Faults.{Spells}
+use Rattle.ts_trees.specs.declared.token.Token.{Token}
+use Rattle.ts_trees.specs.declared.token.TokenKind.{TokenKind}
+use Rattle.ts_trees.specs.declared.token.TokenKind.TheVariants as kind
+use Rattle.ts_trees.specs.Tree.{Source}
+use Rattle.ts_trees.specs.Cut.{begins_name, in_name, word_kind, cut}
+use Rattle.ts_trees.specs.Spelling.{kinds}
+use Rattle.ts_trees.specs.Faults.{Spells}
 use Rattle.ts_lexer.specs.Bare.{bare}
 use Rattle.ts_lexer.specs.Spans.{BeginsWith, Passes}
 

@@ -1,7 +1,7 @@
 -- What a scanner has still to answer, and what its steps leave of it.
 use Rattle.std.specs.Prelude.{◌≡◌, ◌<◌, ◌+◌, ℕ, List, [], ◌∷◌, ◌++◌, length, drop, Result, Ok, Err}
-use Rattle.ts_syntax.specs.declared.token.Token.{Token}
-use Rattle.ts_syntax.specs.Cut.{CutFault, between, with_front, cut_from, token_in, all_in}
+use Rattle.ts_trees.specs.declared.token.Token.{Token}
+use Rattle.ts_trees.specs.Cut.{CutFault, between, with_front, cut_from, token_in, all_in}
 use Rattle.ts_lexer.specs.Answers.{HasFault}
 use Rattle.ts_lexer.specs.declared.fault.TokenFault.{TokenFault}
 use Rattle.ts_lexer.specs.declared.scanner.Scanner.{Scanner}

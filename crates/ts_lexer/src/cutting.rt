@@ -2,14 +2,14 @@
 
 ghost use Rattle.std.specs.Prelude.{◌≡◌, ◌≤◌, length};
 ghost use Rattle.mate_files.specs.declared.files.TheConstants.{FILE_MAX};
-ghost use Rattle.ts_syntax.specs.Cut.{cut_in};
+ghost use Rattle.ts_trees.specs.Cut.{cut_in};
 ghost use Rattle.ts_lexer.specs.Answers.{Cuts, CutsIn};
 ghost use Rattle.ts_lexer.specs.Scanner.{BeginsScan};
 
 use crate::fault::TokenFault;
 use crate::scanner::Scanner;
 use std::alloc::Global;
-use ts_syntax::{Dialect, Tokens};
+use ts_trees::{Dialect, Tokens};
 
 /// The tokens of a text, or its first fault. The text has at most 1,048,576 bytes.
 pub fn tokens(alloc: Global, bytes: &[u8]) -> Result<Tokens, TokenFault>

@@ -1,13 +1,13 @@
 //! What is printed of a text's tokens is cut into the same tokens.
 
 ghost use Rattle.std.specs.Prelude.{◌≡◌, ◌++◌, ℕ, List, None, codes};
-ghost use Rattle.ts_syntax.specs.declared.token.TokenKind.{TokenKind};
-ghost use Rattle.ts_syntax.specs.Tree.{Source};
-ghost use Rattle.ts_syntax.specs.Cut.{cut};
-ghost use Rattle.ts_syntax.specs.Depth.{first_deep};
-ghost use Rattle.ts_syntax.specs.Derived.{IsDerived};
-ghost use Rattle.ts_syntax.specs.Spelling.{source_spelled};
-ghost use Rattle.ts_syntax.specs.Text.{text_of};
+ghost use Rattle.ts_trees.specs.declared.token.TokenKind.{TokenKind};
+ghost use Rattle.ts_trees.specs.Tree.{Source};
+ghost use Rattle.ts_trees.specs.Cut.{cut};
+ghost use Rattle.ts_trees.specs.Depth.{first_deep};
+ghost use Rattle.ts_trees.specs.Derived.{IsDerived};
+ghost use Rattle.ts_trees.specs.Spelling.{source_spelled};
+ghost use Rattle.ts_trees.specs.Text.{text_of};
 ghost use Rattle.ts_lexer.specs.Printed.{AreKinds, IsCutInto, IsTextOf, IsTextButPlaces};
 
 /// The law of printed text: tokens of kinds that some text is cut into, written with one space between two, are cut

@@ -10,7 +10,7 @@ use crate::spans::{
 };
 use mate_num::{Items, NAME_MAX};
 use std::alloc::Global;
-use ts_syntax::{Dialect, Token, TokenKind, Tokens};
+use ts_trees::{Dialect, Token, TokenKind, Tokens};
 
 // How many tokens are kept at most if the rest is only tested.
 const KEPT: usize = 256;
@@ -28,8 +28,8 @@ pub struct Scanner<'a> {
 
 impl<'a> Scanner<'a> {
     ghost use Rattle.std.specs.Prelude.{◌≡◌, ◌≤◌, ◌==◌, length, Some, slice_get, take, MatchResult};
-    ghost use Rattle.ts_syntax.specs.Cut.{is_blank, begins_name, is_digit, token, kind_in, cut_in};
-    ghost use Rattle.ts_syntax.specs.declared.token.TokenKind.{TokenKind as Kind};
+    ghost use Rattle.ts_trees.specs.Cut.{is_blank, begins_name, is_digit, token, kind_in, cut_in};
+    ghost use Rattle.ts_trees.specs.declared.token.TokenKind.{TokenKind as Kind};
     ghost use Rattle.ts_lexer.specs.Spans.{BeginsWith, begins_sign};
     ghost use Rattle.ts_lexer.specs.Scanner.{due, TakesBytes, Appends, Moves, Steps, EndsScan, LooksThrough, Forgets};
 

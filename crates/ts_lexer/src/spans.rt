@@ -2,12 +2,12 @@
 
 ghost use Rattle.std.specs.Prelude.{◌≡◌, ◌<◌, ◌≤◌, ◌==◌, not, length, nat_lt, if◌then◌else◌, Some, None};
 ghost use Rattle.std.specs.List.{prefix_len};
-ghost use Rattle.ts_syntax.specs.Cut.{is_blank, begins_name, in_name, is_digit, sign_of, word_kind, kind_in, procedure_kind};
+ghost use Rattle.ts_trees.specs.Cut.{is_blank, begins_name, in_name, is_digit, sign_of, word_kind, kind_in, procedure_kind};
 ghost use Rattle.ts_lexer.specs.Spans.{begins, Passes, digits_value, sign_at};
 ghost use Rattle.mate_num.specs.declared.bounds.TheConstants.{NAME_MAX};
 
 use mate_num::Name;
-use ts_syntax::{Dialect, TokenKind};
+use ts_trees::{Dialect, TokenKind};
 
 /// Whether the byte is a space, a tab, CR or LF.
 pub fn is_blank(byte: u8) -> bool

@@ -1,5 +1,1 @@
-pub mod State
-pub mod Meaning
-pub mod Uses
-pub mod Translation
-pub mod Laws
+pub mod Follows

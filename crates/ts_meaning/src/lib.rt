@@ -1,10 +1,11 @@
-//! What a TinyScript script and its code mean, as definitions, with the law that both mean the same; and what operators give.
+//! The plain evaluator of TinyScript scripts, which gives exactly what a script means.
 #![tactic(auto)]
 
-pub mod laws;
-mod operators;
+mod evaluator;
+mod items;
+pub mod run;
+mod statements;
+mod values;
 
-pub use laws::{
-    code_is_encodable, code_is_verified, code_runs_as_its_script, code_uses_as_its_script,
-};
-pub use operators::apply;
+pub use mate_num::Calls;
+pub use run::{Played, play};

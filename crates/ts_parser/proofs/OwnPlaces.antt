@@ -1,18 +1,18 @@
 -- A tree that is given its own places is the same tree, and so tokens spell one script at most.
 use Rattle.std.proofs.Common.{◌≡◌, ℕ, List, [], ◌∷◌, ◌++◌, Option, Some, None, refl, sym, ◌∙◌, ap, append_assoc, append-nil}
-use Rattle.ts_syntax.specs.declared.word.Word.{Word}
-use Rattle.ts_syntax.specs.declared.stmt.Step.{Step}
-use Rattle.ts_syntax.specs.declared.dialect.Dialect.{Dialect}
-use Rattle.ts_syntax.specs.declared.dialect.Dialect.TheVariants as dialect
-use Rattle.ts_syntax.specs.declared.script.Decl.{Decl}
-use Rattle.ts_syntax.specs.declared.token.Token.{Token}
-use Rattle.ts_syntax.specs.Tree.{Tree, number, variable, item, size, message_item, message_size, call, negative, inverse, two, paren, Trees, no_trees, tree_then, Act, set, set_item, append, take_last, clear, call_alone, if_then, if_else, for_next, while_do, run_procedure, Acts, no_acts, act_then, Source, Procedure, ProcedureSource, without_procedures}
-use Rattle.ts_syntax.specs.Spelling.{places, args_places, step_places, act_places, acts_places, decls_places, params_places, procedure_places, procedures_places, procedure_source_places, acts_spelled, decls_spelled, procedures_spelled, noted}
-use Rattle.ts_syntax.specs.Faults.{Spells, SpellsIn}
-use Rattle.ts_syntax.specs.Machine.{other_places, procedure, read_script, run, start}
-use Rattle.ts_syntax.proofs.Placed.{word_at, left, args_left, step_left, act_left, acts_left, decls_left, params_left, procedure_left, procedures_left, source_left, placed, args_placed, step_placed, act_placed, acts_placed, decl_placed, decls_placed, params_placed, procedure_placed, procedures_placed, source_placed}
-use Rattle.ts_syntax.proofs.CompleteStmt.{source_read}
-use Rattle.ts_syntax.proofs.Exact.{whole, whole_same}
+use Rattle.ts_trees.specs.declared.word.Word.{Word}
+use Rattle.ts_trees.specs.declared.stmt.Step.{Step}
+use Rattle.ts_trees.specs.declared.dialect.Dialect.{Dialect}
+use Rattle.ts_trees.specs.declared.dialect.Dialect.TheVariants as dialect
+use Rattle.ts_trees.specs.declared.script.Decl.{Decl}
+use Rattle.ts_trees.specs.declared.token.Token.{Token}
+use Rattle.ts_trees.specs.Tree.{Tree, number, variable, item, size, message_item, message_size, call, negative, inverse, two, paren, Trees, no_trees, tree_then, Act, set, set_item, append, take_last, clear, call_alone, if_then, if_else, for_next, while_do, run_procedure, Acts, no_acts, act_then, Source, Procedure, ProcedureSource, without_procedures}
+use Rattle.ts_trees.specs.Spelling.{places, args_places, step_places, act_places, acts_places, decls_places, params_places, procedure_places, procedures_places, procedure_source_places, acts_spelled, decls_spelled, procedures_spelled, noted}
+use Rattle.ts_trees.specs.Faults.{Spells, SpellsIn}
+use Rattle.ts_trees.specs.Machine.{other_places, procedure, read_script, run, start}
+use Rattle.ts_trees.proofs.Placed.{word_at, left, args_left, step_left, act_left, acts_left, decls_left, params_left, procedure_left, procedures_left, source_left, placed, args_placed, step_placed, act_placed, acts_placed, decl_placed, decls_placed, params_placed, procedure_placed, procedures_placed, source_placed}
+use Rattle.ts_trees.proofs.CompleteStmt.{source_read}
+use Rattle.ts_trees.proofs.Exact.{whole, whole_same}
 
 -- what a part makes of its own places, and of those behind them
 record Own {T : Type 0} (made : List ℕ → T) (leaves : List ℕ → List ℕ) (its : List ℕ) (t : T) : Type 0 where

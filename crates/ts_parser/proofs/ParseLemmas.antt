@@ -4,20 +4,20 @@ use Rattle.std.specs.Bool.{◌==◌}
 use Rattle.std.proofs.lemmas.Bool.Decides.{eqb_tells}
 use Rattle.std.proofs.lemmas.List.{length-map, nil_from_length}
 use Rattle.std.proofs.Math.Seq.{drop-append_seam, take-append_seam}
-use Rattle.ts_syntax.specs.declared.dialect.Dialect.{Dialect}
-use Rattle.ts_syntax.specs.declared.token.Token.{Token}
-use Rattle.ts_syntax.specs.declared.token.TokenKind.{TokenKind}
-use Rattle.ts_syntax.specs.Tree.{ProcedureSource}
-use Rattle.ts_syntax.specs.Spelling.{note, kinds, noted}
-use Rattle.ts_syntax.specs.Script.{IsScriptIn, BeginsScriptIn}
-use Rattle.ts_syntax.specs.Depth.{first_deep}
-use Rattle.ts_syntax.specs.Faults.{SpellsIn, StopsIn, place_of, IsUnexpectedIn, IsTooDeepIn}
-use Rattle.ts_syntax.specs.Machine.{run, start}
-use Rattle.ts_syntax.specs.Answers.{Refused}
-use Rattle.ts_syntax.specs.Parsing.{noted_then, reads}
+use Rattle.ts_trees.specs.declared.dialect.Dialect.{Dialect}
+use Rattle.ts_trees.specs.declared.token.Token.{Token}
+use Rattle.ts_trees.specs.declared.token.TokenKind.{TokenKind}
+use Rattle.ts_trees.specs.Tree.{ProcedureSource}
+use Rattle.ts_trees.specs.Spelling.{note, kinds, noted}
+use Rattle.ts_trees.specs.Script.{IsScriptIn, BeginsScriptIn}
+use Rattle.ts_trees.specs.Depth.{first_deep}
+use Rattle.ts_trees.specs.Faults.{SpellsIn, StopsIn, place_of, IsUnexpectedIn, IsTooDeepIn}
+use Rattle.ts_trees.specs.Machine.{run, start}
+use Rattle.ts_trees.specs.Answers.{Refused}
+use Rattle.ts_trees.specs.Parsing.{noted_then, reads}
 use Rattle.ts_parser.proofs.DeepLemmas.{none_in_front, none_before, deep_within}
-use Rattle.ts_syntax.proofs.Exact.{refused, script_in}
-use Rattle.ts_syntax.proofs.MachineLemmas.{read_derived, read_places}
+use Rattle.ts_trees.proofs.Exact.{refused, script_in}
+use Rattle.ts_trees.proofs.MachineLemmas.{read_derived, read_places}
 
 pub kinds_append : (xs ys : List Token) → kinds (xs ++ ys) ≡ kinds xs ++ kinds ys
 kinds_append [] ys = refl

@@ -2,17 +2,17 @@
 use Rattle.std.proofs.Common.{◌≡◌, ℕ, Bool, true, false, List, [], ◌∷◌, ◌++◌, length, Result, Ok, Err, refl, sym, ◌∙◌, ap, subst, append_assoc}
 use Rattle.std.specs.Bool.{◌==◌}
 use Rattle.std.proofs.lemmas.Bool.{false≢true, eq-eqb}
-use Rattle.ts_syntax.specs.declared.dialect.Dialect.{Dialect}
-use Rattle.ts_syntax.specs.declared.dialect.Dialect.TheVariants as dialect
-use Rattle.ts_syntax.specs.declared.procedure.ProcScript.{ProcScript}
-use Rattle.ts_syntax.specs.declared.script.Script.{Script}
-use Rattle.ts_syntax.specs.declared.token.Token.{Token}
-use Rattle.ts_syntax.specs.Cut.{CutFault, cut_in}
-use Rattle.ts_syntax.specs.Depth.{first_deep}
-use Rattle.ts_syntax.specs.Faults.{StopsIn, place_of, IsUnexpectedIn, IsTooDeepIn, Spells}
-use Rattle.ts_syntax.specs.Script.{BeginsScriptIn}
-use Rattle.ts_syntax.specs.Seen.{source_seen, procedure_source_of}
-use Rattle.ts_syntax.specs.Spelling.{kinds}
+use Rattle.ts_trees.specs.declared.dialect.Dialect.{Dialect}
+use Rattle.ts_trees.specs.declared.dialect.Dialect.TheVariants as dialect
+use Rattle.ts_trees.specs.declared.procedure.ProcScript.{ProcScript}
+use Rattle.ts_trees.specs.declared.script.Script.{Script}
+use Rattle.ts_trees.specs.declared.token.Token.{Token}
+use Rattle.ts_trees.specs.Cut.{CutFault, cut_in}
+use Rattle.ts_trees.specs.Depth.{first_deep}
+use Rattle.ts_trees.specs.Faults.{StopsIn, place_of, IsUnexpectedIn, IsTooDeepIn, Spells}
+use Rattle.ts_trees.specs.Script.{BeginsScriptIn}
+use Rattle.ts_trees.specs.Seen.{source_seen, procedure_source_of}
+use Rattle.ts_trees.specs.Spelling.{kinds}
 use Rattle.ts_lexer.specs.Answers.{HasFault}
 use Rattle.ts_lexer.specs.Scanner.{due}
 use Rattle.ts_lexer.specs.declared.fault.TokenFault.{TokenFault}

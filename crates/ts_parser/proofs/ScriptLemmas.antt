@@ -1,30 +1,30 @@
 -- Reading declarations, procedures and scripts: which token is taken in each state, and when none fits.
 use Rattle.std.proofs.Common.{◌≡◌, ℕ, Bool, true, false, List, [], ◌∷◌, ◌++◌, Some, None, Ok, Err, refl, sym, ◌∙◌, ap, subst, Result, Bor}
-use Rattle.ts_syntax.specs.declared.word.Word.{Word}
-use Rattle.ts_syntax.specs.declared.dialect.Dialect.{Dialect}
-use Rattle.ts_syntax.specs.declared.dialect.Dialect.TheVariants as dialect
-use Rattle.ts_syntax.specs.declared.stmt.Stmt.{Stmt}
-use Rattle.ts_syntax.specs.declared.script.Decl.{Decl}
-use Rattle.ts_syntax.specs.declared.script.DeclKind.{DeclKind}
-use Rattle.ts_syntax.specs.declared.token.Token.{Token}
-use Rattle.ts_syntax.specs.declared.token.TokenKind.{TokenKind}
-use Rattle.ts_syntax.specs.declared.token.TokenKind.TheVariants as kind
-use Rattle.ts_syntax.specs.Seen.{acts_of, procedure_source_of}
-use Rattle.ts_syntax.specs.Spelling.{kinds}
-use Rattle.ts_syntax.specs.Tree.{Acts, no_acts, Procedure}
-use Rattle.ts_syntax.specs.Parsing.{Holds, noted_then, Gives, reads, Starts, Lacks, Takes, StartsName, LacksName, TakesName, Reads}
-use Rattle.ts_syntax.specs.Code.{kind_code}
-use Rattle.ts_syntax.specs.Machine.{top, State, decls, decl_name, decl_more, declared, block, word, step, step_frame, takes, places_after, first_place, finish, going, run, start, main, proc_part, dialect_of, procedures, proc_word, proc_named, proc_opened, param_read, param_due, read_script, ending, procedure, proc_ended, step_proc}
+use Rattle.ts_trees.specs.declared.word.Word.{Word}
+use Rattle.ts_trees.specs.declared.dialect.Dialect.{Dialect}
+use Rattle.ts_trees.specs.declared.dialect.Dialect.TheVariants as dialect
+use Rattle.ts_trees.specs.declared.stmt.Stmt.{Stmt}
+use Rattle.ts_trees.specs.declared.script.Decl.{Decl}
+use Rattle.ts_trees.specs.declared.script.DeclKind.{DeclKind}
+use Rattle.ts_trees.specs.declared.token.Token.{Token}
+use Rattle.ts_trees.specs.declared.token.TokenKind.{TokenKind}
+use Rattle.ts_trees.specs.declared.token.TokenKind.TheVariants as kind
+use Rattle.ts_trees.specs.Seen.{acts_of, procedure_source_of}
+use Rattle.ts_trees.specs.Spelling.{kinds}
+use Rattle.ts_trees.specs.Tree.{Acts, no_acts, Procedure}
+use Rattle.ts_trees.specs.Parsing.{Holds, noted_then, Gives, reads, Starts, Lacks, Takes, StartsName, LacksName, TakesName, Reads}
+use Rattle.ts_trees.specs.Code.{kind_code}
+use Rattle.ts_trees.specs.Machine.{top, State, decls, decl_name, decl_more, declared, block, word, step, step_frame, takes, places_after, first_place, finish, going, run, start, main, proc_part, dialect_of, procedures, proc_word, proc_named, proc_opened, param_read, param_due, read_script, ending, procedure, proc_ended, step_proc}
 use Rattle.ts_statements.specs.Blocks.{LacksStmt, FrameIn}
 use Rattle.ts_parser.specs.Scripts.{decl_kind, StartsDecl, LacksDecl, Header, params_due, script_frame, FewIn, Routine, ReadsScript}
-use Rattle.ts_syntax.proofs.Missing.{IsOther, lacks_first, lacks_name, only_name, only_open}
-use Rattle.ts_syntax.proofs.Reading.{is_plain, sign_read, name_read, stops, agree}
+use Rattle.ts_trees.proofs.Missing.{IsOther, lacks_first, lacks_name, only_name, only_open}
+use Rattle.ts_trees.proofs.Reading.{is_plain, sign_read, name_read, stops, agree}
 use Rattle.ts_statements.proofs.SimpleLemmas.{sign_stops}
 use Rattle.ts_statements.proofs.OpeningLemmas.{block_stops, ends_block}
 use Rattle.std.specs.Result.{IsErrAnd}
-use Rattle.ts_syntax.specs.declared.procedure.ProcScript.{ProcScript}
-use Rattle.ts_syntax.specs.declared.halt.Halt.{Halt}
-use Rattle.ts_syntax.specs.declared.halt.Halt.TheVariants as halt
+use Rattle.ts_trees.specs.declared.procedure.ProcScript.{ProcScript}
+use Rattle.ts_trees.specs.declared.halt.Halt.{Halt}
+use Rattle.ts_trees.specs.declared.halt.Halt.TheVariants as halt
 use Rattle.ts_statements.proofs.Halting.{passed_on, same_fault}
 
 -- ---- declarations

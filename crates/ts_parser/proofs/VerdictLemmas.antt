@@ -1,25 +1,25 @@
 -- Of tokens one thing is to be said, and one only.
 use Rattle.std.proofs.Common.{◌≡◌, ℕ, ◌<◌, List, [], ◌∷◌, ◌++◌, length, Option, Some, None, Ok, Err, refl, sym, ◌∙◌, ap, subst, append_assoc, append-nil, arith, length-append}
 use Rattle.std.proofs.lemmas.Option.{same_Some}
-use Rattle.ts_syntax.specs.declared.dialect.Dialect.{Dialect}
-use Rattle.ts_syntax.specs.declared.dialect.Dialect.TheVariants as dialect
-use Rattle.ts_syntax.specs.declared.token.Token.{Token}
-use Rattle.ts_syntax.specs.declared.token.TokenKind.{TokenKind}
-use Rattle.ts_syntax.specs.Tree.{ProcedureSource, without_procedures}
-use Rattle.ts_syntax.specs.Spelling.{kinds}
-use Rattle.ts_syntax.specs.Script.{IsScriptIn, BeginsScriptIn}
-use Rattle.ts_syntax.specs.Depth.{first_deep}
-use Rattle.ts_syntax.specs.Faults.{SpellsIn, StopsIn, place_of, IsUnexpectedIn, IsTooDeepIn}
-use Rattle.ts_syntax.specs.Machine.{Outcome, start, run}
-use Rattle.ts_syntax.specs.Parsing.{noted_then, reads}
+use Rattle.ts_trees.specs.declared.dialect.Dialect.{Dialect}
+use Rattle.ts_trees.specs.declared.dialect.Dialect.TheVariants as dialect
+use Rattle.ts_trees.specs.declared.token.Token.{Token}
+use Rattle.ts_trees.specs.declared.token.TokenKind.{TokenKind}
+use Rattle.ts_trees.specs.Tree.{ProcedureSource, without_procedures}
+use Rattle.ts_trees.specs.Spelling.{kinds}
+use Rattle.ts_trees.specs.Script.{IsScriptIn, BeginsScriptIn}
+use Rattle.ts_trees.specs.Depth.{first_deep}
+use Rattle.ts_trees.specs.Faults.{SpellsIn, StopsIn, place_of, IsUnexpectedIn, IsTooDeepIn}
+use Rattle.ts_trees.specs.Machine.{Outcome, start, run}
+use Rattle.ts_trees.specs.Parsing.{noted_then, reads}
 use Rattle.ts_parser.specs.Verdict.{Verdict, VerdictOf, spelled, unexpected, too_deep, IsSo, IsSoIn}
 use Rattle.ts_parser.proofs.AllPlaces.{all_taken}
-use Rattle.ts_syntax.proofs.CompleteStmt.{source_read}
+use Rattle.ts_trees.proofs.CompleteStmt.{source_read}
 use Rattle.ts_parser.proofs.DeepLemmas.{same_in_front, deep_within}
-use Rattle.ts_syntax.proofs.Exact.{whole, left_same, script_in}
-use Rattle.ts_syntax.proofs.MachineLemmas.{read_derived}
+use Rattle.ts_trees.proofs.Exact.{whole, left_same, script_in}
+use Rattle.ts_trees.proofs.MachineLemmas.{read_derived}
 use Rattle.ts_parser.proofs.OwnPlaces.{one_tree_in, spells_without, spells_plain, plain_part}
-use Rattle.ts_syntax.proofs.Placed.{source_placed, source_left}
+use Rattle.ts_trees.proofs.Placed.{source_placed, source_left}
 use Rattle.ts_parser.proofs.ParseLemmas as parse
 use Rattle.ts_parser.proofs.ParseLemmas.{At, at, cut_length}
 

@@ -1,9 +1,9 @@
 -- What the tokens of a source are, as an answer of the parser.
 use Rattle.std.specs.Prelude.{◌≡◌, ℕ, List, Result, Ok, Err}
-use Rattle.ts_syntax.specs.declared.dialect.Dialect.{Dialect}
-use Rattle.ts_syntax.specs.declared.dialect.Dialect.TheVariants as dialect
-use Rattle.ts_syntax.specs.Cut.{cut_in, bad_byte, big_literal}
-use Rattle.ts_syntax.specs.declared.token.Token.{Token}
+use Rattle.ts_trees.specs.declared.dialect.Dialect.{Dialect}
+use Rattle.ts_trees.specs.declared.dialect.Dialect.TheVariants as dialect
+use Rattle.ts_trees.specs.Cut.{cut_in, bad_byte, big_literal}
+use Rattle.ts_trees.specs.declared.token.Token.{Token}
 use Rattle.ts_parser.specs.declared.fault.SourceFault.{SourceFault}
 use Rattle.ts_parser.specs.declared.fault.SourceFault.TheVariants as fault
 use Rattle.ts_lexer.specs.declared.fault.TokenFault.{TokenFault}

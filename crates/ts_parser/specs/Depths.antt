@@ -1,5 +1,5 @@
 -- How the roles of tokens are seen.
-use Rattle.ts_syntax.specs.Depth.{Role as Seen, opener, closer, breaker, counter, bystander}
+use Rattle.ts_trees.specs.Depth.{Role as Seen, opener, closer, breaker, counter, bystander}
 use Rattle.ts_parser.specs.declared.role.Role.{Role}
 use Rattle.ts_parser.specs.declared.role.Role.TheVariants as roles
 

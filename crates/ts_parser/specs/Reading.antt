@@ -1,11 +1,11 @@
 -- What a source is read as: its bytes come before its grammar.
 use Rattle.std.specs.Prelude.{◌≡◌, ◌++◌, ◌==◌, ℕ, Bool, false, List, length, Result, Ok, Err}
-use Rattle.ts_syntax.specs.declared.dialect.Dialect.{Dialect}
-use Rattle.ts_syntax.specs.declared.dialect.Dialect.TheVariants as dialect
-use Rattle.ts_syntax.specs.declared.script.Script.{Script}
-use Rattle.ts_syntax.specs.declared.procedure.ProcScript.{ProcScript}
-use Rattle.ts_syntax.specs.declared.token.Token.{Token}
-use Rattle.ts_syntax.specs.Cut.{cut_in}
+use Rattle.ts_trees.specs.declared.dialect.Dialect.{Dialect}
+use Rattle.ts_trees.specs.declared.dialect.Dialect.TheVariants as dialect
+use Rattle.ts_trees.specs.declared.script.Script.{Script}
+use Rattle.ts_trees.specs.declared.procedure.ProcScript.{ProcScript}
+use Rattle.ts_trees.specs.declared.token.Token.{Token}
+use Rattle.ts_trees.specs.Cut.{cut_in}
 use Rattle.ts_parser.specs.Cutting.{SourceCuts}
 use Rattle.ts_parser.specs.Verdict.{Answers, AnswersIn}
 use Rattle.ts_parser.specs.declared.fault.SourceFault.{SourceFault}

@@ -1,13 +1,13 @@
 -- What a whole parse answers.
 use Rattle.std.specs.Prelude.{ℕ, List, Result, Ok, Err}
-use Rattle.ts_syntax.specs.declared.dialect.Dialect.{Dialect}
-use Rattle.ts_syntax.specs.declared.script.Script.{Script}
-use Rattle.ts_syntax.specs.declared.procedure.ProcScript.{ProcScript}
-use Rattle.ts_syntax.specs.declared.token.Token.{Token}
-use Rattle.ts_syntax.specs.Faults.{Spells, IsUnexpected, IsTooDeep, SpellsIn, IsUnexpectedIn, IsTooDeepIn}
-use Rattle.ts_syntax.specs.Script.{IsScript}
-use Rattle.ts_syntax.specs.Seen.{source_seen, procedure_source_of}
-use Rattle.ts_syntax.specs.Tree.{Source, ProcedureSource}
+use Rattle.ts_trees.specs.declared.dialect.Dialect.{Dialect}
+use Rattle.ts_trees.specs.declared.script.Script.{Script}
+use Rattle.ts_trees.specs.declared.procedure.ProcScript.{ProcScript}
+use Rattle.ts_trees.specs.declared.token.Token.{Token}
+use Rattle.ts_trees.specs.Faults.{Spells, IsUnexpected, IsTooDeep, SpellsIn, IsUnexpectedIn, IsTooDeepIn}
+use Rattle.ts_trees.specs.Script.{IsScript}
+use Rattle.ts_trees.specs.Seen.{source_seen, procedure_source_of}
+use Rattle.ts_trees.specs.Tree.{Source, ProcedureSource}
 use Rattle.ts_parser.specs.declared.fault.SourceFault.{SourceFault}
 use Rattle.ts_parser.specs.declared.fault.SourceFault.TheVariants as fault
 

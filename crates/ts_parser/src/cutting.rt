@@ -7,7 +7,7 @@ ghost use Rattle.ts_parser.specs.Cutting.{CutsScript, SourceCuts, source_fault_o
 use crate::fault::SourceFault;
 use std::alloc::Global;
 use ts_lexer::TokenFault;
-use ts_syntax::{Dialect, Tokens};
+use ts_trees::{Dialect, Tokens};
 
 /// The tokens of a source of at most 1,048,576 bytes: the longest sign is taken, and blanks and comments (from `!` to
 /// the end of its line) are skipped. `BadByte` and `BigLiteral` come exactly if one of them is the first fault in the

@@ -1,15 +1,15 @@
 //! Declarations.
 
 ghost use Rattle.std.specs.Prelude.{◌≡◌, ◌<◌, length, IfOk, [], true};
-ghost use Rattle.ts_syntax.specs.Machine.{decls, decl_name};
-ghost use Rattle.ts_syntax.specs.Parsing.{Gives, reads};
+ghost use Rattle.ts_trees.specs.Machine.{decls, decl_name};
+ghost use Rattle.ts_trees.specs.Parsing.{Gives, reads};
 ghost use Rattle.ts_parser.specs.Scripts.{FindsDecl, LacksDecl, decl_kind};
-ghost use Rattle.ts_syntax.specs.Spelling.{kinds};
-ghost use Rattle.ts_syntax.specs.declared.dialect.Dialect.{Dialect};
+ghost use Rattle.ts_trees.specs.Spelling.{kinds};
+ghost use Rattle.ts_trees.specs.declared.dialect.Dialect.{Dialect};
 
 use std::alloc::Global;
-use ts_syntax::expect::{after, expect, name};
-use ts_syntax::{Decl, DeclKind, Decls, Halt, Token, TokenKind};
+use ts_trees::expect::{after, expect, name};
+use ts_trees::{Decl, DeclKind, Decls, Halt, Token, TokenKind};
 
 fn kind_of(token: &TokenKind) -> Option<DeclKind>
     ensures { result ≡ decl_kind token.now }

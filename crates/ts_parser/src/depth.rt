@@ -2,13 +2,13 @@
 
 ghost use Rattle.std.specs.Prelude.{◌≡◌, ◌≤◌, ◌<◌, false, length, IfSome};
 ghost use Rattle.ts_parser.specs.Depths.{role_seen};
-ghost use Rattle.ts_syntax.specs.Depth.{shallow, is_deep, role_is_deep, blocks_after, counted_after, after, first_deep};
-ghost use Rattle.ts_syntax.specs.Spelling.{kinds};
-ghost use Rattle.ts_syntax.specs.declared.depth.TheConstants.{BLOCKS_MAX, COUNTED_MAX};
+ghost use Rattle.ts_trees.specs.Depth.{shallow, is_deep, role_is_deep, blocks_after, counted_after, after, first_deep};
+ghost use Rattle.ts_trees.specs.Spelling.{kinds};
+ghost use Rattle.ts_trees.specs.declared.depth.TheConstants.{BLOCKS_MAX, COUNTED_MAX};
 
 use crate::role::{Role, ends, role_of};
 use std::marker::Model;
-use ts_syntax::{BLOCKS_MAX, COUNTED_MAX, Token, TokenKind};
+use ts_trees::{BLOCKS_MAX, COUNTED_MAX, Token, TokenKind};
 
 /// The depth before a token. No token before it is too deep.
 #[derive(Drop)]
@@ -23,8 +23,8 @@ struct Depth {
 
 impl Model for Depth {
     ghost use Rattle.std.specs.Prelude.{◌≤◌};
-    ghost use Rattle.ts_syntax.specs.Depth.{Depth as Seen};
-    ghost use Rattle.ts_syntax.specs.declared.depth.TheConstants.{BLOCKS_MAX, COUNTED_MAX};
+    ghost use Rattle.ts_trees.specs.Depth.{Depth as Seen};
+    ghost use Rattle.ts_trees.specs.declared.depth.TheConstants.{BLOCKS_MAX, COUNTED_MAX};
 
     ghost Value = { Seen };
 

@@ -3,10 +3,10 @@
 ghost use Rattle.std.specs.Prelude.{◌≡◌, ◌<◌, ◌≤◌, ◌-◌, length, drop, Some, None, Err};
 ghost use Rattle.ts_parser.specs.Scripts.{ReadsScript};
 ghost use Rattle.ts_parser.specs.Verdict.{Answers, AnswersIn};
-ghost use Rattle.ts_syntax.specs.Depth.{first_deep};
-ghost use Rattle.ts_syntax.specs.Faults.{place_of};
-ghost use Rattle.ts_syntax.specs.Spelling.{kinds};
-ghost use Rattle.ts_syntax.specs.declared.dialect.Dialect.TheVariants.{Procedures};
+ghost use Rattle.ts_trees.specs.Depth.{first_deep};
+ghost use Rattle.ts_trees.specs.Faults.{place_of};
+ghost use Rattle.ts_trees.specs.Spelling.{kinds};
+ghost use Rattle.ts_trees.specs.declared.dialect.Dialect.TheVariants.{Procedures};
 
 use crate::decls::declarations;
 use crate::depth::first_deep;
@@ -14,7 +14,7 @@ use crate::fault::SourceFault;
 use crate::procs::procedures_in;
 use std::alloc::Global;
 use ts_statements::block;
-use ts_syntax::{Dialect, Halt, ProcScript, Script, Token, Tokens};
+use ts_trees::{Dialect, Halt, ProcScript, Script, Token, Tokens};
 
 /// The script that the tokens of a source spell; `len` is the source's length in bytes.
 ///

@@ -1,18 +1,18 @@
 //! Procedures.
 
 ghost use Rattle.std.specs.Prelude.{◌≤◌, ◌<◌, ◌++◌, ◌∷◌, [], List, length, map, IfOk};
-ghost use Rattle.ts_syntax.specs.Machine.{main, block, decls, proc_word, procedures};
-ghost use Rattle.ts_syntax.specs.Parsing.{Reads};
+ghost use Rattle.ts_trees.specs.Machine.{main, block, decls, proc_word, procedures};
+ghost use Rattle.ts_trees.specs.Parsing.{Reads};
 ghost use Rattle.ts_parser.specs.Scripts.{LacksDecl, Header, params_due, header_read, Routine, routine_due, routine_read, script_frame};
 ghost use Rattle.ts_parser.specs.Scripts.{FewIn};
-ghost use Rattle.ts_syntax.specs.Seen.{acts_of, procedure_of};
-ghost use Rattle.ts_syntax.specs.Tree.{Procedure, no_acts};
-ghost use Rattle.ts_syntax.specs.declared.script.Decl.{Decl};
+ghost use Rattle.ts_trees.specs.Seen.{acts_of, procedure_of};
+ghost use Rattle.ts_trees.specs.Tree.{Procedure, no_acts};
+ghost use Rattle.ts_trees.specs.declared.script.Decl.{Decl};
 
 use std::alloc::Global;
 use ts_statements::block;
-use ts_syntax::expect::{after, ended, name};
-use ts_syntax::{Block, Dialect, Halt, Proc, Procs, Token, TokenKind, Words};
+use ts_trees::expect::{after, ended, name};
+use ts_trees::{Block, Dialect, Halt, Proc, Procs, Token, TokenKind, Words};
 
 /// Reads the procedures of a script in a dialect, after its declarations: the procedures, and the tokens from the
 /// first one on that begins none.

@@ -2,8 +2,8 @@
 
 ghost use Rattle.std.specs.Prelude.{◌≡◌, ◌≤◌, length, IfSome};
 ghost use Rattle.mate_files.specs.declared.files.TheConstants.{FILE_MAX};
-ghost use Rattle.ts_syntax.specs.Cut.{cut_in};
-ghost use Rattle.ts_syntax.specs.declared.dialect.Dialect.TheVariants.{Procedures};
+ghost use Rattle.ts_trees.specs.Cut.{cut_in};
+ghost use Rattle.ts_trees.specs.declared.dialect.Dialect.TheVariants.{Procedures};
 ghost use Rattle.ts_lexer.specs.Scanner.{due};
 ghost use Rattle.ts_parser.specs.Reading.{ReadsScript, ReadsIn, Stays, is_at_end};
 
@@ -12,7 +12,7 @@ use crate::fault::SourceFault;
 use crate::parser::parse_in;
 use std::alloc::Global;
 use ts_lexer::{Scanner, first_tokens};
-use ts_syntax::{Dialect, ProcScript, Script};
+use ts_trees::{Dialect, ProcScript, Script};
 
 // How many tokens are parsed first. If they are refused, the rest is only tested for faults, so that a refused source
 // takes little memory.

@@ -2,9 +2,9 @@
 
 ghost use Rattle.std.specs.Prelude.{◌≡◌};
 ghost use Rattle.ts_parser.specs.Depths.{role_seen};
-ghost use Rattle.ts_syntax.specs.Depth.{role, is_end_token};
+ghost use Rattle.ts_trees.specs.Depth.{role, is_end_token};
 
-use ts_syntax::TokenKind;
+use ts_trees::TokenKind;
 
 /// What a token does to the depth.
 #[derive(Clone, Copy)]

@@ -2,10 +2,10 @@
 
 ghost use Rattle.std.specs.Prelude.{◌≡◌, ℕ, List};
 ghost use Rattle.ts_parser.specs.Verdict.{Verdict, VerdictOf, IsSo, IsSoIn};
-ghost use Rattle.ts_syntax.specs.Faults.{Spells, SpellsIn};
-ghost use Rattle.ts_syntax.specs.Tree.{Source, ProcedureSource};
-ghost use Rattle.ts_syntax.specs.declared.dialect.Dialect.{Dialect};
-ghost use Rattle.ts_syntax.specs.declared.token.Token.{Token};
+ghost use Rattle.ts_trees.specs.Faults.{Spells, SpellsIn};
+ghost use Rattle.ts_trees.specs.Tree.{Source, ProcedureSource};
+ghost use Rattle.ts_trees.specs.declared.dialect.Dialect.{Dialect};
+ghost use Rattle.ts_trees.specs.declared.token.Token.{Token};
 
 /// The law of answers: tokens spell one script at most; and of any tokens exactly one thing is so: that they spell
 /// this script, that the first token that doesn't fit is here, or that the first that is too deep is here. The same

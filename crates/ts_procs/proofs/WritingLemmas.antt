@@ -2,18 +2,18 @@
 use Rattle.std.proofs.Common.{◌≡◌, ℕ, suc, ◌+◌, ◌<◌, ◌≤◌, List, [], ◌∷◌, ◌++◌, length, drop, get_or, Option, Some, Result, Ok, Err, ap, sym, ◌∙◌, arith, append_assoc}
 use Rattle.std.specs.Prelude.{IfOk}
 use Rattle.std.proofs.lemmas.List.{append-nil, drop_all}
-use Rattle.ts_syntax.specs.declared.procedure.Proc.{Proc}
-use Rattle.ts_syntax.specs.declared.stmt.Stmt.{Stmt}
-use Rattle.ts_syntax.specs.declared.word.Word.{Word}
-use Rattle.ts_syntax.specs.Seen.{act_of, acts_of, acts}
-use Rattle.ts_syntax.specs.Tree.{Trees, Act}
+use Rattle.ts_trees.specs.declared.procedure.Proc.{Proc}
+use Rattle.ts_trees.specs.declared.stmt.Stmt.{Stmt}
+use Rattle.ts_trees.specs.declared.word.Word.{Word}
+use Rattle.ts_trees.specs.Seen.{act_of, acts_of, acts}
+use Rattle.ts_trees.specs.Tree.{Trees, Act}
 use Rattle.ts_checked.proofs.ListLemmas.{drop_item}
 use Rattle.ts_procs.specs.declared.pending.Pending.{Pending}
-use Rattle.proc_renaming.specs.Renaming.{Hiding, assigned}
-use Rattle.proc_expansion.specs.Expansion.{Callee, callee, first_trees, body_called, expanded_act, expanded_acts}
-use Rattle.proc_expansion.specs.Extent.{acts_depth}
+use Rattle.ts_proc_renaming.specs.Renaming.{Hiding, assigned}
+use Rattle.ts_proc_expansion.specs.Expansion.{Callee, callee, first_trees, body_called, expanded_act, expanded_acts}
+use Rattle.ts_proc_expansion.specs.Extent.{acts_depth}
 use Rattle.ts_procs.specs.Pending.{acts_left, left_on, steps_left, steps_on}
-use Rattle.proc_expansion.proofs.ExtentLemmas.{acts_depth-append}
+use Rattle.ts_proc_expansion.proofs.ExtentLemmas.{acts_depth-append}
 
 -- the statements from one on: what it becomes, and the rest
 pub block_from : (known : List (List ℕ × Callee)) (h : Hiding) (stmts : List Stmt) (i : ℕ) (s : Stmt) → i < length stmts → s ≡ get_or stmts i s

@@ -1,14 +1,14 @@
 -- What is still to be written of an expansion, and in how many steps.
 use Rattle.std.specs.Prelude.{ℕ, suc, ◌+◌, List, [], ◌∷◌, ◌++◌, map, take, Option, Some, None, unwrap_or}
-use Rattle.ts_syntax.specs.declared.procedure.Proc.{Proc}
-use Rattle.ts_syntax.specs.Tree.{Act, set, set_item, append, take_last, clear, call_alone, if_then, if_else, for_next, while_do, run_procedure, Acts, no_acts, act_then, Procedure}
-use Rattle.ts_syntax.specs.Seen.{acts_of, procedure_of}
-use Rattle.proc_names.specs.Places.{declared_as}
+use Rattle.ts_trees.specs.declared.procedure.Proc.{Proc}
+use Rattle.ts_trees.specs.Tree.{Act, set, set_item, append, take_last, clear, call_alone, if_then, if_else, for_next, while_do, run_procedure, Acts, no_acts, act_then, Procedure}
+use Rattle.ts_trees.specs.Seen.{acts_of, procedure_of}
+use Rattle.ts_proc_names.specs.Places.{declared_as}
 use Rattle.ts_procs.specs.declared.pending.Pending.{Pending}
-use Rattle.proc_expansion.specs.InOrder.{declared_in_order}
-use Rattle.proc_expansion.specs.Expansion.{expanded_acts}
-use Rattle.proc_renaming.specs.Hidden.{hiding_of}
-use Rattle.proc_expansion.specs.Plan.{bodies_of}
+use Rattle.ts_proc_expansion.specs.InOrder.{declared_in_order}
+use Rattle.ts_proc_expansion.specs.Expansion.{expanded_acts}
+use Rattle.ts_proc_renaming.specs.Hidden.{hiding_of}
+use Rattle.ts_proc_expansion.specs.Plan.{bodies_of}
 
 -- what pending statements become
 abbrev pub acts_left : List Proc → Pending → List Act

@@ -1,22 +1,22 @@
 //! A `do`: the assignments of its arguments, and the body of its procedure.
 
 ghost use Rattle.std.specs.Prelude.{◌≡◌, ◌≤◌, ◌<◌, ◌+◌, ◌++◌, map, take, IfOk};
-ghost use Rattle.ts_syntax.specs.Seen.{act_of, acts, trees_of};
-ghost use Rattle.ts_syntax.specs.Tree.{run_procedure};
-ghost use Rattle.proc_names.specs.Places.{declared_as};
-ghost use Rattle.proc_expansion.specs.Expansion.{body_called};
-ghost use Rattle.proc_expansion.specs.Extent.{acts_depth};
-ghost use Rattle.proc_renaming.specs.Hidden.{hiding_of};
-ghost use Rattle.proc_expansion.specs.Plan.{bodies_of};
+ghost use Rattle.ts_trees.specs.Seen.{act_of, acts, trees_of};
+ghost use Rattle.ts_trees.specs.Tree.{run_procedure};
+ghost use Rattle.ts_proc_names.specs.Places.{declared_as};
+ghost use Rattle.ts_proc_expansion.specs.Expansion.{body_called};
+ghost use Rattle.ts_proc_expansion.specs.Extent.{acts_depth};
+ghost use Rattle.ts_proc_renaming.specs.Hidden.{hiding_of};
+ghost use Rattle.ts_proc_expansion.specs.Plan.{bodies_of};
 ghost use Rattle.ts_procs.specs.Pending.{left_if, steps_if, steps_of_bodies, act_steps};
 
 use crate::pending::Pending;
 use mate_num::NoMemory;
-use proc_expansion::Plan;
-use proc_renaming::Hidden;
-use proc_renaming::statements::assignments;
 use std::alloc::Global;
-use ts_syntax::{Args, Block, Word};
+use ts_proc_expansion::Plan;
+use ts_proc_renaming::Hidden;
+use ts_proc_renaming::statements::assignments;
+use ts_trees::{Args, Block, Word};
 
 /// Appends the assignments of a `do`, and returns the body of its procedure if it has statements.
 pub fn call<'a>(

@@ -1,24 +1,24 @@
 //! The expansion of a whole script.
 
 ghost use Rattle.std.specs.Prelude.{◌≡◌, ◌≤◌, map, IfOk};
-ghost use Rattle.ts_syntax.specs.Seen.{acts_of, procedure_of, source_seen};
-ghost use Rattle.proc_names.specs.Heads.{parameter_count};
-ghost use Rattle.proc_names.specs.Named.{written_of};
-ghost use Rattle.proc_expansion.specs.declared.limits.TheConstants.{DEPTH_MAX};
-ghost use Rattle.proc_expansion.specs.Answer.{Expands};
-ghost use Rattle.proc_expansion.specs.Expansion.{callees, expansion};
-ghost use Rattle.proc_expansion.specs.Extent.{acts_depth};
-ghost use Rattle.proc_expansion.specs.Live.{BecomesSame};
-ghost use Rattle.proc_expansion.specs.Plan.{bodies_of};
+ghost use Rattle.ts_trees.specs.Seen.{acts_of, procedure_of, source_seen};
+ghost use Rattle.ts_proc_names.specs.Heads.{parameter_count};
+ghost use Rattle.ts_proc_names.specs.Named.{written_of};
+ghost use Rattle.ts_proc_expansion.specs.declared.limits.TheConstants.{DEPTH_MAX};
+ghost use Rattle.ts_proc_expansion.specs.Answer.{Expands};
+ghost use Rattle.ts_proc_expansion.specs.Expansion.{callees, expansion};
+ghost use Rattle.ts_proc_expansion.specs.Extent.{acts_depth};
+ghost use Rattle.ts_proc_expansion.specs.Live.{BecomesSame};
+ghost use Rattle.ts_proc_expansion.specs.Plan.{bodies_of};
 
 use crate::statements::block;
 use mate_num::NoMemory;
-use proc_expansion::{DEPTH_MAX, Plan, shorter, within_limits};
-use proc_names::{PScript, ProcFault};
-use proc_renaming::Hidden;
-use proc_renaming::numbers::declarations;
 use std::alloc::Global;
-use ts_syntax::{Script, Stmt};
+use ts_proc_expansion::{DEPTH_MAX, Plan, shorter, within_limits};
+use ts_proc_names::{PScript, ProcFault};
+use ts_proc_renaming::Hidden;
+use ts_proc_renaming::numbers::declarations;
+use ts_trees::{Script, Stmt};
 
 /// The plain script that a script with procedures expands to. Its parameters are the private variables `_0`, `_1` and
 /// so on, numbered in the order of the procedures and then of their heads, and declared after the script's own names.

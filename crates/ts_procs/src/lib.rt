@@ -8,5 +8,6 @@ pub mod stack;
 mod statements;
 
 pub use expanding::expand;
-pub use proc_names::{PScript, ProcFault};
-pub use proc_texts::{read, reading_law};
+pub use ts_proc_names::{PScript, ProcFault};
+pub use ts_proc_texts::{read, reading_law};
+pub use ts_trees::{PBlock, PStmt, Proc, Words};

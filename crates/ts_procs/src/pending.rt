@@ -1,12 +1,12 @@
 //! What is still to be written of an expansion.
 
 ghost use Rattle.std.specs.Prelude.{◌≡◌, ◌+◌, ◌++◌, [], ⊤, List, take, MatchOption};
-ghost use Rattle.ts_syntax.specs.declared.procedure.Proc.{Proc};
-ghost use Rattle.ts_syntax.specs.Seen.{act_of};
-ghost use Rattle.proc_renaming.specs.Hidden.{hiding_of};
+ghost use Rattle.ts_trees.specs.declared.procedure.Proc.{Proc};
+ghost use Rattle.ts_trees.specs.Seen.{act_of};
+ghost use Rattle.ts_proc_renaming.specs.Hidden.{hiding_of};
 
-use proc_renaming::Hidden;
-use ts_syntax::Stmt;
+use ts_proc_renaming::Hidden;
+use ts_trees::Stmt;
 
 /// Statements that are still to be written, after `count` procedures, and the parameters that hide names in them.
 #[derive(Drop)]
@@ -17,8 +17,8 @@ pub struct Pending<'a> {
 }
 
 impl<'a> Pending<'a> {
-    ghost use Rattle.proc_expansion.specs.Expansion.{expanded_act};
-    ghost use Rattle.proc_expansion.specs.Plan.{bodies_of};
+    ghost use Rattle.ts_proc_expansion.specs.Expansion.{expanded_act};
+    ghost use Rattle.ts_proc_expansion.specs.Plan.{bodies_of};
     ghost use Rattle.ts_procs.specs.Pending.{acts_left, steps_left, steps_of_bodies, act_steps};
 
     /// The first of the statements, and the others; None exactly if there are none.

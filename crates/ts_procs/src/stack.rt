@@ -1,7 +1,7 @@
 //! Bodies that are still to be written.
 
 ghost use Rattle.std.specs.Prelude.{◌≡◌, ◌+◌, ◌++◌, List, OnOk};
-ghost use Rattle.ts_syntax.specs.declared.procedure.Proc.{Proc};
+ghost use Rattle.ts_trees.specs.declared.procedure.Proc.{Proc};
 ghost use Rattle.ts_procs.specs.Pending.{acts_left, left_if, left_on, steps_left, steps_if, steps_on};
 
 use crate::pending::Pending;

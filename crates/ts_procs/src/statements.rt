@@ -1,22 +1,22 @@
 //! Statements, with the body of its procedure in the place of each `do`.
 
 ghost use Rattle.std.specs.Prelude.{◌≡◌, ◌≤◌, ◌<◌, ◌+◌, ◌++◌, map, take, IfOk, OnOk};
-ghost use Rattle.ts_syntax.specs.Seen.{act_of, acts_of, acts};
-ghost use Rattle.proc_expansion.specs.Expansion.{expanded_act, expanded_acts};
-ghost use Rattle.proc_expansion.specs.Extent.{acts_depth};
-ghost use Rattle.proc_renaming.specs.Hidden.{hiding_of};
-ghost use Rattle.proc_expansion.specs.Plan.{bodies_of};
+ghost use Rattle.ts_trees.specs.Seen.{act_of, acts_of, acts};
+ghost use Rattle.ts_proc_expansion.specs.Expansion.{expanded_act, expanded_acts};
+ghost use Rattle.ts_proc_expansion.specs.Extent.{acts_depth};
+ghost use Rattle.ts_proc_renaming.specs.Hidden.{hiding_of};
+ghost use Rattle.ts_proc_expansion.specs.Plan.{bodies_of};
 ghost use Rattle.ts_procs.specs.Pending.{left_if, steps_if, steps_of_bodies, act_steps};
 
 use crate::calls::call;
 use crate::pending::Pending;
 use crate::stack::{push_if, push_next};
 use mate_num::NoMemory;
-use proc_expansion::Plan;
-use proc_renaming::Hidden;
-use proc_renaming::statements::{for_next, if_else, if_then, simple, while_do};
 use std::alloc::Global;
-use ts_syntax::{Block, Stmt};
+use ts_proc_expansion::Plan;
+use ts_proc_renaming::Hidden;
+use ts_proc_renaming::statements::{for_next, if_else, if_then, simple, while_do};
+use ts_trees::{Block, Stmt};
 
 /// The expansion of a block after `count` procedures, whose blocks nest less than `depth` deep.
 #[cycle(block)]

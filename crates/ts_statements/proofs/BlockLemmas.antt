@@ -1,19 +1,19 @@
 -- The blocks inside others: their frames, and what ends them.
 use Rattle.std.proofs.Common.{◌≡◌, List, Option, Some, None, Err, refl, sym, ap, ◌∙◌}
-use Rattle.ts_syntax.specs.declared.dialect.Dialect.{Dialect}
-use Rattle.ts_syntax.specs.declared.stmt.Step.{Step}
-use Rattle.ts_syntax.specs.declared.token.Token.{Token}
-use Rattle.ts_syntax.specs.declared.token.TokenKind.{TokenKind}
-use Rattle.ts_syntax.specs.declared.token.TokenKind.TheVariants as kind
-use Rattle.ts_syntax.specs.declared.word.Word.{Word}
-use Rattle.ts_syntax.specs.Spelling.{kinds}
-use Rattle.ts_syntax.specs.Tree.{Tree, Act, Acts, no_acts, while_do, if_then, if_else, for_next}
-use Rattle.ts_syntax.specs.Code.{kind_code}
-use Rattle.ts_syntax.specs.Machine.{Frame, then_part, else_part, for_part, while_part, State, block, nexted, if_ended, while_ended, with_act, word, step_if, step_while}
-use Rattle.ts_syntax.specs.Parsing.{reads, Starts, Lacks, StartsName, LacksName}
+use Rattle.ts_trees.specs.declared.dialect.Dialect.{Dialect}
+use Rattle.ts_trees.specs.declared.stmt.Step.{Step}
+use Rattle.ts_trees.specs.declared.token.Token.{Token}
+use Rattle.ts_trees.specs.declared.token.TokenKind.{TokenKind}
+use Rattle.ts_trees.specs.declared.token.TokenKind.TheVariants as kind
+use Rattle.ts_trees.specs.declared.word.Word.{Word}
+use Rattle.ts_trees.specs.Spelling.{kinds}
+use Rattle.ts_trees.specs.Tree.{Tree, Act, Acts, no_acts, while_do, if_then, if_else, for_next}
+use Rattle.ts_trees.specs.Code.{kind_code}
+use Rattle.ts_trees.specs.Machine.{Frame, then_part, else_part, for_part, while_part, State, block, nexted, if_ended, while_ended, with_act, word, step_if, step_while}
+use Rattle.ts_trees.specs.Parsing.{reads, Starts, Lacks, StartsName, LacksName}
 use Rattle.ts_statements.specs.Blocks.{FrameIn, LacksStmt, Choice, Branch, Repetition, Count}
-use Rattle.ts_syntax.proofs.Missing.{lacks_name, only_name}
-use Rattle.ts_syntax.proofs.Reading.{sign_read, name_read, stops}
+use Rattle.ts_trees.proofs.Missing.{lacks_name, only_name}
+use Rattle.ts_trees.proofs.Reading.{sign_read, name_read, stops}
 use Rattle.ts_statements.proofs.SimpleLemmas.{sign_stops}
 use Rattle.ts_statements.proofs.OpeningLemmas.{block_stops, while_ends, else_ends, for_ends}
 

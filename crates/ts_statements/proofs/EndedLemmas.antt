@@ -2,18 +2,18 @@
 use Rattle.std.proofs.Common.{◌≡◌, ◌<◌, ◌≤◌, ℕ, length, List, Result, Ok, Err, Bor, refl, sym, ◌∙◌, ap, lt_of_lt_of_le}
 use Rattle.std.specs.Prelude.{IfOk}
 use Rattle.std.specs.Result.{IsErrAnd}
-use Rattle.ts_syntax.specs.declared.stmt.Stmt.{Stmt}
-use Rattle.ts_syntax.specs.declared.token.Token.{Token}
-use Rattle.ts_syntax.specs.declared.token.TokenKind.{TokenKind}
-use Rattle.ts_syntax.specs.declared.token.TokenKind.TheVariants as kind
-use Rattle.ts_syntax.specs.declared.word.Word.{Word}
-use Rattle.ts_syntax.specs.Spelling.{kinds}
-use Rattle.ts_syntax.specs.Tree.{Act, Acts}
-use Rattle.ts_syntax.specs.declared.halt.Halt.{Halt}
-use Rattle.ts_syntax.specs.declared.halt.Halt.TheVariants as halt
-use Rattle.ts_syntax.specs.Machine.{Frame, State, block, closed, with_act}
-use Rattle.ts_syntax.specs.Parsing.{reads, Reads, Starts, Lacks, StartsName, LacksName, TakesName, Ended}
-use Rattle.ts_syntax.proofs.Parts.{halts, starts_shorter}
+use Rattle.ts_trees.specs.declared.stmt.Stmt.{Stmt}
+use Rattle.ts_trees.specs.declared.token.Token.{Token}
+use Rattle.ts_trees.specs.declared.token.TokenKind.{TokenKind}
+use Rattle.ts_trees.specs.declared.token.TokenKind.TheVariants as kind
+use Rattle.ts_trees.specs.declared.word.Word.{Word}
+use Rattle.ts_trees.specs.Spelling.{kinds}
+use Rattle.ts_trees.specs.Tree.{Act, Acts}
+use Rattle.ts_trees.specs.declared.halt.Halt.{Halt}
+use Rattle.ts_trees.specs.declared.halt.Halt.TheVariants as halt
+use Rattle.ts_trees.specs.Machine.{Frame, State, block, closed, with_act}
+use Rattle.ts_trees.specs.Parsing.{reads, Reads, Starts, Lacks, StartsName, LacksName, TakesName, Ended}
+use Rattle.ts_trees.proofs.Parts.{halts, starts_shorter}
 use Rattle.ts_statements.specs.Simple.{ReadsStmt}
 use Rattle.ts_statements.proofs.Halting.{stmt_halts}
 use Rattle.ts_statements.proofs.SimpleLemmas.{closed_read, closed_stops}

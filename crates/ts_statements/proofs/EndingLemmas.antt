@@ -3,20 +3,20 @@ use Rattle.std.proofs.Common.{◌≡◌, ◌≤◌, length, List, Some, Result, 
 use Rattle.std.specs.Result.{IsErrAnd}
 use Rattle.ts_statements.specs.Blocks.{FrameIn, LacksStmt, Branch, branch_due, choice_made, Repetition, repeated_block, repetition_made, Count, counted_block, count_made}
 use Rattle.ts_statements.specs.Ending.{ReadBlock, StartsEnd, LacksEnd, no_end, no_name, TakesEnd, ClosedBlock, LacksNext, no_next, no_last, Counted}
-use Rattle.ts_syntax.specs.declared.halt.Halt.{Halt}
-use Rattle.ts_syntax.specs.declared.halt.Halt.TheVariants as halt
-use Rattle.ts_syntax.specs.Machine.{else_part, State, block, with_act}
-use Rattle.ts_syntax.specs.Parsing.{reads, Reads, Lacks, Starts, Takes, TakesName}
-use Rattle.ts_syntax.proofs.Parts.{halts}
-use Rattle.ts_syntax.specs.declared.dialect.Dialect.{Dialect}
-use Rattle.ts_syntax.specs.declared.stmt.Stmt.{Stmt}
-use Rattle.ts_syntax.specs.declared.token.Token.{Token}
-use Rattle.ts_syntax.specs.declared.token.TokenKind.{TokenKind}
-use Rattle.ts_syntax.specs.declared.token.TokenKind.TheVariants as kind
-use Rattle.ts_syntax.specs.declared.word.Word.{Word}
-use Rattle.ts_syntax.specs.Seen.{acts_of}
-use Rattle.ts_syntax.specs.Spelling.{kinds}
-use Rattle.ts_syntax.specs.Tree.{Acts, no_acts, if_then, if_else}
+use Rattle.ts_trees.specs.declared.halt.Halt.{Halt}
+use Rattle.ts_trees.specs.declared.halt.Halt.TheVariants as halt
+use Rattle.ts_trees.specs.Machine.{else_part, State, block, with_act}
+use Rattle.ts_trees.specs.Parsing.{reads, Reads, Lacks, Starts, Takes, TakesName}
+use Rattle.ts_trees.proofs.Parts.{halts}
+use Rattle.ts_trees.specs.declared.dialect.Dialect.{Dialect}
+use Rattle.ts_trees.specs.declared.stmt.Stmt.{Stmt}
+use Rattle.ts_trees.specs.declared.token.Token.{Token}
+use Rattle.ts_trees.specs.declared.token.TokenKind.{TokenKind}
+use Rattle.ts_trees.specs.declared.token.TokenKind.TheVariants as kind
+use Rattle.ts_trees.specs.declared.word.Word.{Word}
+use Rattle.ts_trees.specs.Seen.{acts_of}
+use Rattle.ts_trees.specs.Spelling.{kinds}
+use Rattle.ts_trees.specs.Tree.{Acts, no_acts, if_then, if_else}
 use Rattle.ts_statements.proofs.BlockLemmas.{else_in, while_in, for_in, while_open, while_end, while_named, while_left, for_open, for_left, for_next_read, else_open, else_end, then_end, if_named, if_left}
 use Rattle.ts_statements.proofs.OpeningLemmas.{branch_stops}
 use Rattle.ts_statements.proofs.DialectLemmas.{no_more, no_more_named}

@@ -1,18 +1,18 @@
 -- A part stops if one of its parts does, or if a token is missing.
 use Rattle.std.proofs.Common.{◌≡◌, List, Result, Ok, Err, Bor, refl, sym, subst}
 use Rattle.std.specs.Result.{IsErrAnd}
-use Rattle.ts_syntax.specs.declared.stmt.Stmt.{Stmt}
-use Rattle.ts_syntax.specs.declared.token.Token.{Token}
-use Rattle.ts_syntax.specs.declared.token.TokenKind.{TokenKind}
-use Rattle.ts_syntax.specs.Seen.{act_of}
-use Rattle.ts_syntax.specs.Spelling.{kinds}
-use Rattle.ts_syntax.specs.Tree.{Acts}
-use Rattle.ts_syntax.specs.declared.halt.Halt.{Halt}
-use Rattle.ts_syntax.specs.declared.halt.Halt.TheVariants as halt
-use Rattle.ts_syntax.specs.Machine.{Frame, State, block, with_act}
-use Rattle.ts_syntax.specs.Parsing.{Gives, reads, Reads, Lacks, Takes, LacksName, TakesName}
+use Rattle.ts_trees.specs.declared.stmt.Stmt.{Stmt}
+use Rattle.ts_trees.specs.declared.token.Token.{Token}
+use Rattle.ts_trees.specs.declared.token.TokenKind.{TokenKind}
+use Rattle.ts_trees.specs.Seen.{act_of}
+use Rattle.ts_trees.specs.Spelling.{kinds}
+use Rattle.ts_trees.specs.Tree.{Acts}
+use Rattle.ts_trees.specs.declared.halt.Halt.{Halt}
+use Rattle.ts_trees.specs.declared.halt.Halt.TheVariants as halt
+use Rattle.ts_trees.specs.Machine.{Frame, State, block, with_act}
+use Rattle.ts_trees.specs.Parsing.{Gives, reads, Reads, Lacks, Takes, LacksName, TakesName}
 use Rattle.ts_statements.specs.Simple.{ReadsStmt}
-use Rattle.ts_syntax.proofs.Parts.{halts, ends_as}
+use Rattle.ts_trees.proofs.Parts.{halts, ends_as}
 
 -- where a fault of one result is that of another
 pub passed_on : {X Y : Type 0} (P : X → Type 0) (Q : List Token → Type 0) (P' : Y → Type 0) (Q' : List Token → Type 0) → ((rest : List Token) → Q rest → Q' rest) → (e : Halt) → Gives {X = X} (Err e) P Q → Gives {X = Y} (Err e) P' Q'

@@ -1,23 +1,23 @@
 -- How a statement begins in a block, and when none does.
 use Rattle.std.proofs.Common.{◌≡◌, ◌<◌, ℕ, length, List, [], ◌∷◌, ◌++◌, map, Some, None, Err, refl, sym, ◌∙◌, ap, subst, arith, Option}
 use Rattle.std.proofs.lemmas.Option.{same_Some}
-use Rattle.ts_syntax.specs.declared.word.Word.{Word}
-use Rattle.ts_syntax.specs.declared.stmt.Step.{Step}
-use Rattle.ts_syntax.specs.declared.dialect.Dialect.{Dialect}
-use Rattle.ts_syntax.specs.declared.dialect.Dialect.TheVariants as dialect
-use Rattle.ts_syntax.specs.declared.stmt.Stmt.{Stmt}
-use Rattle.ts_syntax.specs.declared.token.Token.{Token}
-use Rattle.ts_syntax.specs.declared.token.TokenKind.{TokenKind}
-use Rattle.ts_syntax.specs.declared.token.TokenKind.TheVariants as kind
-use Rattle.ts_syntax.specs.Seen.{act_of, acts, acts_of}
-use Rattle.ts_syntax.specs.Spelling.{kinds, note}
-use Rattle.ts_syntax.specs.Tree.{Tree, Act, Acts, no_acts, act_then}
+use Rattle.ts_trees.specs.declared.word.Word.{Word}
+use Rattle.ts_trees.specs.declared.stmt.Step.{Step}
+use Rattle.ts_trees.specs.declared.dialect.Dialect.{Dialect}
+use Rattle.ts_trees.specs.declared.dialect.Dialect.TheVariants as dialect
+use Rattle.ts_trees.specs.declared.stmt.Stmt.{Stmt}
+use Rattle.ts_trees.specs.declared.token.Token.{Token}
+use Rattle.ts_trees.specs.declared.token.TokenKind.{TokenKind}
+use Rattle.ts_trees.specs.declared.token.TokenKind.TheVariants as kind
+use Rattle.ts_trees.specs.Seen.{act_of, acts, acts_of}
+use Rattle.ts_trees.specs.Spelling.{kinds, note}
+use Rattle.ts_trees.specs.Tree.{Tree, Act, Acts, no_acts, act_then}
 use Rattle.ts_statements.specs.declared.opening.Opening.{Opening}
-use Rattle.ts_syntax.specs.Machine.{Frame, top, then_part, while_part, in_if, in_while, have, block, with_act, step, step_frame, finish, going, run, main, proc_part, else_part, for_part, dialect_of, step_do}
-use Rattle.ts_syntax.specs.Parsing.{noted_then, reads, Starts, Lacks}
+use Rattle.ts_trees.specs.Machine.{Frame, top, then_part, while_part, in_if, in_while, have, block, with_act, step, step_frame, finish, going, run, main, proc_part, else_part, for_part, dialect_of, step_do}
+use Rattle.ts_trees.specs.Parsing.{noted_then, reads, Starts, Lacks}
 use Rattle.ts_statements.specs.Blocks.{opening_of, opened_by, StartsStmt, LacksStmt, do_opening, FrameIn}
-use Rattle.ts_syntax.proofs.Reading.{sign_read, stops, agree}
-use Rattle.ts_syntax.proofs.Missing.{IsOther, lacks_first}
+use Rattle.ts_trees.proofs.Reading.{sign_read, stops, agree}
+use Rattle.ts_trees.proofs.Missing.{IsOther, lacks_first}
 
 -- ---- how a statement begins
 

@@ -1,16 +1,16 @@
 -- Reading a statement that holds no block, and the head of a `for`: which token is taken in each state, and when none fits.
 use Rattle.std.proofs.Common.{◌≡◌, ℕ, List, Some, None, Err, refl, sym, ◌∙◌, ap}
-use Rattle.ts_syntax.specs.declared.word.Word.{Word}
-use Rattle.ts_syntax.specs.declared.token.Token.{Token}
-use Rattle.ts_syntax.specs.declared.token.TokenKind.{TokenKind}
-use Rattle.ts_syntax.specs.declared.token.TokenKind.TheVariants as kind
-use Rattle.ts_syntax.specs.Spelling.{kinds}
-use Rattle.ts_syntax.specs.Tree.{Tree, Act, Acts, set, take_last, clear}
-use Rattle.ts_syntax.specs.Machine.{Frame, in_set, in_index, in_from, in_to, State, have, block, stmt_named, set_to, set_taken, boxed, append_to, item_indexed, call_opened, cleared, clear_opened, clear_named, closed, for_word, for_named, word, with_act, expr_due, step, finish, do_word, do_named, do_opened}
-use Rattle.ts_syntax.specs.Parsing.{reads, Starts, Lacks, StartsName, LacksName}
+use Rattle.ts_trees.specs.declared.word.Word.{Word}
+use Rattle.ts_trees.specs.declared.token.Token.{Token}
+use Rattle.ts_trees.specs.declared.token.TokenKind.{TokenKind}
+use Rattle.ts_trees.specs.declared.token.TokenKind.TheVariants as kind
+use Rattle.ts_trees.specs.Spelling.{kinds}
+use Rattle.ts_trees.specs.Tree.{Tree, Act, Acts, set, take_last, clear}
+use Rattle.ts_trees.specs.Machine.{Frame, in_set, in_index, in_from, in_to, State, have, block, stmt_named, set_to, set_taken, boxed, append_to, item_indexed, call_opened, cleared, clear_opened, clear_named, closed, for_word, for_named, word, with_act, expr_due, step, finish, do_word, do_named, do_opened}
+use Rattle.ts_trees.specs.Parsing.{reads, Starts, Lacks, StartsName, LacksName}
 use Rattle.ts_statements.specs.Simple.{Target, of_append, of_item, value_due, value_in, value_set}
-use Rattle.ts_syntax.proofs.Missing.{IsOther, lacks_first, lacks_name, only_close, only_eq, only_name, only_open, only_semi}
-use Rattle.ts_syntax.proofs.Reading.{sign_read, name_read, stops, agree}
+use Rattle.ts_trees.proofs.Missing.{IsOther, lacks_first, lacks_name, only_close, only_eq, only_name, only_open, only_semi}
+use Rattle.ts_trees.proofs.Reading.{sign_read, name_read, stops, agree}
 
 -- ---- one token that a state takes, and others
 

@@ -5,15 +5,15 @@ use Rattle.ts_statements.specs.Blocks.{FrameIn, ReadsStmtIn}
 use Rattle.ts_statements.specs.Simple.{ReadsStmt}
 use Rattle.ts_statements.specs.Taking.{Appended, ReadsOnto}
 use Rattle.ts_statements.proofs.OpeningLemmas.{acts_of_push}
-use Rattle.ts_syntax.specs.declared.dialect.Dialect.{Dialect}
-use Rattle.ts_syntax.specs.declared.halt.Halt.{Halt}
-use Rattle.ts_syntax.specs.declared.halt.Halt.TheVariants as halt
-use Rattle.ts_syntax.specs.declared.stmt.Stmt.{Stmt}
-use Rattle.ts_syntax.specs.declared.token.Token.{Token}
-use Rattle.ts_syntax.specs.Machine.{Frame, State, block, with_act}
-use Rattle.ts_syntax.specs.Parsing.{reads, Reads}
-use Rattle.ts_syntax.specs.Seen.{act_of, acts_of}
-use Rattle.ts_syntax.specs.Tree.{Acts, no_acts}
+use Rattle.ts_trees.specs.declared.dialect.Dialect.{Dialect}
+use Rattle.ts_trees.specs.declared.halt.Halt.{Halt}
+use Rattle.ts_trees.specs.declared.halt.Halt.TheVariants as halt
+use Rattle.ts_trees.specs.declared.stmt.Stmt.{Stmt}
+use Rattle.ts_trees.specs.declared.token.Token.{Token}
+use Rattle.ts_trees.specs.Machine.{Frame, State, block, with_act}
+use Rattle.ts_trees.specs.Parsing.{reads, Reads}
+use Rattle.ts_trees.specs.Seen.{act_of, acts_of}
+use Rattle.ts_trees.specs.Tree.{Acts, no_acts}
 
 -- a part stops, and so does the statement
 stopped : {X K L : Type 0} (frame : L → Frame) (ts rest : List Token) (due : K → State) (got : X → K → State) (due' : Acts → Frame → State) (old new : List Stmt) (to : L → K)

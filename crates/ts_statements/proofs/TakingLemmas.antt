@@ -1,18 +1,18 @@
 -- After `x =`: a buffer's name and `[]`, whose last value is taken, or an expression, which may begin alike.
 use Rattle.std.proofs.Common.{◌≡◌, ℕ, List, Some, None, Result, Ok, Err, Bor, refl, sym, ◌∙◌, ap}
 use Rattle.std.specs.Result.{IsErrAnd, result_ok}
-use Rattle.ts_syntax.specs.declared.word.Word.{Word}
-use Rattle.ts_syntax.specs.declared.token.Token.{Token}
-use Rattle.ts_syntax.specs.declared.token.TokenKind.{TokenKind}
-use Rattle.ts_syntax.specs.declared.token.TokenKind.TheVariants as kind
-use Rattle.ts_syntax.specs.Tree.{Acts}
-use Rattle.ts_syntax.specs.declared.halt.Halt.{Halt}
-use Rattle.ts_syntax.specs.declared.halt.Halt.TheVariants as halt
-use Rattle.ts_syntax.specs.Machine.{Frame, in_item, in_set, named, set_to, set_named, set_boxed, set_taken, word, due, inverse_due, expr_due, step}
-use Rattle.ts_syntax.specs.Parsing.{reads, Starts, Lacks, StartsName, LacksName, TakesName, Ended}
+use Rattle.ts_trees.specs.declared.word.Word.{Word}
+use Rattle.ts_trees.specs.declared.token.Token.{Token}
+use Rattle.ts_trees.specs.declared.token.TokenKind.{TokenKind}
+use Rattle.ts_trees.specs.declared.token.TokenKind.TheVariants as kind
+use Rattle.ts_trees.specs.Tree.{Acts}
+use Rattle.ts_trees.specs.declared.halt.Halt.{Halt}
+use Rattle.ts_trees.specs.declared.halt.Halt.TheVariants as halt
+use Rattle.ts_trees.specs.Machine.{Frame, in_item, in_set, named, set_to, set_named, set_boxed, set_taken, word, due, inverse_due, expr_due, step}
+use Rattle.ts_trees.specs.Parsing.{reads, Starts, Lacks, StartsName, LacksName, TakesName, Ended}
 use Rattle.ts_statements.specs.Simple.{FindsTaken}
-use Rattle.ts_syntax.proofs.Reading.{sign_read, name_read, agree}
-use Rattle.ts_syntax.proofs.Missing.{IsOther, lacks_first, lacks_name}
+use Rattle.ts_trees.proofs.Reading.{sign_read, name_read, agree}
+use Rattle.ts_trees.proofs.Missing.{IsOther, lacks_first, lacks_name}
 
 -- the name
 set_names : {v : Word} {ts us : List Token} → StartsName v ts us → (w : Word) (a : Acts) (f : Frame) → reads ts (set_to w a f) ≡ reads us (set_named w v a f)

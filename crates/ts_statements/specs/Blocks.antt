@@ -1,20 +1,20 @@
 -- What statements and blocks read, in a dialect.
 use Rattle.std.specs.Prelude.{◌≡◌, List, [], ◌∷◌, Option, Some, None, Result}
 use Rattle.std.proofs.Common.{Bor}
-use Rattle.ts_syntax.specs.declared.word.Word.{Word}
-use Rattle.ts_syntax.specs.declared.stmt.Step.{Step}
-use Rattle.ts_syntax.specs.declared.stmt.Stmt.{Stmt}
-use Rattle.ts_syntax.specs.declared.dialect.Dialect.{Dialect}
-use Rattle.ts_syntax.specs.declared.dialect.Dialect.TheVariants as dialect
-use Rattle.ts_syntax.specs.declared.token.Token.{Token}
-use Rattle.ts_syntax.specs.declared.token.TokenKind.{TokenKind}
-use Rattle.ts_syntax.specs.declared.token.TokenKind.TheVariants as kind
-use Rattle.ts_syntax.specs.Seen.{acts_of}
-use Rattle.ts_syntax.specs.Tree.{Tree, Act, if_then, if_else, for_next, while_do, Acts, no_acts}
-use Rattle.ts_syntax.specs.declared.halt.Halt.{Halt}
+use Rattle.ts_trees.specs.declared.word.Word.{Word}
+use Rattle.ts_trees.specs.declared.stmt.Step.{Step}
+use Rattle.ts_trees.specs.declared.stmt.Stmt.{Stmt}
+use Rattle.ts_trees.specs.declared.dialect.Dialect.{Dialect}
+use Rattle.ts_trees.specs.declared.dialect.Dialect.TheVariants as dialect
+use Rattle.ts_trees.specs.declared.token.Token.{Token}
+use Rattle.ts_trees.specs.declared.token.TokenKind.{TokenKind}
+use Rattle.ts_trees.specs.declared.token.TokenKind.TheVariants as kind
+use Rattle.ts_trees.specs.Seen.{acts_of}
+use Rattle.ts_trees.specs.Tree.{Tree, Act, if_then, if_else, for_next, while_do, Acts, no_acts}
+use Rattle.ts_trees.specs.declared.halt.Halt.{Halt}
 use Rattle.ts_statements.specs.declared.opening.Opening.{Opening}
 use Rattle.ts_statements.specs.declared.opening.Opening.TheVariants as opening
-use Rattle.ts_syntax.specs.Machine.{Frame, dialect_of, then_part, for_part, while_part, in_if, in_while, State, block, stmt_named, cleared, for_word, do_word, word, expr_due, with_act}
+use Rattle.ts_trees.specs.Machine.{Frame, dialect_of, then_part, for_part, while_part, in_if, in_while, State, block, stmt_named, cleared, for_word, do_word, word, expr_due, with_act}
 use Rattle.ts_statements.specs.Taking.{ReadsOnto}
 
 -- the opening by `do`, if a dialect has one

@@ -2,14 +2,14 @@
 use Rattle.std.specs.Prelude.{◌≡◌, List, Result, Ok, Err}
 use Rattle.std.proofs.Common.{Bor}
 use Rattle.std.specs.Result.{IsErrAnd}
-use Rattle.ts_syntax.specs.declared.halt.Halt.{Halt}
-use Rattle.ts_syntax.specs.declared.halt.Halt.TheVariants as halt
-use Rattle.ts_syntax.specs.Parsing.{Starts, Lacks, StartsName, LacksName}
-use Rattle.ts_syntax.specs.declared.stmt.Stmt.{Stmt}
-use Rattle.ts_syntax.specs.declared.token.Token.{Token}
-use Rattle.ts_syntax.specs.declared.token.TokenKind.{TokenKind}
-use Rattle.ts_syntax.specs.declared.token.TokenKind.TheVariants as kind
-use Rattle.ts_syntax.specs.declared.word.Word.{Word}
+use Rattle.ts_trees.specs.declared.halt.Halt.{Halt}
+use Rattle.ts_trees.specs.declared.halt.Halt.TheVariants as halt
+use Rattle.ts_trees.specs.Parsing.{Starts, Lacks, StartsName, LacksName}
+use Rattle.ts_trees.specs.declared.stmt.Stmt.{Stmt}
+use Rattle.ts_trees.specs.declared.token.Token.{Token}
+use Rattle.ts_trees.specs.declared.token.TokenKind.{TokenKind}
+use Rattle.ts_trees.specs.declared.token.TokenKind.TheVariants as kind
+use Rattle.ts_trees.specs.declared.word.Word.{Word}
 
 abbrev pub ReadBlock : Type 0
 ReadBlock = Result (List Stmt × Bor (List Token)) Halt

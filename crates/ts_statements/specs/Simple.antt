@@ -1,18 +1,18 @@
 -- What the statements that hold no block read, and the head of a `for`.
 use Rattle.std.specs.Prelude.{◌≡◌, ℕ, Bool, true, false, List, [], ◌∷◌, Option, Some, None, Result, Ok, Err}
 use Rattle.std.proofs.Common.{Bor}
-use Rattle.ts_syntax.specs.declared.word.Word.{Word}
-use Rattle.ts_syntax.specs.declared.stmt.ForHead.{ForHead}
-use Rattle.ts_syntax.specs.declared.stmt.Step.{Step}
-use Rattle.ts_syntax.specs.declared.stmt.Stmt.{Stmt}
-use Rattle.ts_syntax.specs.declared.token.Token.{Token}
-use Rattle.ts_syntax.specs.declared.token.TokenKind.TheVariants as kind
-use Rattle.ts_syntax.specs.Seen.{tree_of, act_of}
-use Rattle.ts_syntax.specs.Tree.{Tree, append, set_item, Acts, no_acts}
-use Rattle.ts_syntax.specs.declared.halt.Halt.{Halt}
-use Rattle.ts_syntax.specs.declared.halt.Halt.TheVariants as halt
-use Rattle.ts_syntax.specs.Machine.{Frame, for_part, Whole, in_set, in_set_item, in_append, in_to, State, have, block, set_to, set_taken, append_to, item_indexed, expr_due, with_act}
-use Rattle.ts_syntax.specs.Parsing.{Reads, reads, Starts, Lacks}
+use Rattle.ts_trees.specs.declared.word.Word.{Word}
+use Rattle.ts_trees.specs.declared.stmt.ForHead.{ForHead}
+use Rattle.ts_trees.specs.declared.stmt.Step.{Step}
+use Rattle.ts_trees.specs.declared.stmt.Stmt.{Stmt}
+use Rattle.ts_trees.specs.declared.token.Token.{Token}
+use Rattle.ts_trees.specs.declared.token.TokenKind.TheVariants as kind
+use Rattle.ts_trees.specs.Seen.{tree_of, act_of}
+use Rattle.ts_trees.specs.Tree.{Tree, append, set_item, Acts, no_acts}
+use Rattle.ts_trees.specs.declared.halt.Halt.{Halt}
+use Rattle.ts_trees.specs.declared.halt.Halt.TheVariants as halt
+use Rattle.ts_trees.specs.Machine.{Frame, for_part, Whole, in_set, in_set_item, in_append, in_to, State, have, block, set_to, set_taken, append_to, item_indexed, expr_due, with_act}
+use Rattle.ts_trees.specs.Parsing.{Reads, reads, Starts, Lacks}
 
 -- a statement is read from where it is due, after others of an open block
 abbrev pub ReadsStmt : List Token → (Acts → Frame → State) → Result (Stmt × Bor (List Token)) Halt → Type 0

@@ -2,15 +2,15 @@
 use Rattle.std.specs.Prelude.{◌≡◌, List, [], ◌∷◌, ◌++◌, Result, Ok, Err}
 use Rattle.std.proofs.Common.{Bor}
 use Rattle.std.specs.Result.{IsErrAnd}
-use Rattle.ts_syntax.specs.declared.halt.Halt.{Halt}
-use Rattle.ts_syntax.specs.declared.halt.Halt.TheVariants as halt
-use Rattle.ts_syntax.specs.declared.stmt.Stmt.{Stmt}
-use Rattle.ts_syntax.specs.declared.token.Token.{Token}
-use Rattle.ts_syntax.specs.Machine.{Frame, State, block}
-use Rattle.ts_syntax.specs.Parsing.{reads}
-use Rattle.ts_syntax.specs.Seen.{acts_of}
-use Rattle.ts_syntax.specs.Spelling.{kinds}
-use Rattle.ts_syntax.specs.Tree.{Acts}
+use Rattle.ts_trees.specs.declared.halt.Halt.{Halt}
+use Rattle.ts_trees.specs.declared.halt.Halt.TheVariants as halt
+use Rattle.ts_trees.specs.declared.stmt.Stmt.{Stmt}
+use Rattle.ts_trees.specs.declared.token.Token.{Token}
+use Rattle.ts_trees.specs.Machine.{Frame, State, block}
+use Rattle.ts_trees.specs.Parsing.{reads}
+use Rattle.ts_trees.specs.Seen.{acts_of}
+use Rattle.ts_trees.specs.Spelling.{kinds}
+use Rattle.ts_trees.specs.Tree.{Acts}
 
 -- the statement of a part behind others, if there was memory for it
 abbrev pub Appended : {X : Type 0} → (X → Stmt) → List Stmt → List Stmt → Result (X × Bor (List Token)) Halt → Result (Bor (List Token)) Halt → Type 0

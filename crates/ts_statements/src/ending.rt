@@ -2,8 +2,8 @@
 
 ghost use Rattle.ts_statements.specs.Ending.{TakesEnd, ClosedBlock, Counted};
 
-use ts_syntax::expect::{expect, name};
-use ts_syntax::{Block, Halt, Token, TokenKind, Word};
+use ts_trees::expect::{expect, name};
+use ts_trees::{Block, Halt, Token, TokenKind, Word};
 
 /// A block as it was read, and the tokens after it.
 pub type ReadBlock<'a> = Result<(Block, &'a [Token]), Halt<'a>>;

@@ -1,17 +1,17 @@
 //! The head of a `for`.
 
 ghost use Rattle.std.specs.Prelude.{◌≤◌, ◌<◌, length, IfOk};
-ghost use Rattle.ts_syntax.specs.Machine.{Frame, for_word};
-ghost use Rattle.ts_syntax.specs.Parsing.{Reads, Lacks};
+ghost use Rattle.ts_trees.specs.Machine.{Frame, for_word};
+ghost use Rattle.ts_trees.specs.Parsing.{Reads, Lacks};
 ghost use Rattle.ts_statements.specs.Simple.{Bound, limit_due, limit_read, limited, head_read, Limit, FindsMinus, TakesNumber};
-ghost use Rattle.ts_syntax.specs.Seen.{tree_of};
-ghost use Rattle.ts_syntax.specs.Tree.{Acts};
-ghost use Rattle.ts_syntax.specs.declared.token.TokenKind.TheVariants as kind;
+ghost use Rattle.ts_trees.specs.Seen.{tree_of};
+ghost use Rattle.ts_trees.specs.Tree.{Acts};
+ghost use Rattle.ts_trees.specs.declared.token.TokenKind.TheVariants as kind;
 
 use std::alloc::Global;
 use ts_expressions::expr;
-use ts_syntax::expect::{after, ended, name};
-use ts_syntax::{Expr, ForHead, Halt, Step, Token, TokenKind};
+use ts_trees::expect::{after, ended, name};
+use ts_trees::{Expr, ForHead, Halt, Step, Token, TokenKind};
 
 /// Reads the head of a `for` after that keyword.
 #[inline(never)]

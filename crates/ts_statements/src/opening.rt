@@ -3,7 +3,7 @@
 ghost use Rattle.std.specs.Prelude.{◌≡◌};
 ghost use Rattle.ts_statements.specs.Blocks.{FindsStmt, opening_of, do_opening};
 
-use ts_syntax::{Dialect, Token, TokenKind, Word};
+use ts_trees::{Dialect, Token, TokenKind, Word};
 
 /// The first token of a statement.
 #[derive(Drop)]

@@ -1,15 +1,15 @@
 //! Statements that hold no block.
 
 ghost use Rattle.std.specs.Prelude.{◌<◌, length, IfOk, IfSome};
-ghost use Rattle.ts_syntax.specs.Machine.{stmt_named, set_to, boxed, cleared, do_word};
-ghost use Rattle.ts_syntax.specs.Parsing.{Reads};
+ghost use Rattle.ts_trees.specs.Machine.{stmt_named, set_to, boxed, cleared, do_word};
+ghost use Rattle.ts_trees.specs.Parsing.{Reads};
 ghost use Rattle.ts_statements.specs.Simple.{ReadsStmt, FindsTaken, Target, value_due, value_set};
-ghost use Rattle.ts_syntax.specs.Seen.{tree_of};
+ghost use Rattle.ts_trees.specs.Seen.{tree_of};
 
 use std::alloc::Global;
 use ts_expressions::{arguments, expr};
-use ts_syntax::expect::{after, ended, expect, name};
-use ts_syntax::{Expr, Halt, Stmt, Token, TokenKind, Word};
+use ts_trees::expect::{after, ended, expect, name};
+use ts_trees::{Expr, Halt, Stmt, Token, TokenKind, Word};
 
 /// Reads on after the first name of a statement.
 pub fn behind_name<'a>(

@@ -1,11 +1,11 @@
 //! Statements and blocks, by recursive descent: loops for lists, recursion for nested blocks.
 
 ghost use Rattle.std.specs.Prelude.{◌≤◌, ◌<◌, length, IfOk};
-ghost use Rattle.ts_syntax.specs.Machine.{block, for_word, expr_due, in_if, in_while};
-ghost use Rattle.ts_syntax.specs.Parsing.{Reads};
+ghost use Rattle.ts_trees.specs.Machine.{block, for_word, expr_due, in_if, in_while};
+ghost use Rattle.ts_trees.specs.Parsing.{Reads};
 ghost use Rattle.ts_statements.specs.Blocks.{ReadsStmtIn, FrameIn, LacksStmt, opened_by, choice_made, Branch, branch_due};
-ghost use Rattle.ts_syntax.specs.Seen.{acts_of};
-ghost use Rattle.ts_syntax.specs.Tree.{no_acts};
+ghost use Rattle.ts_trees.specs.Seen.{acts_of};
+ghost use Rattle.ts_trees.specs.Tree.{no_acts};
 
 use crate::ending::{closed_block, counted, end_of};
 use crate::for_head;
@@ -17,8 +17,8 @@ use crate::taken::{
 use std::alloc::Global;
 use ts_expressions::disjunction;
 use ts_expressions::found::discard as discard_test;
-use ts_syntax::expect::{after, expect};
-use ts_syntax::{Block, Dialect, Halt, Token, TokenKind};
+use ts_trees::expect::{after, expect};
+use ts_trees::{Block, Dialect, Halt, Token, TokenKind};
 
 /// Reads statements up to the first token that begins none: the statements, and the tokens from that one on.
 #[cycle(stmt)]

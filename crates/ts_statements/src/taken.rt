@@ -4,13 +4,13 @@
 
 ghost use Rattle.std.specs.Prelude.{◌≡◌, ◌<◌, length, IfOk};
 ghost use Rattle.ts_statements.specs.Taking.{Appended, ReadsOnto};
-ghost use Rattle.ts_syntax.specs.declared.stmt.Stmt.TheVariants as does;
-ghost use Rattle.ts_syntax.specs.Machine.{Frame, stmt_named, cleared, do_word};
+ghost use Rattle.ts_trees.specs.declared.stmt.Stmt.TheVariants as does;
+ghost use Rattle.ts_trees.specs.Machine.{Frame, stmt_named, cleared, do_word};
 
 use crate::ending::ReadBlock;
 use crate::{behind_name, clearing, running};
 use std::alloc::Global;
-use ts_syntax::{Block, Expr, ForHead, Halt, Stmt, Token, Word};
+use ts_trees::{Block, Expr, ForHead, Halt, Stmt, Token, Word};
 
 /// The tokens after what was read.
 pub type Left<'a> = Result<&'a [Token], Halt<'a>>;

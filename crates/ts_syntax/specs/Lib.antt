@@ -1,14 +1,3 @@
-pub mod Cut
-pub mod Depth
-pub mod Derived
-pub mod Faults
-pub mod Grammar
-pub mod Script
-pub mod Seen
-pub mod Spelling
-pub mod Text
-pub mod Tree
-pub mod Answers
-pub mod Code
-pub mod Machine
-pub mod Parsing
+pub mod Naming
+pub mod Line
+pub mod Print

@@ -1,29 +1,13 @@
-//! TinyScript's syntax: tokens, trees, the grammar that both follow, and the machine that reads tokens by it.
+//! The trees of TinyScript, and their printer: how the tree of a script is written.
 #![tactic(auto)]
 
-pub mod code;
-pub mod depth;
-pub mod dialect;
-pub mod expect;
-pub mod expr;
-pub mod grammar;
-pub mod halt;
-pub mod machine;
-pub mod procedure;
-pub mod script;
-pub mod stmt;
-pub mod token;
-pub mod word;
+pub mod naming;
+pub mod printer;
 
-pub use depth::{BLOCKS_MAX, COUNTED_MAX};
-pub use dialect::Dialect;
-pub use expr::{Args, Expr};
-pub use grammar::grammar_law;
-pub use halt::Halt;
-pub use machine::machine_law;
-pub use procedure::{PBlock, PStmt, Proc, ProcScript, Procs, Words};
-pub use script::{Decl, DeclKind, Decls, Script};
-pub use stmt::{Block, ForHead, Step, Stmt};
-pub use token::{Token, TokenKind, Tokens};
-pub use ts_checked::{BinOp, CArgs, CBlock, CExpr, CForHead, CStmt, CVar, Checked};
-pub use word::Word;
+pub use naming::{AsWritten, Naming};
+pub use printer::{Printer, print};
+pub use ts_trees::{
+    Args, BLOCKS_MAX, BinOp, Block, CArgs, CBlock, CExpr, CForHead, COUNTED_MAX, CStmt, CVar,
+    Checked, Decl, DeclKind, Decls, Dialect, Expr, ForHead, Halt, PBlock, PStmt, Proc, ProcScript,
+    Procs, Script, Step, Stmt, Token, TokenKind, Tokens, Word, Words, grammar_law, machine_law,
+};

@@ -2,15 +2,17 @@
 
 use crate::request::{Request, Rows, View};
 use crate::stop::Stop;
+use command_programs::world_of;
+use command_steps::machine_of;
 use mate_files::{Files, Sink};
-use mate_steps::machine_of;
-use script_programs::world_of;
 use std::alloc::Global;
 use std::io::Read;
-use view_pictures::{Window, draw_spread, draw_timeline};
-use view_records::{Ink, Source};
-use view_tables::{Form, write_calls, write_events, write_spread, write_stats};
-use vm_desc::Description;
+use view_pictures::{draw_spread, draw_store, draw_timeline};
+use view_records::{Ink, Source, Window};
+use view_tables::{
+    Form, write_calls, write_events, write_spread, write_stats, write_store_changes, write_waits,
+};
+use vm_shape::Description;
 
 /// Makes a view of the report that `reader` gives. Files are read first, then the report. Rows are written as they
 /// are read; everything else once the report is read whole, so that nothing is written for a report with a bad line.
@@ -30,8 +32,9 @@ where
         View::Spread { world, window } => {
             spread(alloc, &desc, world, &window, files, reader, ink)
         }
-        View::Csv { rows, form } => csv(alloc, &desc, rows, form, reader, ink),
-        View::Stats { json } => stats(alloc, &desc, json, reader, ink),
+        View::Rows { rows, form } => table(alloc, &desc, rows, form, reader, ink),
+        View::Chart(window) => chart(alloc, &desc, &window, reader, ink),
+        View::Stats { json, window } => stats(alloc, &desc, json, &window, reader, ink),
     }
 }
 
@@ -44,6 +47,18 @@ fn timeline<R: Read + Drop, S: Sink>(
 ) -> Result<(), Stop> {
     let mut source = Source::new(alloc, reader);
     draw_timeline(alloc, desc, window, &mut source, ink)?;
+    Ok(())
+}
+
+fn chart<R: Read + Drop, S: Sink>(
+    alloc: Global,
+    desc: &Description,
+    window: &Window,
+    reader: R,
+    ink: &mut Ink<S>,
+) -> Result<(), Stop> {
+    let mut source = Source::new(alloc, reader);
+    draw_store(alloc, desc, window, &mut source, ink)?;
     Ok(())
 }
 
@@ -65,7 +80,7 @@ fn spread<F: Files, R: Read + Drop, S: Sink>(
     Ok(())
 }
 
-fn csv<R: Read + Drop, S: Sink>(
+fn table<R: Read + Drop, S: Sink>(
     alloc: Global,
     desc: &Description,
     rows: Rows,
@@ -78,6 +93,8 @@ fn csv<R: Read + Drop, S: Sink>(
         Rows::Events => write_events(alloc, desc, form, &mut source, ink)?,
         Rows::Spread => write_spread(alloc, desc, form, &mut source, ink)?,
         Rows::Calls => write_calls(alloc, desc, form, &mut source, ink)?,
+        Rows::Waits => write_waits(alloc, desc, form, &mut source, ink)?,
+        Rows::Store => write_store_changes(alloc, desc, form, &mut source, ink)?,
     }
     Ok(())
 }
@@ -86,10 +103,11 @@ fn stats<R: Read + Drop, S: Sink>(
     alloc: Global,
     desc: &Description,
     json: bool,
+    window: &Window,
     reader: R,
     ink: &mut Ink<S>,
 ) -> Result<(), Stop> {
     let mut source = Source::new(alloc, reader);
-    write_stats(alloc, desc, json, &mut source, ink)?;
+    write_stats(alloc, desc, json, window, &mut source, ink)?;
     Ok(())
 }

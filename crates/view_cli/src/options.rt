@@ -1,18 +1,18 @@
 //! From the words of the command line to what they ask for.
 
-use crate::numbers::{nodes_of, number_or};
-use crate::request::{Request, Rows, View};
+use crate::numbers::{kinds_of, nodes_of, number_or};
+use crate::request::{Request, Rows, View, Words};
 use clap::error::ErrorKind;
 use clap::parser::ValueSource;
 use clap::{Arg, ArgAction, ArgMatches, Command, Error};
-use mate_refusals::Refusal;
+use command_refusals::Refusal;
 use std::alloc::{AllocError, Global};
-use view_pictures::{Window, all_nodes};
+use view_records::{Window, all_nodes};
 use view_tables::Form;
 
 /// Reads the words, without the program's own name.
 #[inline(never)]
-pub fn read<'a>(alloc: Global, words: &'a [String]) -> Result<Request<'a>, Refusal> {
+pub fn read<'a>(alloc: Global, words: &'a [String]) -> Result<Words<'a>, Refusal> {
     let command = match command(alloc) {
         Ok(command) => command,
         Err(_) => return Err(Refusal::NoMemory),
@@ -21,8 +21,8 @@ pub fn read<'a>(alloc: Global, words: &'a [String]) -> Result<Request<'a>, Refus
         Ok(matches) => matches,
         Err(error) => return Err(refusal_of(&error)),
     };
-    match request_of(&matches) {
-        Some(request) => Ok(request),
+    match words_of(&matches) {
+        Some(words) => Ok(words),
         None => Err(Refusal::Usage),
     }
 }
@@ -41,13 +41,16 @@ fn command<'a>(alloc: Global) -> Result<Command<'a>, AllocError> {
         .no_binary_name(true)
         .arg(flag(alloc, "json"))?
         .arg(flag(alloc, "events"))?
+        .arg(flag(alloc, "svg"))?
+        .arg(flag(alloc, "version"))?
         .arg(option(alloc, "vm"))?
         .arg(option(alloc, "from"))?
         .arg(option(alloc, "to"))?
         .arg(option(alloc, "nodes"))?
         .arg(option(alloc, "world"))?
         .arg(option(alloc, "what"))?
-        .arg(word(alloc, "view").required(true))?
+        .arg(option(alloc, "only"))?
+        .arg(word(alloc, "view"))?
         .arg(word(alloc, "report"))
 }
 
@@ -63,32 +66,96 @@ fn word<'a>(alloc: Global, name: &'a str) -> Arg<'a> {
     Arg::new(alloc, name).action(ArgAction::Set)
 }
 
-/// What the words ask for; None if a view doesn't take them.
-fn request_of<'a>(matches: &ArgMatches<'a>) -> Option<Request<'a>> {
-    Some(Request {
-        view: view_of(matches)?,
-        machine: matches.get_str("vm").unwrap_or("builtin"),
-        report: matches.get_str("report").unwrap_or("-"),
-    })
+/// What the words ask for; None if no view takes them.
+fn words_of<'a>(matches: &ArgMatches<'a>) -> Option<Words<'a>> {
+    if !is_given(matches, "version") {
+        return Some(Words::View(Request {
+            view: view_of(matches)?,
+            machine: matches.get_str("vm").unwrap_or("builtin"),
+            report: matches.get_str("report").unwrap_or("-"),
+        }));
+    }
+    let alone = Given::of(matches).is_nothing()
+        && matches.get_str("vm").is_none()
+        && matches.get_str("view").is_none();
+    if alone { Some(Words::Version) } else { None }
+}
+
+/// Which options are given that only some views take.
+#[derive(Clone, Copy)]
+struct Given {
+    json: bool,
+    svg: bool,
+    what: bool,
+    world: bool,
+    only: bool,
+    nodes: bool,
+    /// `--from`, `--to` or `--events`.
+    part: bool,
+}
+
+impl Given {
+    fn of(matches: &ArgMatches<'_>) -> Given {
+        Given {
+            json: is_given(matches, "json"),
+            svg: is_given(matches, "svg"),
+            what: matches.get_str("what").is_some(),
+            world: matches.get_str("world").is_some(),
+            only: matches.get_str("only").is_some(),
+            nodes: matches.get_str("nodes").is_some(),
+            part: is_given(matches, "events")
+                || matches.get_str("from").is_some()
+                || matches.get_str("to").is_some(),
+        }
+    }
+
+    /// Whether none is given that rows don't take.
+    fn is_of_rows(&self) -> bool {
+        !self.svg && !self.world && !self.only && !self.nodes && !self.part
+    }
+
+    /// Whether none is given that a picture doesn't take.
+    fn is_of_picture(&self) -> bool {
+        !self.json && !self.what && !self.svg
+    }
+
+    fn is_nothing(&self) -> bool {
+        self.is_of_rows() && !self.json && !self.what
+    }
 }
 
 fn view_of<'a>(matches: &ArgMatches<'a>) -> Option<View<'a>> {
-    let (json, events) = (is_given(matches, "json"), is_given(matches, "events"));
-    let (what, world) = (matches.get_str("what"), matches.get_str("world"));
-    let drawn = has_window(matches) || events;
+    let given = Given::of(matches);
+    let form = if given.json { Form::Json } else { Form::Csv };
     match matches.get_str("view")? {
-        "timeline" if !json && what.is_none() && world.is_none() => {
-            Some(View::Timeline(window_of(matches, events)?))
+        "timeline" if given.is_of_picture() && !given.world => {
+            Some(View::Timeline(window_of(matches)?))
         }
-        "spread" if !json && what.is_none() => Some(View::Spread {
-            world,
-            window: window_of(matches, events)?,
+        "spread" if given.is_of_picture() && !given.only => Some(View::Spread {
+            world: matches.get_str("world"),
+            window: window_of(matches)?,
         }),
-        "csv" if !drawn && world.is_none() => Some(View::Csv {
-            rows: rows_of(what.unwrap_or("events"))?,
-            form: if json { Form::Json } else { Form::Csv },
+        "csv" if given.is_of_rows() => Some(View::Rows {
+            rows: rows_of(matches.get_str("what").unwrap_or("events"))?,
+            form,
         }),
-        "stats" if !drawn && what.is_none() && world.is_none() => Some(View::Stats { json }),
+        "waits" if given.is_of_rows() && !given.what => Some(View::Rows {
+            rows: Rows::Waits,
+            form,
+        }),
+        "store" if given.is_of_rows() && !given.what => Some(View::Rows {
+            rows: Rows::Store,
+            form,
+        }),
+        "store" if given.svg && !given.json && !given.what && !given.world && !given.only => {
+            Some(View::Chart(window_of(matches)?))
+        }
+        "stats" if !given.what && !given.svg && !given.world && !given.only && !given.nodes => {
+            Some(View::Stats {
+                json: given.json,
+                window: window_of(matches)?,
+            })
+        }
         _ => None,
     }
 }
@@ -101,22 +168,25 @@ fn is_given(matches: &ArgMatches<'_>, flag: &str) -> bool {
     }
 }
 
-/// Whether a part of a report is asked for.
-fn has_window(matches: &ArgMatches<'_>) -> bool {
-    matches.get_str("from").is_some()
-        || matches.get_str("to").is_some()
-        || matches.get_str("nodes").is_some()
-}
-
-fn window_of(matches: &ArgMatches<'_>, by_events: bool) -> Option<Window> {
+/// The part of a report that is asked for; None if its end comes before its beginning.
+fn window_of(matches: &ArgMatches<'_>) -> Option<Window> {
+    let from = number_or(matches.get_str("from"), 0)?;
+    let to = number_or(matches.get_str("to"), u64::MAX)?;
+    if to < from {
+        return None;
+    }
     Some(Window {
-        from: number_or(matches.get_str("from"), 0)?,
-        to: number_or(matches.get_str("to"), u64::MAX)?,
+        from,
+        to,
         nodes: match matches.get_str("nodes") {
             Some(list) => nodes_of(list)?,
             None => all_nodes(),
         },
-        by_events,
+        kinds: match matches.get_str("only") {
+            Some(list) => kinds_of(list)?,
+            None => u32::MAX,
+        },
+        by_events: is_given(matches, "events"),
     })
 }
 

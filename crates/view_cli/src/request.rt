@@ -1,6 +1,6 @@
 //! What is asked for.
 
-use view_pictures::Window;
+use view_records::Window;
 use view_tables::Form;
 
 /// A view of a report.
@@ -14,13 +14,16 @@ pub enum View<'a> {
         window: Window,
     },
     /// Rows of a table.
-    Csv {
+    Rows {
         rows: Rows,
         form: Form,
     },
-    /// The sums of a run.
+    /// What stores hold over time, as a picture.
+    Chart(Window),
+    /// The sums of a run, or of a part of it.
     Stats {
         json: bool,
+        window: Window,
     },
 }
 
@@ -33,9 +36,13 @@ pub enum Rows {
     Spread,
     /// A call.
     Calls,
+    /// An invocation that waits for another one.
+    Waits,
+    /// A variable or a buffer that changed.
+    Store,
 }
 
-/// What is asked for, of which report of which machine.
+/// A view that is asked for, of which report of which machine.
 #[derive(Clone, Copy)]
 pub struct Request<'a> {
     pub view: View<'a>,
@@ -43,4 +50,12 @@ pub struct Request<'a> {
     pub machine: &'a str,
     /// The file of a report, or `-` for standard input.
     pub report: &'a str,
+}
+
+/// What the words of the command line ask for.
+#[derive(Clone, Copy)]
+pub enum Words<'a> {
+    /// The program's version.
+    Version,
+    View(Request<'a>),
 }

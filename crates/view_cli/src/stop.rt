@@ -1,7 +1,9 @@
 //! Why a view isn't made, as the program says it.
 
-use mate_files::{Pen, Sink};
-use mate_refusals::{Refusal, Status};
+use crate::plain::write_plain;
+use command_refusals::{Refusal, Status};
+use mate_files::{MemSink, Pen, Sink};
+use std::alloc::Global;
 use view_records::ViewFault;
 
 /// Why a view isn't made.
@@ -9,8 +11,9 @@ use view_records::ViewFault;
 pub enum Stop {
     /// For a refusal that `mate` has, too.
     Refused(Refusal),
-    /// The report's first line, counted from 1, that doesn't fit after the lines before it.
-    BadReport { line: u64 },
+    /// The report's first line, counted from 1, that doesn't fit after the lines before it; `named` says whether it
+    /// may be a line of another machine's report.
+    BadReport { line: u64, named: bool },
     /// The report can't be read.
     Unread,
 }
@@ -24,7 +27,7 @@ impl From<Refusal> for Stop {
 impl From<ViewFault> for Stop {
     fn from(fault: ViewFault) -> Stop {
         match fault {
-            ViewFault::BadLine { line } => Stop::BadReport { line },
+            ViewFault::BadLine { line, named } => Stop::BadReport { line, named },
             ViewFault::Unread => Stop::Unread,
             ViewFault::Unwritten => Stop::Refused(Refusal::SinkFault),
             ViewFault::NoMemory => Stop::Refused(Refusal::NoMemory),
@@ -33,25 +36,48 @@ impl From<ViewFault> for Stop {
 }
 
 impl Stop {
-    /// Writes the line that says why, and returns the status: 11 for a bad line of a report, else that of `mate`.
-    /// `report` is the name of the report's file.
-    pub fn tell<E: Sink>(&self, report: &str, err: &mut E) -> Status {
+    /// Writes the line that says why, without control characters, and returns the status: 11 for a bad line of a report,
+    /// else that of `mate`. `report` is the name of the report's file, and `machine` that of its machine's.
+    pub fn tell<E: Sink>(&self, alloc: Global, report: &str, machine: &str, err: &mut E) -> Status {
+        let mut line = MemSink::new(alloc);
+        let status = self.say(report, machine, &mut line);
+        write_plain(line.bytes(), err);
+        status
+    }
+
+    fn say<E: Sink>(&self, report: &str, machine: &str, err: &mut E) -> Status {
+        let mut pen = Pen::new();
         match self {
             Stop::Refused(refusal) => refusal.refuse(err),
-            Stop::BadReport { line } => {
-                let mut pen = Pen::new();
+            Stop::BadReport { line, named } => {
                 pen.text(err, "bad report line ");
                 pen.number(err, *line);
+                if *named {
+                    say_machine(machine, &mut pen, err);
+                }
                 pen.text(err, "\n");
                 Status::Refuted
             }
             Stop::Unread => {
-                let mut pen = Pen::new();
                 pen.text(err, "file fault ");
                 pen.text(err, report);
                 pen.text(err, "\n");
                 Status::FileFault
             }
         }
+    }
+}
+
+/// Says that the report may be of another machine.
+fn say_machine<E: Sink>(machine: &str, pen: &mut Pen, err: &mut E) {
+    if machine == "builtin" {
+        pen.text(
+            err,
+            ", which the built-in machine doesn't write: is --vm missing?",
+        );
+    } else {
+        pen.text(err, ", which the machine of --vm ");
+        pen.text(err, machine);
+        pen.text(err, " doesn't write: is it the report's?");
     }
 }

@@ -1,7 +1,7 @@
 //! The installs of a report.
 
 use mate_num::{NODES_MAX, Stamp};
-use report_reader::{Line, Told};
+use report_line_reader::{Line, Told};
 use std::alloc::Global;
 use view_records::ViewFault;
 

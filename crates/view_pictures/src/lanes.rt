@@ -1,16 +1,15 @@
 //! Where nodes and their contexts are drawn.
 
 use crate::marks::{Mark, What};
-use crate::window::Window;
 use mate_num::{CONTEXTS_MAX, NODES_MAX};
 use std::alloc::Global;
-use view_records::ViewFault;
+use view_records::{ViewFault, Window};
 
 /// How much room is above the lanes, in pixels.
 pub const HEAD: u64 = 76;
 
 /// How high the lane of a node's own marks is, in pixels.
-pub const NODE_LANE: u64 = 18;
+pub const NODE_LANE: u64 = 30;
 
 /// How high the lane of a context is, in pixels.
 pub const CONTEXT_LANE: u64 = 13;
@@ -34,9 +33,9 @@ impl Lane {
         self.above(CONTEXTS_MAX as u8)
     }
 
-    /// The middle of the node's own lane.
+    /// Where the line of the node's own lane is: labels are above it, and intervals below.
     pub fn middle(&self) -> u64 {
-        self.top.saturating_add(NODE_LANE / 2)
+        self.top.saturating_add(19)
     }
 
     /// The top of the lane of a context.

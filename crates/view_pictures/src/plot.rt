@@ -4,7 +4,7 @@ use crate::scale::{LEFT, PLOT, Scale, WIDTH};
 use crate::style::STYLE;
 use crate::svg::{attribute, begin, begin_text, end_text, write_ends};
 use mate_files::Sink;
-use report_reading::last_line::LastLine;
+use report_text::last_line::LastLine;
 use view_records::Ink;
 
 /// Writes the beginning of a picture of this height.

@@ -3,13 +3,13 @@
 ghost use Rattle.std.specs.Prelude.{◌≤◌};
 
 /// Where the plot begins, in pixels from the left.
-pub const LEFT: u64 = 150;
+pub const LEFT: u64 = 200;
 
 /// How wide the plot is, in pixels.
 pub const PLOT: u64 = 1_200;
 
 /// How wide the picture is, in pixels.
-pub const WIDTH: u64 = 1_390;
+pub const WIDTH: u64 = 1_440;
 
 /// The most steps of a scale.
 const STEPS: u64 = 12;

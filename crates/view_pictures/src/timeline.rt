@@ -1,24 +1,25 @@
 //! The timeline of a report: a lane for each node, and below it one for each of its contexts.
 
+use crate::density::{Density, is_dense};
 use crate::lanes::{CONTEXT_LANE, GAP, HEAD, Lane, Lanes};
-use crate::legend::{LEGEND, write_cross, write_legend};
+use crate::legend::{Occurring, legend_height, write_legend};
 use crate::marks::{Mark, Marks, What};
+use crate::node_lane::draw_node_lanes;
+use crate::notes::{Asked, write_notes};
+use crate::packets::draw_packets;
 use crate::plot::{begin_picture, end_picture, write_band, write_heading, write_scale};
 use crate::scale::{LEFT, PLOT, Scale};
-use crate::svg::{
-    attribute, attribute_in_tenths, begin, begin_of, begin_path, begin_text, end_text, write_box,
-    write_ends,
-};
+use crate::signs;
+use crate::svg::{begin, begin_of, begin_path, begin_text, end_text, write_box, write_ends};
 use crate::titles::write_title;
-use crate::window::Window;
 use mate_files::Sink;
-use mate_num::{CONTEXTS_MAX, ContextId, HandlerId};
-use report_reading::last_line::LastLine;
+use mate_num::{CONTEXTS_MAX, ContextId, Stamp};
+use report_text::last_line::LastLine;
 use std::alloc::Global;
 use std::io::Read;
 use view_records::words::handler_name;
-use view_records::{Ink, Phase, Source, Stretch, StretchEnd, ViewFault};
-use vm_desc::Description;
+use view_records::{Ink, Phase, Source, Stretch, StretchEnd, ViewFault, Window};
+use vm_shape::Description;
 
 /// Draws the timeline of a report, once it is read whole. If it has too many marks, those up to a time are drawn, and
 /// the picture says so.
@@ -34,40 +35,60 @@ pub fn draw_timeline<R: Read, S: Sink>(
         let Some(line) = source.next(desc)? else {
             break;
         };
-        marks.take(&line)?;
+        marks.take(desc, &line)?;
     }
     if marks.full.is_none() {
-        marks.finish()?;
+        marks.finish(StretchEnd::Open)?;
     }
     if let Some(last) = source.last() {
-        let seen = seen_part(window, &marks);
+        let mut seen = seen_part(window, &marks, &last);
+        marks.settle(&seen.window);
+        seen.dense = is_dense(marks.marks.as_slice());
         let lanes = Lanes::of(alloc, &seen.window, marks.marks.as_slice(), last.nodes)?;
-        draw(desc, &seen, &last, &lanes, marks.marks.as_slice(), ink);
+        draw(alloc, desc, &seen, &lanes, marks.marks.as_slice(), ink)?;
     }
     ink.check()
 }
 
 /// The part of a report that is drawn, and what is known of it.
 #[derive(Clone, Copy)]
-struct Seen {
+pub struct Seen {
     window: Window,
     scale: Scale,
-    full: bool,
+    /// The place behind which marks were too many.
+    full: Option<u64>,
+    /// Whether packets are too many to be drawn each.
+    dense: bool,
+    last: LastLine,
+    /// The place of the last record.
+    end: u64,
+}
+
+impl Seen {
+    /// Where something is, in tenths of pixels from the left.
+    pub fn tenths(&self, stamp: Stamp) -> u64 {
+        self.scale.tenths(self.window.place(stamp))
+    }
+
+    /// Whether the place of a stamp is on the scale.
+    pub fn shows(&self, stamp: Stamp) -> bool {
+        let place = self.window.place(stamp);
+        self.scale.from <= place && place <= self.scale.to
+    }
 }
 
 /// The window as far as there are records, or as far as there is room for marks. A report without times has events as its places.
-fn seen_part(window: &Window, marks: &Marks) -> Seen {
-    let full = marks.full.is_some();
-    let end = match marks.full {
-        Some(stamp) => stamp,
-        None => marks.last,
-    };
-    let by_events = window.by_events || end.time == 0;
+fn seen_part(window: &Window, marks: &Marks, last: &LastLine) -> Seen {
     let window = Window {
-        by_events,
+        by_events: window.by_events || marks.last.time == 0,
         ..*window
     };
-    let to = window.to.min(window.place(end));
+    let full = match marks.full {
+        Some(stamp) => Some(window.place(stamp)),
+        None => None,
+    };
+    let end = window.place(marks.last);
+    let to = window.to.min(full.unwrap_or(end));
     let scale = Scale {
         from: window.from.min(to),
         to,
@@ -76,29 +97,45 @@ fn seen_part(window: &Window, marks: &Marks) -> Seen {
         window,
         scale,
         full,
+        dense: false,
+        last: *last,
+        end,
     }
 }
 
 fn draw<S: Sink>(
+    alloc: Global,
     desc: &Description,
     seen: &Seen,
-    last: &LastLine,
     lanes: &Lanes,
     marks: &[Mark],
     ink: &mut Ink<S>,
-) {
-    begin_picture(lanes.bottom.saturating_add(LEGEND), ink);
-    write_heading("Timeline", last, ink);
+) -> Result<(), ViewFault> {
+    let occurring = Occurring::among(&seen.window, seen.scale.to, seen.dense, marks);
+    let height = legend_height(desc, &occurring);
+    begin_picture(lanes.bottom.saturating_add(height), ink);
+    write_heading("Timeline", &seen.last, ink);
     write_part(seen, marks.len(), ink);
+    let asked = Asked {
+        window: seen.window,
+        end: seen.end,
+        nodes: seen.last.nodes,
+    };
+    write_notes(&asked, 53, ink);
     draw_bands(lanes, ink);
     let unit = if seen.window.by_events { "event" } else { "ms" };
     write_scale(&seen.scale, unit, HEAD, lanes.bottom, ink);
     draw_names(desc, lanes, ink);
-    draw_packets(desc, seen, lanes, marks, ink);
+    if seen.dense {
+        Density::of(alloc, seen, marks)?.draw(lanes, ink);
+    } else {
+        draw_packets(desc, seen, lanes, marks, ink);
+    }
     draw_stretches(desc, seen, lanes, marks, ink);
-    draw_signs(desc, seen, lanes, marks, ink);
-    write_legend(desc, lanes.bottom, ink);
+    draw_node_lanes(desc, seen, lanes, marks, ink);
+    write_legend(desc, &occurring, lanes.bottom, ink);
     end_picture(ink);
+    Ok(())
 }
 
 /// Writes which part is drawn.
@@ -118,11 +155,22 @@ fn write_part<S: Sink>(seen: &Seen, count: usize, ink: &mut Ink<S>) {
     } else {
         " ms"
     });
-    if seen.full {
-        ink.text("; the marks behind are too many for one picture: see them by --from ");
-        ink.number(seen.scale.to);
+    if let Some(full) = seen.full {
+        write_full(seen, full, ink);
     }
     end_text(ink);
+}
+
+/// Says where the marks are that have no room.
+fn write_full<S: Sink>(seen: &Seen, full: u64, ink: &mut Ink<S>) {
+    if full > seen.window.from {
+        ink.text("; the marks behind are too many for one picture: see them by --from ");
+        ink.number(full);
+    } else {
+        ink.text(
+            "; there are more marks at this one place than a picture has: choose by --nodes, --only or --events",
+        );
+    }
 }
 
 fn draw_bands<S: Sink>(lanes: &Lanes, ink: &mut Ink<S>) {
@@ -133,7 +181,7 @@ fn draw_bands<S: Sink>(lanes: &Lanes, ink: &mut Ink<S>) {
     }
 }
 
-/// Writes the names of the lanes, and the lines in the middle of the nodes' own.
+/// Writes the names of the lanes, and the lines of the nodes' own.
 fn draw_names<S: Sink>(desc: &Description, lanes: &Lanes, ink: &mut Ink<S>) {
     for lane in lanes.lanes.as_slice() {
         begin(ink, "line", "base");
@@ -166,66 +214,8 @@ fn draw_context_names<S: Sink>(desc: &Description, lane: &Lane, ink: &mut Ink<S>
     }
 }
 
-/// Draws the packets, below all else.
-fn draw_packets<S: Sink>(
-    desc: &Description,
-    seen: &Seen,
-    lanes: &Lanes,
-    marks: &[Mark],
-    ink: &mut Ink<S>,
-) {
-    for mark in marks {
-        if let Some(lane) = lanes.find(mark.node) {
-            match mark.what {
-                What::Came { number: _, to } => draw_came(desc, seen, lanes, mark, &lane, to, ink),
-                What::Lost { number: _, to } => draw_lost(desc, seen, mark, &lane, to, ink),
-                What::Stretch(_) | What::Installed { .. } | What::Dropped { .. } | What::Reset => {}
-            }
-        }
-    }
-}
-
-fn draw_came<S: Sink>(
-    desc: &Description,
-    seen: &Seen,
-    lanes: &Lanes,
-    mark: &Mark,
-    lane: &Lane,
-    to: u8,
-    ink: &mut Ink<S>,
-) {
-    let Some(receiver) = lanes.find(to) else {
-        return;
-    };
-    begin(ink, "line", "came");
-    let sent = seen.scale.tenths(seen.window.place(mark.from));
-    let got = seen.scale.tenths(seen.window.place(mark.to));
-    write_ends(ink, sent, lane.middle(), got, receiver.middle());
-    end_mark(desc, mark, "line", ink);
-}
-
-/// Draws a short line towards the receiver, with a bar across its end.
-fn draw_lost<S: Sink>(
-    desc: &Description,
-    seen: &Seen,
-    mark: &Mark,
-    lane: &Lane,
-    to: u8,
-    ink: &mut Ink<S>,
-) {
-    let x = seen.scale.tenths(seen.window.place(mark.from));
-    let lines = if to < mark.node {
-        "l3-7m-3-1h6"
-    } else {
-        "l3 7m-3 1h6"
-    };
-    begin(ink, "path", "lost");
-    begin_path(ink, x, lane.middle(), lines);
-    end_mark(desc, mark, "path", ink);
-}
-
 /// Writes the title of a mark, and the end of its element.
-fn end_mark<S: Sink>(desc: &Description, mark: &Mark, element: &str, ink: &mut Ink<S>) {
+pub fn end_mark<S: Sink>(desc: &Description, mark: &Mark, element: &str, ink: &mut Ink<S>) {
     ink.text(">");
     write_title(desc, mark, ink);
     ink.text("</");
@@ -251,7 +241,8 @@ fn draw_stretches<S: Sink>(
     }
 }
 
-/// Draws a bar: low and dashed while it waits to start, high and full while it runs, hatched while it waits for a device.
+/// Draws a bar: low and dashed while it waits to start, high and full while it runs, hatched while it waits for an
+/// answer. What runs for no time is a tick.
 fn draw_stretch<S: Sink>(
     desc: &Description,
     seen: &Seen,
@@ -260,129 +251,40 @@ fn draw_stretch<S: Sink>(
     top: u64,
     ink: &mut Ink<S>,
 ) {
+    let at_once = seen.window.place(mark.from) == seen.window.place(mark.to);
+    let handler = stretch.live.handler.0;
     let (class, height) = match stretch.live.phase {
         Phase::Waiting => ("wait", 4),
         Phase::Running => ("run", 9),
         Phase::Asking(_) => ("ask", 7),
     };
-    let from = seen.scale.tenths(seen.window.place(mark.from));
-    let to = seen.scale.tenths(seen.window.place(mark.to));
-    begin_of(ink, "rect", class, stretch.live.handler.0);
-    write_box(
-        ink,
-        from,
-        to,
-        top.saturating_add(CONTEXT_LANE.saturating_sub(height) / 2),
-        height,
-    );
+    let (from, to) = (seen.tenths(mark.from), seen.tenths(mark.to));
+    if at_once && class == "run" {
+        begin_of(ink, "path", "tick", handler);
+        begin_path(ink, from, top.saturating_add(2), "v9");
+        end_mark(desc, mark, "path", ink);
+        return;
+    }
+    begin_of(ink, "rect", class, handler);
+    let y = top.saturating_add(CONTEXT_LANE.saturating_sub(height) / 2);
+    write_box(ink, from, to, y, height);
     end_mark(desc, mark, "rect", ink);
 }
 
-/// Draws how an invocation ended, if it didn't halt.
+/// Draws how an invocation ended, if it didn't halt, or that it goes on behind the picture.
 fn draw_end<S: Sink>(seen: &Seen, stretch: &Stretch, top: u64, ink: &mut Ink<S>) {
-    let x = seen.scale.tenths(seen.window.place(stretch.to));
+    let x = seen.tenths(stretch.to);
+    if !seen.shows(stretch.to) {
+        signs::goes_on(x, top, ink);
+        ink.text("/>\n");
+        return;
+    }
     match stretch.end {
-        StretchEnd::Next | StretchEnd::Answered(_) | StretchEnd::Halted => {}
-        StretchEnd::Faulted(_) => {
-            write_cross(x, top.saturating_add(6), ink);
-            ink.text("/>\n");
-        }
-        StretchEnd::Cut => {
-            begin(ink, "line", "cut");
-            write_ends(ink, x, top, x, top.saturating_add(12));
-            ink.text("/>\n");
-        }
-        StretchEnd::Open => {
-            begin(ink, "path", "open");
-            begin_path(ink, x, top.saturating_add(2), "l7 4l-7 4z");
-            ink.text("/>\n");
-        }
+        StretchEnd::Next | StretchEnd::Answered(_) | StretchEnd::Halted => return,
+        StretchEnd::Faulted(_) => signs::fault(x, top.saturating_add(6), ink),
+        StretchEnd::Cut => signs::cut(x, top, ink),
+        StretchEnd::Open => signs::lives(x, top, ink),
+        StretchEnd::Unseen => signs::goes_on(x, top, ink),
     }
-}
-
-/// Draws installs, drops and resets, above all else.
-fn draw_signs<S: Sink>(
-    desc: &Description,
-    seen: &Seen,
-    lanes: &Lanes,
-    marks: &[Mark],
-    ink: &mut Ink<S>,
-) {
-    for lane in lanes.lanes.as_slice() {
-        let mut free = 0u64;
-        for mark in marks {
-            if mark.node == lane.node {
-                free = draw_sign(desc, seen, lane, mark, free, ink);
-            }
-        }
-    }
-}
-
-/// Draws a sign. `free` is where its lane begins to have room for a text; the result is where it does after the sign.
-fn draw_sign<S: Sink>(
-    desc: &Description,
-    seen: &Seen,
-    lane: &Lane,
-    mark: &Mark,
-    free: u64,
-    ink: &mut Ink<S>,
-) -> u64 {
-    let x = seen.scale.tenths(seen.window.place(mark.from));
-    match mark.what {
-        What::Installed { handler, version } => {
-            draw_install(desc, lane, mark, handler, x, ink);
-            write_version(desc, lane, handler, version, x, free, ink)
-        }
-        What::Dropped { .. } => {
-            begin(ink, "circle", "drop");
-            attribute_in_tenths(ink, "cx", x);
-            attribute(ink, "cy", lane.middle());
-            ink.text(" r=\"3.5\"");
-            end_mark(desc, mark, "circle", ink);
-            free
-        }
-        What::Reset => {
-            begin(ink, "path", "reset");
-            begin_path(ink, x, lane.top.saturating_add(2), "v14m4-14v14");
-            end_mark(desc, mark, "path", ink);
-            free
-        }
-        What::Stretch(_) | What::Came { .. } | What::Lost { .. } => free,
-    }
-}
-
-fn draw_install<S: Sink>(
-    desc: &Description,
-    lane: &Lane,
-    mark: &Mark,
-    handler: HandlerId,
-    x: u64,
-    ink: &mut Ink<S>,
-) {
-    begin_of(ink, "path", "inst", handler.0);
-    begin_path(ink, x, lane.middle(), "l-4-8h8z");
-    end_mark(desc, mark, "path", ink);
-}
-
-/// Writes the handler and the version beside an install, if there is room for them. The result is where there is room again.
-fn write_version<S: Sink>(
-    desc: &Description,
-    lane: &Lane,
-    handler: HandlerId,
-    version: u32,
-    x: u64,
-    free: u64,
-    ink: &mut Ink<S>,
-) -> u64 {
-    if x < free {
-        return free;
-    }
-    let name = handler_name(desc, handler);
-    begin_text(ink, "s", x.saturating_add(60), lane.top.saturating_add(8));
-    ink.text(name);
-    ink.text(" ");
-    ink.number(u64::from(version));
-    end_text(ink);
-    x.saturating_add((name.len() as u64).saturating_mul(55))
-        .saturating_add(300)
+    ink.text("/>\n");
 }

@@ -7,8 +7,9 @@ use std::alloc::{AllocError, AllocFailed};
 /// Why a view isn't made.
 #[derive(Clone, Copy)]
 pub enum ViewFault {
-    /// The first line, counted from 1, that doesn't fit after the lines before it.
-    BadLine { line: u64 },
+    /// The first line, counted from 1, that doesn't fit after the lines before it. `named` says whether it is a record
+    /// that names what only some machines have, so that it may be right for another machine.
+    BadLine { line: u64, named: bool },
     /// The report can't be read further.
     Unread,
     /// The output can't be written.

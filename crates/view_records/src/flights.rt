@@ -1,5 +1,7 @@
 //! Packets on their way.
 
+ghost use Rattle.std.specs.Prelude.{◌≤◌};
+
 use crate::fault::ViewFault;
 use mate_num::Stamp;
 use std::alloc::Global;
@@ -8,12 +10,63 @@ use std::collections::VecDeque;
 /// The longest that a packet is on its way, in ms: the most that `radio.delay` may be.
 const LONGEST_FLIGHT: u32 = 10_000;
 
-/// A packet that was sent: its number, its sender and when.
+/// The kind of a packet.
+#[derive(Clone, Copy)]
+pub enum PacketKind {
+    Vector,
+    Status,
+    Fragment,
+    Message,
+    /// Bytes that begin as no packet does.
+    Other,
+}
+
+/// The names of the kinds, in order.
+pub const PACKET_KINDS: [&str; 5] = ["vector", "status", "fragment", "message", "other"];
+
+impl PacketKind {
+    /// The kind of the packet that begins with these bytes.
+    pub fn of(bytes: &[u8]) -> PacketKind {
+        let [kind, ..] = bytes else {
+            return PacketKind::Other;
+        };
+        match *kind {
+            1 => PacketKind::Vector,
+            2 => PacketKind::Status,
+            3 | 5 => PacketKind::Fragment,
+            4 => PacketKind::Message,
+            _ => PacketKind::Other,
+        }
+    }
+
+    /// Its place among the kinds, from 0.
+    pub fn place(self) -> u8
+        ensures { result ≤ 4 }
+    {
+        match self {
+            PacketKind::Vector => 0,
+            PacketKind::Status => 1,
+            PacketKind::Fragment => 2,
+            PacketKind::Message => 3,
+            PacketKind::Other => 4,
+        }
+    }
+
+    /// Its name.
+    pub fn word(self) -> &'static str {
+        PACKET_KINDS[usize::from(self.place())]
+    }
+}
+
+/// A packet that was sent: its number, its sender, its kind and when.
 #[derive(Clone, Copy)]
 pub struct Flight {
     pub number: u32,
     pub node: u8,
+    pub kind: PacketKind,
     pub sent: Stamp,
+    /// Where its mark is, for who keeps marks.
+    pub mark: usize,
 }
 
 /// The packets that may still come to a receiver, in the order in which they were sent.

@@ -1,17 +1,22 @@
 //! What is known of the nodes of a report between two of its lines.
 
 use crate::fault::ViewFault;
-use crate::stretch::{Live, Phase, Stretch, StretchEnd};
+use crate::locks::ProgramLocks;
+use crate::stretch::{Blocker, Live, Phase, Stretch, StretchEnd};
 use mate_journal::Entry;
-use mate_num::{CONTEXTS_MAX, HANDLERS_MAX, NODES_MAX, Stamp};
-use report_reader::{Line, Told};
+use mate_num::{CONTEXTS_MAX, HANDLERS_MAX, LockSet, NODES_MAX, Stamp};
+use report_line_reader::{Line, Told};
 use std::alloc::Global;
+use vm_shape::Description;
 
 /// The live invocations, by node and context, and the versions that nodes hold.
 #[derive(Drop)]
 pub struct Nodes {
     live: Vec<Option<Live>>,
     versions: Vec<u32>,
+    locks: ProgramLocks,
+    /// How many invocations are live.
+    count: usize,
     /// The stamp of the last line.
     pub now: Stamp,
 }
@@ -30,6 +35,8 @@ impl Nodes {
         Ok(Nodes {
             live,
             versions,
+            locks: ProgramLocks::new(alloc)?,
+            count: 0,
             now: Stamp { event: 0, time: 0 },
         })
     }
@@ -60,10 +67,46 @@ impl Nodes {
         }
     }
 
+    /// A node's invocation in a context, if one is live there.
+    pub fn in_context(&self, node: u8, context: u8) -> Option<Live> {
+        if usize::from(context) < CONTEXTS_MAX {
+            self.at(usize::from(node) * CONTEXTS_MAX + usize::from(context))
+        } else {
+            None
+        }
+    }
+
+    /// How many invocations are live.
+    pub fn count(&self) -> usize {
+        self.count
+    }
+
     fn set(&mut self, place: usize, live: Option<Live>) {
         if place < self.live.len() {
+            self.count = match (self.live[place].is_some(), live.is_some()) {
+                (false, true) => self.count.saturating_add(1),
+                (true, false) => self.count.saturating_sub(1),
+                (false, false) | (true, true) => self.count,
+            };
             self.live[place] = live;
         }
+    }
+
+    /// The oldest of a node's live invocations that these locks have to wait for.
+    fn blocker_of(&self, node: u8, locks: &LockSet) -> Option<Blocker> {
+        let mut found: Option<Blocker> = None;
+        for context in 0..CONTEXTS_MAX as u8 {
+            if let Some(live) = self.in_context(node, context) {
+                if !live.locks.compatible(locks) && is_older(&live, &found) {
+                    found = Some(Blocker {
+                        inv: live.inv,
+                        handler: live.handler,
+                        locks: live.locks,
+                    });
+                }
+            }
+        }
+        found
     }
 
     /// The version of a handler that a node holds; 0 for none.
@@ -103,16 +146,23 @@ impl Nodes {
     }
 
     /// Follows the next line. The stretches that end there are appended to `ended`.
-    pub fn follow(&mut self, line: &Line, ended: &mut Vec<Stretch>) -> Result<(), ViewFault> {
+    pub fn follow(
+        &mut self,
+        desc: &Description,
+        line: &Line,
+        ended: &mut Vec<Stretch>,
+    ) -> Result<(), ViewFault> {
         self.now = line.stamp;
         match &line.told {
             Told::Made(entry) => self.entry(line.stamp, line.node, entry, ended),
             Told::Installed {
                 handler,
                 version,
-                image: _,
+                image,
             } => {
                 self.install(line.node, handler.0, *version);
+                self.locks
+                    .install(desc, line.node, handler.0, image.as_slice());
                 self.cut(line.node, line.stamp, StretchEnd::Cut, ended)
             }
             Told::OnAir(_) | Told::Shown(_) => Ok(()),
@@ -133,12 +183,15 @@ impl Nodes {
                 ctx,
                 payload: _,
             } => {
+                let locks = self.locks.of(node, handler.0);
                 let live = Live {
                     inv: *inv,
                     handler: *handler,
                     ctx: *ctx,
                     phase: Phase::Waiting,
                     since: now,
+                    locks,
+                    blocker: self.blocker_of(node, &locks),
                 };
                 self.open(node, live, ended)
             }
@@ -264,12 +317,20 @@ impl Nodes {
         Ok(())
     }
 
-    /// The report ends: the stretches of all that is live are appended to `ended`.
-    pub fn finish(&mut self, ended: &mut Vec<Stretch>) -> Result<(), ViewFault> {
+    /// Nothing is followed any more, for this reason: the stretches of all that is live are appended to `ended`.
+    pub fn finish(&mut self, end: StretchEnd, ended: &mut Vec<Stretch>) -> Result<(), ViewFault> {
         let now = self.now;
         for node in 0..NODES_MAX as u8 {
-            self.cut(node, now, StretchEnd::Open, ended)?;
+            self.cut(node, now, end, ended)?;
         }
         Ok(())
+    }
+}
+
+/// Whether an invocation is older than the one that was found so far.
+fn is_older(live: &Live, found: &Option<Blocker>) -> bool {
+    match found {
+        Some(blocker) => live.inv < blocker.inv,
+        None => true,
     }
 }

@@ -3,9 +3,10 @@
 use crate::fault::ViewFault;
 use mate_journal::Air;
 use mate_num::NODES_MAX;
-use report_reader::{Bulk, LightLine, LightTold};
-use report_reading::last_line::LastLine;
-use report_reading::place::{Place, admits_next, place_after};
+use report_line_reader::words::same_bytes;
+use report_line_reader::{Bulk, LightLine, LightTold, Words};
+use report_text::last_line::LastLine;
+use report_text::place::{Place, admits_next, place_after};
 
 /// How far the lines of a report have come.
 #[derive(Drop)]
@@ -31,6 +32,15 @@ impl Order {
     pub fn bad_line(&self, behind: u64) -> ViewFault {
         ViewFault::BadLine {
             line: self.count.saturating_add(behind),
+            named: false,
+        }
+    }
+
+    /// The fault that the next line is bad, which none of this machine's reports has.
+    pub fn bad_record(&self, line: &[u8]) -> ViewFault {
+        ViewFault::BadLine {
+            line: self.count.saturating_add(1),
+            named: is_named(line),
         }
     }
 
@@ -53,6 +63,26 @@ impl Order {
             && last.nodes <= NODES_MAX as u64
             && self.nodes <= last.nodes;
         if fits { Ok(()) } else { Err(self.bad_line(1)) }
+    }
+}
+
+/// Whether a line begins as a record that names a handler, a function, variables or buffers.
+fn is_named(line: &[u8]) -> bool {
+    let mut words = Words::new(line);
+    for _ in 0..3u8 {
+        if words.next_unsigned().is_none() {
+            return false;
+        }
+    }
+    match words.next() {
+        Some(verb) => {
+            same_bytes(verb, b"post")
+                || same_bytes(verb, b"drop")
+                || same_bytes(verb, b"ask")
+                || same_bytes(verb, b"install")
+                || same_bytes(verb, b"seen")
+        }
+        None => false,
     }
 }
 

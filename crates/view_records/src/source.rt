@@ -3,13 +3,13 @@
 use crate::fault::ViewFault;
 use crate::lines::{Lines, Next};
 use crate::order::Order;
-use report_reader::{Bulk, Line, light_line_of, with_bulk};
-use report_reading::last_line::{LastLine, last_line_of};
+use report_line_reader::{Bulk, Line, light_line_of, with_bulk};
+use report_text::last_line::{LastLine, last_line_of};
 use std::alloc::Global;
 use std::io::Read;
-use vm_desc::Description;
+use vm_shape::Description;
 
-/// A report of any length that is read line by line, by the rules of `report_reading`.
+/// A report of any length that is read line by line, by the rules of `report_text`.
 #[derive(Drop)]
 pub struct Source<R> {
     lines: Lines<R>,
@@ -53,8 +53,9 @@ impl<R: Read> Source<R> {
 
     /// Takes the last line, of this length.
     fn end(&mut self, length: usize) -> Result<(), ViewFault> {
-        let Some(last) = last_line_of(self.lines.line(length)) else {
-            return Err(self.order.bad_line(1));
+        let line = self.lines.line(length);
+        let Some(last) = last_line_of(line) else {
+            return Err(self.order.bad_record(line));
         };
         self.order.end(&last)?;
         self.lines.take(length);

@@ -1,6 +1,6 @@
 //! What an invocation does between two of its records.
 
-use mate_num::{ContextId, FaultKind, FunId, HandlerId, Stamp};
+use mate_num::{ContextId, FaultKind, FunId, HandlerId, LockSet, Stamp};
 
 /// What an invocation is doing.
 #[derive(Clone, Copy)]
@@ -13,6 +13,15 @@ pub enum Phase {
     Asking(FunId),
 }
 
+/// An older invocation of the same node, one of whose locks keeps another from its start.
+#[derive(Clone, Copy)]
+pub struct Blocker {
+    pub inv: u32,
+    pub handler: HandlerId,
+    /// Its locks.
+    pub locks: LockSet,
+}
+
 /// An invocation that hasn't ended, and since when it does what it is doing.
 #[derive(Clone, Copy)]
 pub struct Live {
@@ -21,6 +30,10 @@ pub struct Live {
     pub ctx: ContextId,
     pub phase: Phase,
     pub since: Stamp,
+    /// What its program locks.
+    pub locks: LockSet,
+    /// The oldest of those that kept it from its start when it was posted.
+    pub blocker: Option<Blocker>,
 }
 
 /// What ended a stretch.
@@ -38,6 +51,8 @@ pub enum StretchEnd {
     Cut,
     /// The report ended first.
     Open,
+    /// It isn't known, as nothing was followed behind.
+    Unseen,
 }
 
 /// What an invocation did without a break.

@@ -2,7 +2,7 @@
 
 use mate_journal::VoidCause;
 use mate_num::{FunId, HandlerId};
-use vm_desc::Description;
+use vm_shape::Description;
 
 /// The name of a handler.
 pub fn handler_name(desc: &Description, handler: HandlerId) -> &str {

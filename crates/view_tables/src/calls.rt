@@ -7,7 +7,7 @@ use std::alloc::Global;
 use std::io::Read;
 use view_records::words::{function_name, handler_name};
 use view_records::{Ink, Nodes, Phase, Source, Stretch, StretchEnd, ViewFault};
-use vm_desc::Description;
+use vm_shape::Description;
 
 const COLUMNS: &str =
     "node,invocation,handler,context,function,asked_event,asked_time,ended_event,ended_time,wait,end,value";
@@ -27,12 +27,12 @@ pub fn write_calls<R: Read, S: Sink>(
         let Some(line) = source.next(desc)? else {
             break;
         };
-        nodes.follow(&line, &mut ended)?;
+        nodes.follow(desc, &line, &mut ended)?;
         write_ended(desc, form, ended.as_slice(), ink);
         ink.check()?;
         ended.clear();
     }
-    nodes.finish(&mut ended)?;
+    nodes.finish(StretchEnd::Open, &mut ended)?;
     write_ended(desc, form, ended.as_slice(), ink);
     ink.check()
 }
@@ -75,7 +75,7 @@ fn write_call<S: Sink>(
 fn end_word(end: StretchEnd) -> &'static str {
     match end {
         StretchEnd::Answered(_) => "answered",
-        StretchEnd::Open => "open",
+        StretchEnd::Open | StretchEnd::Unseen => "open",
         StretchEnd::Cut | StretchEnd::Next | StretchEnd::Halted | StretchEnd::Faulted(_) => "cut",
     }
 }
@@ -84,6 +84,7 @@ fn answer_of(end: StretchEnd) -> Option<i16> {
     match end {
         StretchEnd::Answered(value) => Some(value),
         StretchEnd::Open
+        | StretchEnd::Unseen
         | StretchEnd::Cut
         | StretchEnd::Next
         | StretchEnd::Halted

@@ -2,8 +2,8 @@
 
 use mate_journal::{Air, Entry, VoidCause};
 use mate_num::{ContextId, FunId, HandlerId, Store};
-use report_reader::{Line, Told, entry_word};
-use report_text::words::{drop_word, fault_word};
+use report_line_reader::{Line, Told, entry_word};
+use report_writer::words::{drop_word, fault_word};
 use view_records::words::void_word;
 use view_records::{Live, Nodes};
 

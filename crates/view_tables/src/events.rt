@@ -4,12 +4,12 @@ use crate::cells::Cells;
 use crate::row::{Form, Row, write_head, write_values};
 use mate_files::Sink;
 use mate_num::{Name, Payload, Store};
-use report_reader::Line;
+use report_line_reader::Line;
 use std::alloc::Global;
 use std::io::Read;
 use view_records::words::{function_name, handler_name};
 use view_records::{Ink, Nodes, Source, ViewFault};
-use vm_desc::Description;
+use vm_shape::Description;
 
 const COLUMNS: &str =
     "line,event,time,node,record,invocation,handler,context,function,version,cause,packet,other,length,values,value,store,bytes";
@@ -31,7 +31,7 @@ pub fn write_events<R: Read, S: Sink>(
         };
         write_event(desc, form, source.count(), &nodes, &line, ink);
         ink.check()?;
-        nodes.follow(&line, &mut ended)?;
+        nodes.follow(desc, &line, &mut ended)?;
         ended.clear();
     }
     ink.check()

@@ -7,10 +7,16 @@ mod events;
 mod row;
 mod spread;
 mod stats;
+mod store;
 mod sums;
+mod table;
+mod updates;
+mod waits;
 
 pub use calls::write_calls;
 pub use events::write_events;
 pub use row::Form;
 pub use spread::write_spread;
 pub use stats::write_stats;
+pub use store::write_store_changes;
+pub use waits::write_waits;

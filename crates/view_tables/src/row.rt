@@ -151,6 +151,17 @@ impl Row {
         }
     }
 
+    /// Values, which may be none: in brackets with spaces between them in a cell, as a list in JSON.
+    pub fn list<S: Sink>(&mut self, ink: &mut Ink<S>, column: &str, values: &[i16]) {
+        self.name(ink, column);
+        ink.text("[");
+        match self.form {
+            Form::Csv => write_values(ink, values, " "),
+            Form::Json => write_values(ink, values, ","),
+        }
+        ink.text("]");
+    }
+
     /// The beginning of a cell whose text is written piece by piece, with nothing in it that JSON escapes.
     pub fn open<S: Sink>(&mut self, ink: &mut Ink<S>, column: &str) {
         self.name(ink, column);

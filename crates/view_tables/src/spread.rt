@@ -3,12 +3,12 @@
 use crate::row::{Form, Row, write_head};
 use mate_files::Sink;
 use mate_num::{HandlerId, Stamp};
-use report_reader::Told;
+use report_line_reader::Told;
 use std::alloc::Global;
 use std::io::Read;
 use view_records::words::handler_name;
 use view_records::{Ink, Nodes, Source, ViewFault};
-use vm_desc::Description;
+use vm_shape::Description;
 
 const COLUMNS: &str = "event,time,node,handler,version,newest,holders,nodes";
 
@@ -28,7 +28,7 @@ pub fn write_spread<R: Read, S: Sink>(
         let Some(line) = source.next(desc)? else {
             break;
         };
-        nodes.follow(&line, &mut ended)?;
+        nodes.follow(desc, &line, &mut ended)?;
         ended.clear();
         if let Told::Installed {
             handler,

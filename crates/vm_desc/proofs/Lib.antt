@@ -1,3 +1,4 @@
-pub mod DescriptionLemmas
-pub mod ListLemmas
-pub mod NameLemmas
+pub mod Fronts
+pub mod ReadingLemmas
+pub mod FieldLemmas
+pub mod KnownLemmas

@@ -1,8 +1,5 @@
-pub mod Names
-pub mod Limits
-pub mod Contexts
-pub mod Shapes
-pub mod Whole
-pub mod Bounds
-pub mod Keys
-pub mod Rules
+pub mod Reading
+pub mod Openings
+pub mod Text
+pub mod Places
+pub mod Fields

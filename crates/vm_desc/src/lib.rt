@@ -1,23 +1,14 @@
-//! The description of a Maté machine: its handlers, functions, variables and settings, and why a text is none.
+//! Descriptions of machines, and their reader: from the bytes of a TOML text to the description, or to the first refusal.
 #![tactic(auto)]
 
-pub mod built_in;
-pub mod description;
-pub mod fault;
-pub mod function;
-pub mod handler;
-pub mod key;
-pub mod names;
-pub mod rules;
-pub mod settings;
-pub mod shape_of;
+pub mod fields;
+pub mod known;
+mod opening;
+mod parts;
+pub mod reading;
 
-pub use built_in::builtin;
-pub use description::Description;
-pub use fault::DescFault;
-pub use function::{FunKind, Function};
-pub use handler::{Handler, HandlerKind};
-pub use key::Key;
-pub use names::name_of;
-pub use settings::{DOUBLINGS_MAX, RadioSet, TrickleSet};
-pub use shape_of::shape;
+pub use reading::read;
+pub use vm_shape::{
+    DOUBLINGS_MAX, DescFault, Description, FunKind, Function, Handler, HandlerKind, Key, RadioSet,
+    TrickleSet, builtin, name_of, shape,
+};

@@ -17,8 +17,8 @@ use Rattle.mate_journal.specs.declared.entry.Entry.TheVariants as entry
 use Rattle.mate_journal.specs.declared.entry.Stamped.{Stamped}
 use Rattle.journal_laws.specs.Growth.{event_of, AreNamedBelow, IsNamedBelow}
 use Rattle.journal_laws.proofs.TidyLemmas.{NamesInLog-numbered}
-use Rattle.report_text.specs.Pieces.{IsNamed}
-use Rattle.report_text.proofs.EventLemmas.{All-of_map}
+use Rattle.report_writer.specs.Pieces.{IsNamed}
+use Rattle.report_writer.proofs.EventLemmas.{All-of_map}
 use Rattle.world_rules.specs.World.{World}
 use Rattle.world_rules.specs.Effect.{event_node}
 use Rattle.world_rules.specs.State.{Moment, state, air_made}

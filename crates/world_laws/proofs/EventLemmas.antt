@@ -10,15 +10,15 @@ use Rattle.mate_journal.specs.Journal.{JournalEntry, journal_entry, journal_of}
 use Rattle.mate_journal.specs.Journal.{TimedEntry as Entered}
 use Rattle.mate_journal.specs.Tidy.{NumbersInOrder, below, entry_event}
 use Rattle.mate_journal.specs.declared.report.Report.{Report}
-use Rattle.report_text.specs.Progress.{air_event, at_event}
-use Rattle.report_text.proofs.EventLemmas.{at_event-none}
+use Rattle.report_writer.specs.Progress.{air_event, at_event}
+use Rattle.report_writer.proofs.EventLemmas.{at_event-none}
 use Rattle.mate_journal.specs.declared.air.Aired.{Aired}
 use Rattle.mate_journal.specs.declared.entry.Stamped.{Stamped}
 use Rattle.journal_laws.proofs.GoesOnLemmas.{GoesOn-journal}
-use Rattle.report_text.specs.Pieces.{AddsPiece, IsBefore, IsNamed}
-use Rattle.report_text.specs.Text.{lines, event_lines, event_piece, air_line, entry_line, entry_lines}
-use Rattle.report_text.proofs.PieceLemmas.{lines-piece, lines-earlier, lines-upto, events_end-le}
-use Rattle.vm_desc.specs.declared.description.Description.{Description}
+use Rattle.report_writer.specs.Pieces.{AddsPiece, IsBefore, IsNamed}
+use Rattle.report_writer.specs.Text.{lines, event_lines, event_piece, air_line, entry_line, entry_lines}
+use Rattle.report_writer.proofs.PieceLemmas.{lines-piece, lines-earlier, lines-upto, events_end-le}
+use Rattle.vm_shape.specs.declared.description.Description.{Description}
 use Rattle.world_rules.specs.World.{World}
 use Rattle.world_rules.specs.Effect.{event_node}
 use Rattle.world_rules.specs.State.{Moment}

@@ -4,9 +4,9 @@ use Rattle.std.specs.Prelude.{ℤ, pos, None}
 use Rattle.std.specs.List.{flat_map, range_with_len}
 use Rattle.arrayvec.specs.ArrayVec.{ArrayVec}
 use Rattle.mate_num.specs.declared.call.End.TheVariants as end
-use Rattle.vm_desc.specs.declared.description.Description.{Description}
-use Rattle.vm_desc.specs.declared.handler.HandlerKind.TheVariants as kind
-use Rattle.vm_desc.specs.declared.function.FunKind.TheVariants as fun
+use Rattle.vm_shape.specs.declared.description.Description.{Description}
+use Rattle.vm_shape.specs.declared.handler.HandlerKind.TheVariants as kind
+use Rattle.vm_shape.specs.declared.function.FunKind.TheVariants as fun
 use Rattle.mate_journal.specs.Machine.{Meaning, HeldProgram}
 use Rattle.mate_journal.specs.Pace.{no_pace}
 use Rattle.mate_journal.specs.Described.{machine_of}

@@ -15,7 +15,7 @@ use Rattle.capsule_exchange.specs.Happenings.{Happening, Hears, Installs, held_v
 use Rattle.capsule_exchange.proofs.CollectLemmas.{target_over}
 use Rattle.world_rules.specs.Cause.{Cause}
 use Rattle.world_rules.specs.Cause as event
-use Rattle.world_script.specs.declared.world.Link.{Link}
+use Rattle.script_steps.specs.declared.world.Link.{Link}
 use Rattle.world_rules.specs.World.{World, handlers, receiver, leaves, links_from, loss, stream_word}
 use Rattle.world_rules.specs.Effect.{Node, NodeEffect, Installing, node_effect, of_packet, event_node, resets}
 use Rattle.world_rules.specs.State.{Moment, WorldState, Scheduled, Sending, numbered_sendings, sendings, is_lost, deliveries, next_period, new_interval, packets_of, messages, schedules, node_at, effect_at, after_moment, state}

@@ -3,7 +3,7 @@ use Rattle.std.proofs.Common.{◌≡◌, ◌<◌, ◌≤◌, ℕ, ◌+◌, ◌*�
 use Rattle.std.specs.Prelude.{slice_get}
 use Rattle.std.specs.Option.{option_map_or}
 use Rattle.std.proofs.lemmas.Bool.Decides.{eqb_tells}
-use Rattle.vm_desc.specs.Limits.{longest}
+use Rattle.vm_shape.specs.Limits.{longest}
 use Rattle.mate_journal.specs.Machine.{HeldProgram}
 use Rattle.capsule_exchange.specs.Happenings.{Installs, held_version}
 use Rattle.world_rules.specs.Cause.{Cause}

@@ -5,8 +5,8 @@ use Rattle.std.specs.List.{flat_map, filter_map, cons_option, range_with_len}
 use Rattle.std.specs.Option.{option_map_or}
 use Rattle.std.proofs.lemmas.Bool.Decides.{eqb_tells}
 use Rattle.std.proofs.lemmas.Bool.{cases_lt}
-use Rattle.vm_desc.specs.declared.settings.TrickleSet.{TrickleSet}
-use Rattle.vm_desc.specs.Limits.{longest}
+use Rattle.vm_shape.specs.declared.settings.TrickleSet.{TrickleSet}
+use Rattle.vm_shape.specs.Limits.{longest}
 use Rattle.rand_pcg.specs.Pcg.{pcg32}
 use Rattle.trickle_timer.specs.Intervals as trickle
 use Rattle.trickle_timer.specs.Timer.{Timer, begun_timer}

@@ -11,18 +11,18 @@ use Rattle.std.proofs.Math.Nat.{le-mul_of_pos_right, mul-le-mul_right, mul_assoc
 use Rattle.std.proofs.lemmas.List.Elements.{All-head, All-tail, All-contains}
 use Rattle.std.proofs.lemmas.Option.{slice_get-map, slice_get_within, get_or_from_slice_get}
 use Rattle.mate_num.specs.declared.id.HandlerId.{HandlerId}
-use Rattle.vm_desc.specs.declared.description.Description.{Description}
-use Rattle.vm_desc.specs.Limits.{longest}
-use Rattle.vm_desc.proofs.DescriptionLemmas.{bounds_of}
+use Rattle.vm_shape.specs.declared.description.Description.{Description}
+use Rattle.vm_shape.specs.Limits.{longest}
+use Rattle.vm_shape.proofs.DescriptionLemmas.{bounds_of}
 use Rattle.capsule_codec.specs.Fragments.{count_of}
 use Rattle.capsule_codec.specs.Image.{capsule_image}
 use Rattle.mate_journal.specs.Machine.{Meaning, HeldProgram}
-use Rattle.world_script.specs.declared.world.World.{World as Script}
-use Rattle.world_script.specs.declared.world.Link.{Link}
-use Rattle.world_script.specs.declared.world.Planned.{Planned}
-use Rattle.world_script.specs.declared.world.What.{What}
-use Rattle.world_script.specs.declared.world.What.TheVariants as what
-use Rattle.world_script.specs.World.{IsRightLink, IsRightPlanned, IsRightWhat, Follow, IfInjects}
+use Rattle.script_steps.specs.declared.world.World.{World as Script}
+use Rattle.script_steps.specs.declared.world.Link.{Link}
+use Rattle.script_steps.specs.declared.world.Planned.{Planned}
+use Rattle.script_steps.specs.declared.world.What.{What}
+use Rattle.script_steps.specs.declared.world.What.TheVariants as what
+use Rattle.script_steps.specs.World.{IsRightLink, IsRightPlanned, IsRightWhat, Follow, IfInjects}
 use Rattle.world_rules.specs.World.{World, PlannedLine, Inject, want_of, line_planned, world_of}
 use Rattle.world_rules.specs.Cause.{Cause}
 use Rattle.world_rules.specs.Cause as event

@@ -8,7 +8,7 @@ use Rattle.std.proofs.lemmas.Bool.Decides.{eqb_tells}
 use Rattle.mate_num.specs.declared.id.HandlerId.{HandlerId}
 use Rattle.arrayvec.specs.ArrayVec.{ArrayVec}
 use Rattle.capsule_codec.specs.Fragments.{count_of, piece_at}
-use Rattle.vm_desc.specs.Limits.{longest}
+use Rattle.vm_shape.specs.Limits.{longest}
 use Rattle.packet_codec.specs.declared.packet.Packet.{Packet}
 use Rattle.packet_codec.specs.declared.packet.Packet.TheVariants.{Vector}
 use Rattle.trickle_timer.specs.Intervals as trickle

@@ -4,9 +4,9 @@ use Rattle.std.specs.Prelude.{IsTrue}
 use Rattle.std.specs.Option.{option_map_or}
 use Rattle.std.proofs.lemmas.List.{append-nil}
 use Rattle.std.proofs.lemmas.Bool.Decides.{eqb_tells}
-use Rattle.vm_desc.specs.declared.settings.TrickleSet.{TrickleSet}
-use Rattle.vm_desc.specs.Limits.{is_trickle}
-use Rattle.vm_desc.proofs.DescriptionLemmas.{trickle_rules}
+use Rattle.vm_shape.specs.declared.settings.TrickleSet.{TrickleSet}
+use Rattle.vm_shape.specs.Limits.{is_trickle}
+use Rattle.vm_shape.proofs.DescriptionLemmas.{trickle_rules}
 use Rattle.trickle_timer.specs.Intervals as trickle
 use Rattle.trickle_timer.specs.Timer.{Timer, IsTimerOf, after_happening}
 use Rattle.trickle_timer.proofs.IntervalLemmas.{IsTimerOf-start, IsTimerOf-after, Decides-at_point}

@@ -6,8 +6,8 @@ use Rattle.mate_journal.specs.Journal.{TimedEntry as Entered}
 use Rattle.mate_journal.specs.Tidy.{NumbersInOrder, below}
 use Rattle.mate_journal.specs.declared.air.Aired.{Aired}
 use Rattle.mate_journal.specs.declared.report.Report.{Report}
-use Rattle.report_text.specs.Text.{lines, event_lines, event_piece}
-use Rattle.vm_desc.specs.declared.description.Description.{Description}
+use Rattle.report_writer.specs.Text.{lines, event_lines, event_piece}
+use Rattle.vm_shape.specs.declared.description.Description.{Description}
 use Rattle.world_rules.specs.World.{World}
 use Rattle.world_rules.specs.Effect.{event_node}
 use Rattle.world_rules.specs.State.{Moment}

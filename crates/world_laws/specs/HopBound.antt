@@ -1,6 +1,6 @@
 -- The hop bound: an injected version reaches each node in time.
 use Rattle.std.specs.Prelude.{◌≡◌, ℕ, ◌+◌, ◌*◌, ◌<◌, ◌≤◌, false, List, ◌∷◌, ◌++◌}
-use Rattle.vm_desc.specs.Limits.{longest}
+use Rattle.vm_shape.specs.Limits.{longest}
 use Rattle.mate_journal.specs.Machine.{HeldProgram}
 use Rattle.world_rules.specs.Cause.{Cause}
 use Rattle.world_rules.specs.Cause as event

@@ -1,6 +1,6 @@
 -- Hops over pairs of nodes that have links both ways.
 use Rattle.std.specs.Prelude.{◌≡◌, ℕ, zero, suc, List, Contains}
-use Rattle.world_script.specs.declared.world.Link.{Link}
+use Rattle.script_steps.specs.declared.world.Link.{Link}
 
 -- a link leads from one node to another
 pub record HasLink (links : List Link) (a b : ℕ) : Type 0 where

@@ -2,17 +2,17 @@
 use Rattle.std.specs.Prelude.{◌≡◌, ℕ, ◌+◌, ◌*◌, ◌≤◌, false, List, ◌∷◌, ◌++◌, All, Some, slice_get}
 use Rattle.mate_num.specs.declared.bounds.TheConstants.{FRAGMENTS_MAX}
 use Rattle.mate_num.specs.declared.id.HandlerId.{HandlerId}
-use Rattle.vm_desc.specs.declared.description.Description.{Description}
-use Rattle.vm_desc.specs.Limits.{longest}
+use Rattle.vm_shape.specs.declared.description.Description.{Description}
+use Rattle.vm_shape.specs.Limits.{longest}
 use Rattle.capsule_codec.specs.Fragments.{count_of}
 use Rattle.capsule_codec.specs.Image.{CapsuleParts, IsCapsule, capsule_image}
 use Rattle.mate_journal.specs.Machine.{Meaning, HeldProgram}
 use Rattle.capsule_exchange.specs.Happenings.{held_version}
-use Rattle.world_script.specs.declared.world.World.{World as Script}
-use Rattle.world_script.specs.declared.world.Link.{Link}
-use Rattle.world_script.specs.declared.world.Planned.{Planned}
-use Rattle.world_script.specs.declared.world.What.TheVariants as what
-use Rattle.world_script.specs.World.{IsRightWorld}
+use Rattle.script_steps.specs.declared.world.World.{World as Script}
+use Rattle.script_steps.specs.declared.world.Link.{Link}
+use Rattle.script_steps.specs.declared.world.Planned.{Planned}
+use Rattle.script_steps.specs.declared.world.What.TheVariants as what
+use Rattle.script_steps.specs.World.{IsRightWorld}
 use Rattle.world_rules.specs.Cause as event
 use Rattle.world_rules.specs.World.{World, world_of}
 use Rattle.world_rules.specs.Effect.{event_node}

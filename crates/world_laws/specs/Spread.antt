@@ -1,11 +1,11 @@
 -- How a version spreads: one hop, and many.
 use Rattle.std.specs.Prelude.{◌≡◌, ℕ, ◌+◌, ◌*◌, ◌<◌, ◌≤◌, false, List, ◌++◌, Contains}
 use Rattle.mate_num.specs.Lists.{EachOver}
-use Rattle.vm_desc.specs.Limits.{longest, round_time}
+use Rattle.vm_shape.specs.Limits.{longest, round_time}
 use Rattle.mate_journal.specs.Machine.{HeldProgram}
 use Rattle.capsule_exchange.specs.Happenings.{held_version}
 use Rattle.world_rules.specs.Cause as event
-use Rattle.world_script.specs.declared.world.Link.{Link}
+use Rattle.script_steps.specs.declared.world.Link.{Link}
 use Rattle.world_rules.specs.World.{World, handlers, loss}
 use Rattle.world_rules.specs.Effect.{Installing, resets}
 use Rattle.world_rules.specs.State.{Moment, WorldState, effect_at, state}

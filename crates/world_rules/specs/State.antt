@@ -5,8 +5,8 @@ use Rattle.std.specs.List.{filter, filter_map, flat_map, range_with_len}
 use Rattle.std.specs.Option.{option_map_or, option_to_list}
 use Rattle.arrayvec.specs.ArrayVec.{ArrayVec}
 use Rattle.mate_num.specs.declared.id.FunId.{FunId}
-use Rattle.vm_desc.specs.declared.function.FunKind.{FunKind}
-use Rattle.vm_desc.specs.declared.function.FunKind.TheVariants as fun
+use Rattle.vm_shape.specs.declared.function.FunKind.{FunKind}
+use Rattle.vm_shape.specs.declared.function.FunKind.TheVariants as fun
 use Rattle.mate_journal.specs.Journal.{JournalEntry, Posted, Dropped, Started, Asked, Answered, Ended, Installed, Reset, Seen, Void, NodeState}
 use Rattle.mate_journal.specs.Journal.{state_after_entries, first_state}
 use Rattle.mate_journal.specs.Pace.{Pace, no_pace}

@@ -7,21 +7,21 @@ use Rattle.rand_pcg.specs.Lcg.{started, increment_of, advance}
 use Rattle.rand_pcg.specs.Pcg.{multiplier_64, pcg32}
 use Rattle.mate_num.specs.declared.id.HandlerId.{HandlerId}
 use Rattle.mate_num.specs.declared.id.FunId.{FunId}
-use Rattle.vm_desc.specs.declared.description.Description.{Description}
-use Rattle.vm_desc.specs.declared.handler.Handler.{Handler}
-use Rattle.vm_desc.specs.declared.handler.HandlerKind.{HandlerKind}
-use Rattle.vm_desc.specs.declared.handler.HandlerKind.TheVariants as kind
-use Rattle.vm_desc.specs.declared.function.Function.{Function}
-use Rattle.vm_desc.specs.declared.function.FunKind.{FunKind}
-use Rattle.vm_desc.specs.declared.function.FunKind.TheVariants as fun
+use Rattle.vm_shape.specs.declared.description.Description.{Description}
+use Rattle.vm_shape.specs.declared.handler.Handler.{Handler}
+use Rattle.vm_shape.specs.declared.handler.HandlerKind.{HandlerKind}
+use Rattle.vm_shape.specs.declared.handler.HandlerKind.TheVariants as kind
+use Rattle.vm_shape.specs.declared.function.Function.{Function}
+use Rattle.vm_shape.specs.declared.function.FunKind.{FunKind}
+use Rattle.vm_shape.specs.declared.function.FunKind.TheVariants as fun
 use Rattle.mate_journal.specs.Machine.{Machine, Meaning, HeldProgram}
 use Rattle.mate_journal.specs.Described.{machine_of}
-use Rattle.world_script.specs.declared.world.World.{World as Script}
-use Rattle.world_script.specs.declared.world.Link.{Link}
-use Rattle.world_script.specs.declared.world.Series.{Series}
-use Rattle.world_script.specs.declared.world.Planned.{Planned}
-use Rattle.world_script.specs.declared.world.What.{What}
-use Rattle.world_script.specs.declared.world.What.TheVariants as what
+use Rattle.script_steps.specs.declared.world.World.{World as Script}
+use Rattle.script_steps.specs.declared.world.Link.{Link}
+use Rattle.script_steps.specs.declared.world.Series.{Series}
+use Rattle.script_steps.specs.declared.world.Planned.{Planned}
+use Rattle.script_steps.specs.declared.world.What.{What}
+use Rattle.script_steps.specs.declared.world.What.TheVariants as what
 
 -- what a line of the script wants of its node
 pub data Want : Type 0 where

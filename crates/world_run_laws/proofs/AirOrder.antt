@@ -9,8 +9,8 @@ use Rattle.journal_laws.proofs.Append.{start}
 use Rattle.mate_journal.specs.declared.air.Air.{Air}
 use Rattle.mate_journal.specs.declared.air.Air.TheVariants as air
 use Rattle.mate_journal.specs.declared.air.Aired.{Aired}
-use Rattle.report_text.specs.Progress.{air_event}
-use Rattle.report_text.specs.Tidy.{AirNodesRise}
+use Rattle.report_writer.specs.Progress.{air_event}
+use Rattle.report_writer.specs.Tidy.{AirNodesRise}
 use Rattle.world_rules.specs.World.{World}
 use Rattle.world_rules.specs.Effect.{event_node}
 use Rattle.world_rules.specs.State.{Moment, air_made, state}

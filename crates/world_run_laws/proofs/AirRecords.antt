@@ -4,7 +4,7 @@ use Rattle.std.specs.Prelude.{Option, Some, None, All, slice_get, if◌then◌el
 use Rattle.std.specs.List.{flat_map, range_with_len}
 use Rattle.std.specs.Option.{option_map_or, option_to_list}
 use Rattle.std.proofs.lemmas.List.Elements.{All-nil, All-cons, All-head, All-tail, All-append, All-map, All-weaker}
-use Rattle.vm_desc.specs.declared.description.Description.{Description}
+use Rattle.vm_shape.specs.declared.description.Description.{Description}
 use Rattle.mate_journal.specs.Machine.{HeldProgram, Meaning}
 use Rattle.journal_laws.proofs.Append.{start}
 use Rattle.mate_journal.specs.declared.air.Air.{Air}
@@ -15,12 +15,12 @@ use Rattle.trickle_timer.specs.Intervals as trickle
 use Rattle.trickle_timer.specs.declared.timer.Fire.{Fire}
 use Rattle.trickle_timer.specs.declared.timer.Fire.TheVariants as fire
 use Rattle.capsule_exchange.specs.Happenings.{Happening, next_slot}
-use Rattle.world_script.specs.declared.world.World.{World as Script}
-use Rattle.world_script.specs.declared.world.Link.{Link}
-use Rattle.world_script.specs.declared.world.Planned.{Planned}
-use Rattle.world_script.specs.declared.world.What.{What}
-use Rattle.world_script.specs.declared.world.What.TheVariants as what
-use Rattle.world_script.specs.World.{IsRightLink, IsRightPlanned, IsRightWhat, IsRightWorld}
+use Rattle.script_steps.specs.declared.world.World.{World as Script}
+use Rattle.script_steps.specs.declared.world.Link.{Link}
+use Rattle.script_steps.specs.declared.world.Planned.{Planned}
+use Rattle.script_steps.specs.declared.world.What.{What}
+use Rattle.script_steps.specs.declared.world.What.TheVariants as what
+use Rattle.script_steps.specs.World.{IsRightLink, IsRightPlanned, IsRightWhat, IsRightWorld}
 use Rattle.world_rules.specs.Cause.{Cause}
 use Rattle.world_rules.specs.Cause as event
 use Rattle.world_rules.specs.World.{World, PlannedLine, receiver, links_from, handlers, want_of, line_planned, world_of}
@@ -29,7 +29,7 @@ use Rattle.world_rules.specs.State.{Moment, WorldState, Sending, is_lost, sent_b
 use Rattle.world_rules.specs.Run.{HaveCome, stamp_of, airs}
 use Rattle.world_laws.proofs.Points.{among-next}
 use Rattle.world_laws.proofs.Placed.{HasEnds, placed-node, run-placed, script-ends}
-use Rattle.report_text.specs.Tidy.{IsAirInRange}
+use Rattle.report_writer.specs.Tidy.{IsAirInRange}
 use Rattle.world_run_laws.proofs.Stamps.{IsOfEvent}
 
 -- lines, links and noise are in range

@@ -32,7 +32,7 @@ use Rattle.world_laws.proofs.Tame.{of_interval-none, delivered-packet, numbered-
 use Rattle.world_laws.proofs.Installs.{installs_its_own, held_was_installed}
 use Rattle.world_laws.proofs.Injected.{IsOfInjected}
 use Rattle.world_laws.proofs.Versions.{node-hears, IsInjectedWorld, run-injected, installs_injected}
-use Rattle.sim_air.specs.Air.{IsFitPacket, AreFitPackets}
+use Rattle.world_air.specs.Air.{IsFitPacket, AreFitPackets}
 use Rattle.world_run_laws.proofs.Open.{run-none}
 use Rattle.world_run_laws.proofs.Heard.{AreProgramsFit, AreFitHeard, IsFitNode, EachFit, vector-fit, asks-fit, owed-fit}
 use Rattle.world_run_laws.specs.Sound.{HaveFitMessages}

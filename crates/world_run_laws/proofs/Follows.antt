@@ -2,11 +2,11 @@
 use Rattle.std.proofs.Common.{◌≡◌, ◌<◌, ◌≤◌, ℕ, ◌+◌, List, [], ◌∷◌, map, refl, sym, ap, subst, arith}
 use Rattle.std.specs.Prelude.{Option, Some, None, ◌==◌, if◌then◌else◌, slice_get}
 use Rattle.mate_num.specs.declared.bounds.TheConstants.{CONTEXTS_MAX}
-use Rattle.vm_desc.specs.declared.description.Description.{Description}
-use Rattle.vm_desc.specs.declared.handler.Handler.{Handler}
-use Rattle.vm_desc.specs.Contexts.{first_context}
-use Rattle.vm_desc.specs.Whole.{context_count}
-use Rattle.vm_desc.proofs.DescriptionLemmas.{bounds_of, first_context-within}
+use Rattle.vm_shape.specs.declared.description.Description.{Description}
+use Rattle.vm_shape.specs.declared.handler.Handler.{Handler}
+use Rattle.vm_shape.specs.Contexts.{first_context}
+use Rattle.vm_shape.specs.Whole.{context_count}
+use Rattle.vm_shape.proofs.DescriptionLemmas.{bounds_of, first_context-within}
 use Rattle.std.proofs.lemmas.Option.{slice_get_within, get_or_from_slice_get}
 use Rattle.mate_journal.specs.Machine.{Meaning}
 use Rattle.mate_journal.specs.Described.{machine_of, contexts_of}

@@ -7,7 +7,7 @@ use Rattle.std.proofs.lemmas.Bool.{cases_lt, ltb-true}
 use Rattle.std.proofs.lemmas.List.Elements.{All-head, All-tail, All-map, recursion_from_All}
 use Rattle.std.proofs.lemmas.List.FromFn.{length-map-range_with_len}
 use Rattle.arrayvec.specs.ArrayVec.{ArrayVec}
-use Rattle.vm_desc.proofs.DescriptionLemmas.{bounds_of}
+use Rattle.vm_shape.proofs.DescriptionLemmas.{bounds_of}
 use Rattle.capsule_codec.specs.Image.{IsBytes}
 use Rattle.capsule_codec.specs.Fragments.{count_of, piece_len}
 use Rattle.capsule_codec.proofs.ImageLemmas.{part_fits}
@@ -34,7 +34,7 @@ use Rattle.world_laws.proofs.Points.{among-filter_map}
 use Rattle.world_laws.specs.Versions.{InjectsAt, IsOneImage}
 use Rattle.world_laws.proofs.Injected.{HoldsInjected, marked-within}
 use Rattle.world_laws.proofs.Versions.{IsInjectedNode}
-use Rattle.sim_air.specs.Air.{IsFitPacket}
+use Rattle.world_air.specs.Air.{IsFitPacket}
 use Rattle.world_run_laws.proofs.Open.{open-node}
 
 -- what the packets that tell of a program rest on

@@ -14,8 +14,8 @@ use Rattle.mate_journal.specs.declared.entry.Entry.{Entry}
 use Rattle.mate_journal.specs.declared.entry.Entry.TheVariants as entry
 use Rattle.mate_journal.specs.declared.entry.Stamped.{Stamped}
 use Rattle.mate_journal.specs.declared.report.Report.{Report}
-use Rattle.report_text.specs.Tidy.{Mark, log_marks, marks, IsNoEarlier, IsLastSeen, AreOfOneNode}
-use Rattle.report_text.proofs.EventLemmas.{All-of_map}
+use Rattle.report_writer.specs.Tidy.{Mark, log_marks, marks, IsNoEarlier, IsLastSeen, AreOfOneNode}
+use Rattle.report_writer.proofs.EventLemmas.{All-of_map}
 use Rattle.world_rules.specs.World.{World}
 use Rattle.world_rules.specs.Effect.{event_node}
 use Rattle.world_rules.specs.State.{Moment}

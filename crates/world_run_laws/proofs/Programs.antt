@@ -5,8 +5,8 @@ use Rattle.std.specs.Int.{w16, w32, to_be_bytes, byte_at, bytes_high_first}
 use Rattle.mate_num.specs.declared.bounds.TheConstants.{SHORT_CODE}
 use Rattle.std.proofs.lemmas.List.Elements.{All-head, All-tail}
 use Rattle.mate_num.specs.declared.id.HandlerId.{HandlerId}
-use Rattle.vm_desc.specs.declared.description.Description.{Description}
-use Rattle.vm_desc.specs.Shapes.{shape_of}
+use Rattle.vm_shape.specs.declared.description.Description.{Description}
+use Rattle.vm_shape.specs.Shapes.{shape_of}
 use Rattle.mate_code.specs.BytesVerification.{bytes_verification}
 use Rattle.mate_code.specs.Run.{Code}
 use Rattle.mate_code.specs.declared.fault.VerifyFault.{VerifyFault}
@@ -21,10 +21,10 @@ use Rattle.node_programs.specs.ScriptSteps.{held_or_none, program_at}
 use Rattle.capsule_codec.specs.Image.{IsBytes, CapsuleParts, IsCapsule, magic, format_of, capsule_image}
 use Rattle.capsule_codec.specs.Reading.{capsule_in}
 use Rattle.capsule_codec.proofs.ImageLemmas.{capsule_again}
-use Rattle.world_script.specs.declared.world.World.{World as Script}
-use Rattle.world_script.specs.declared.world.Planned.{Planned}
-use Rattle.world_script.specs.declared.world.What.{What}
-use Rattle.world_script.specs.declared.world.What.TheVariants as what
+use Rattle.script_steps.specs.declared.world.World.{World as Script}
+use Rattle.script_steps.specs.declared.world.Planned.{Planned}
+use Rattle.script_steps.specs.declared.world.What.{What}
+use Rattle.script_steps.specs.declared.world.What.TheVariants as what
 use Rattle.world_rules.specs.World.{PlannedLine, Inject, want_of, line_planned}
 use Rattle.mate_num.proofs.ListLemmas.{all-at}
 use Rattle.world_laws.specs.Versions.{InjectsAt}

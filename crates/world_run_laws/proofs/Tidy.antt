@@ -2,16 +2,16 @@
 use Rattle.std.proofs.Common.{◌≡◌, ℕ, ◌+◌, ◌<◌, ◌≤◌, length, sym, subst, arith}
 use Rattle.std.specs.Prelude.{All, IsSomeAnd, slice_get}
 use Rattle.std.proofs.lemmas.List.Elements.{All-same, All-weaker}
-use Rattle.vm_desc.specs.declared.description.Description.{Description}
+use Rattle.vm_shape.specs.declared.description.Description.{Description}
 use Rattle.mate_journal.specs.Machine.{HeldProgram, Meaning}
 use Rattle.mate_journal.specs.NodeScript.{RunEnd}
 use Rattle.mate_journal.specs.Tidy.{EventsRise, IsTidyLog, HasFullImages}
 use Rattle.mate_journal.specs.declared.air.Aired.{Aired}
 use Rattle.mate_journal.specs.declared.report.Report.{Report}
-use Rattle.report_text.specs.Progress.{air_event}
-use Rattle.report_text.specs.Tidy.{IsTidy, IsAirInRange, AirNodesRise, Mark, marks, IsNoEarlier, AreOfOneNode}
-use Rattle.world_script.specs.declared.world.World.{World as Script}
-use Rattle.world_script.specs.World.{IsRightWorld}
+use Rattle.report_writer.specs.Progress.{air_event}
+use Rattle.report_writer.specs.Tidy.{IsTidy, IsAirInRange, AirNodesRise, Mark, marks, IsNoEarlier, AreOfOneNode}
+use Rattle.script_steps.specs.declared.world.World.{World as Script}
+use Rattle.script_steps.specs.World.{IsRightWorld}
 use Rattle.world_rules.specs.World.{World, world_of}
 use Rattle.world_rules.specs.Run.{airs}
 use Rattle.world_rules.specs.Report.{IsWorldReport, IsLogOf}

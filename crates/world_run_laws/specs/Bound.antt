@@ -1,8 +1,8 @@
 -- The hop bound, over the lines of a world's script and the journals of its report.
 use Rattle.std.specs.Prelude.{◌≡◌, ◌≢◌, ℕ, ◌+◌, ◌*◌, ◌<◌, ◌≤◌, true, List, ◌∷◌, ◌++◌, Contains, Some, slice_get, IsSomeAnd}
 use Rattle.mate_num.specs.declared.id.HandlerId.{HandlerId}
-use Rattle.vm_desc.specs.declared.description.Description.{Description}
-use Rattle.vm_desc.specs.Limits.{longest}
+use Rattle.vm_shape.specs.declared.description.Description.{Description}
+use Rattle.vm_shape.specs.Limits.{longest}
 use Rattle.mate_journal.specs.Log.{Log}
 use Rattle.mate_journal.specs.Machine.{Machine, HeldProgram}
 use Rattle.mate_journal.specs.Journal.{Installed, TimedEntry, NodeState, held, next_state, state_after_all, first_state, journal_of, AtEachPlace}
@@ -10,10 +10,10 @@ use Rattle.mate_journal.specs.NodeScript.{RunEnd}
 use Rattle.mate_journal.specs.declared.air.Aired.{Aired}
 use Rattle.mate_journal.specs.declared.program.Program.{Program}
 use Rattle.mate_journal.specs.declared.report.Report.{Report}
-use Rattle.world_script.specs.declared.world.World.{World as Script}
-use Rattle.world_script.specs.declared.world.Planned.{Planned}
-use Rattle.world_script.specs.declared.world.What.TheVariants as what
-use Rattle.world_script.specs.World.{IfInjects}
+use Rattle.script_steps.specs.declared.world.World.{World as Script}
+use Rattle.script_steps.specs.declared.world.Planned.{Planned}
+use Rattle.script_steps.specs.declared.world.What.TheVariants as what
+use Rattle.script_steps.specs.World.{IfInjects}
 use Rattle.world_rules.specs.Report.{IsWorldReport}
 use Rattle.world_laws.specs.PacketRecords.{HasReached}
 use Rattle.world_laws.specs.Hops.{IsAway}

@@ -11,14 +11,14 @@ use Rattle.node_calls.specs.Installing.{IsRightCapsule, program_by}
 use Rattle.capsule_codec.specs.Image.{CapsuleParts}
 use Rattle.node_programs.specs.ScriptSteps.{program_at}
 use Rattle.capsule_exchange.specs.Happenings.{held_version}
-use Rattle.vm_desc.specs.declared.description.Description.{Description}
-use Rattle.vm_desc.specs.Shapes.{shape_of}
-use Rattle.world_script.specs.declared.world.World.{World as Script}
+use Rattle.vm_shape.specs.declared.description.Description.{Description}
+use Rattle.vm_shape.specs.Shapes.{shape_of}
+use Rattle.script_steps.specs.declared.world.World.{World as Script}
 use Rattle.world_rules.specs.Cause.{Cause}
 use Rattle.world_rules.specs.Cause as event
 use Rattle.world_rules.specs.World.{World, world_of}
 use Rattle.world_rules.specs.Effect.{Node, Installing, node_effect}
-use Rattle.sim_air.specs.Air.{IsFitPacket}
+use Rattle.world_air.specs.Air.{IsFitPacket}
 
 -- the world of a script with its programs, whose nodes run the programs' code
 abbrev pub code_world : Description → Script → List Program → World

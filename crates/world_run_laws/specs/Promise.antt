@@ -1,6 +1,6 @@
 -- What a run promises of the report of a world.
 use Rattle.std.specs.Prelude.{List, Result, Ok, Err, All}
-use Rattle.vm_desc.specs.declared.description.Description.{Description}
+use Rattle.vm_shape.specs.declared.description.Description.{Description}
 use Rattle.mate_journal.specs.Log.{Log}
 use Rattle.mate_journal.specs.Journal.{journal_of, first_state}
 use Rattle.mate_journal.specs.NodeScript.{RunEnd, Whole, Full}
@@ -12,8 +12,8 @@ use Rattle.mate_journal.specs.declared.report.RunFault.TheVariants.{LogFull, NoM
 use Rattle.journal_laws.specs.Apart.{EndAsPosted}
 use Rattle.journal_laws.specs.Progress.{IsNeverStuck}
 use Rattle.node_programs.specs.WorldPrograms.{AreProgramsOfWorld}
-use Rattle.report_text.specs.Tidy.{IsTidy}
-use Rattle.world_script.specs.declared.world.World.{World as Script}
+use Rattle.report_writer.specs.Tidy.{IsTidy}
+use Rattle.script_steps.specs.declared.world.World.{World as Script}
 use Rattle.world_rules.specs.Report.{IsWorldReport}
 use Rattle.world_run_laws.specs.SourceWorld.{source_world}
 use Rattle.world_run_laws.specs.Bound.{KeepsTheBound}

@@ -10,7 +10,7 @@ use Rattle.world_rules.specs.World.{World, handlers}
 use Rattle.world_rules.specs.Effect.{Node, event_node}
 use Rattle.world_rules.specs.State.{Moment, messages, state}
 use Rattle.world_rules.specs.Run.{IsNext, HaveCome, journal}
-use Rattle.sim_air.specs.Air.{AreFitPackets}
+use Rattle.world_air.specs.Air.{AreFitPackets}
 use Rattle.world_laws.specs.Times.{last_time}
 use Rattle.world_run_laws.specs.Coming.{MayComeTo}
 

@@ -2,15 +2,15 @@
 
 ghost use Rattle.world_run_laws.specs.Bound.{ReportsKeepTheBound, ReportsShowTheBound, ShownIsReached};
 ghost use Rattle.std.specs.Prelude.{ℕ};
-ghost use Rattle.vm_desc.specs.declared.description.Description.{Description};
+ghost use Rattle.vm_shape.specs.declared.description.Description.{Description};
 ghost use Rattle.mate_journal.specs.Machine.{HeldProgram, Meaning};
 ghost use Rattle.mate_journal.specs.NodeScript.{RunEnd};
 ghost use Rattle.mate_journal.specs.declared.report.Report.{Report};
-ghost use Rattle.world_script.specs.declared.world.World.{World as Script};
-ghost use Rattle.world_script.specs.World.{IsRightWorld};
+ghost use Rattle.script_steps.specs.declared.world.World.{World as Script};
+ghost use Rattle.script_steps.specs.World.{IsRightWorld};
 ghost use Rattle.world_rules.specs.World.{world_of};
 ghost use Rattle.world_rules.specs.Report.{IsWorldReport};
-ghost use Rattle.report_text.specs.Tidy.{IsTidy};
+ghost use Rattle.report_writer.specs.Tidy.{IsTidy};
 
 /// Where suppression is off and no link loses a packet, let a line of the script inject a version on a node, and let another
 /// node be so many hops away. Let no line behind it reset a node or inject for the handler for three times the longest interval

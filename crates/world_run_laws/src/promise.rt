@@ -1,13 +1,13 @@
 //! What is promised of a report holds of each.
 
 ghost use Rattle.std.specs.Prelude.{List};
-ghost use Rattle.vm_desc.specs.declared.description.Description.{Description};
+ghost use Rattle.vm_shape.specs.declared.description.Description.{Description};
 ghost use Rattle.mate_journal.specs.NodeScript.{RunEnd};
 ghost use Rattle.mate_journal.specs.Ranges.{HasReportRanges};
 ghost use Rattle.mate_journal.specs.declared.program.Program.{Program};
 ghost use Rattle.mate_journal.specs.declared.report.Report.{Report};
 ghost use Rattle.node_programs.specs.WorldPrograms.{AreProgramsOfWorld};
-ghost use Rattle.world_script.specs.declared.world.World.{World as Script};
+ghost use Rattle.script_steps.specs.declared.world.World.{World as Script};
 ghost use Rattle.world_rules.specs.Report.{IsWorldReport};
 ghost use Rattle.world_run_laws.specs.Coming.{code_world};
 ghost use Rattle.world_run_laws.specs.Promise.{IsReportOfWorld};

@@ -1,9 +1,9 @@
 //! What stands between the events of a world: whatever comes next finds what it needs. And what its report says by code, said by sources.
 
 ghost use Rattle.std.specs.Prelude.{List};
-ghost use Rattle.vm_desc.specs.declared.description.Description.{Description};
+ghost use Rattle.vm_shape.specs.declared.description.Description.{Description};
 ghost use Rattle.mate_journal.specs.declared.program.Program.{Program};
-ghost use Rattle.world_script.specs.declared.world.World.{World as Script};
+ghost use Rattle.script_steps.specs.declared.world.World.{World as Script};
 ghost use Rattle.world_laws.specs.Premises.{IsRightScript};
 ghost use Rattle.node_programs.specs.ScriptSteps.{program_at};
 ghost use Rattle.world_run_laws.specs.Coming.{code_world};

@@ -7,29 +7,29 @@ use Rattle.std.proofs.lemmas.List.{length-set, take-append-le}
 use Rattle.std.proofs.lemmas.Option.{slice_get-get_or}
 use Rattle.event_queue.proofs.WheelLemmas.{slice_get_set_same, slice_get_set_other}
 use Rattle.mate_num.specs.declared.call.Stamp.{Stamp}
-use Rattle.vm_desc.specs.declared.description.Description.{Description}
+use Rattle.vm_shape.specs.declared.description.Description.{Description}
 use Rattle.mate_journal.specs.Log.{IsEmpty}
 use Rattle.mate_journal.specs.OpenLog.{Gone}
 use Rattle.mate_journal.specs.declared.entry.Stamped.{Stamped}
 use Rattle.radio_sim.specs.Radio.{Ether}
-use Rattle.report_text.specs.Runs.{IsRunSummary}
-use Rattle.report_text.specs.Summary.{IsNewTally}
-use Rattle.report_text.specs.Tally.{IsLogTally, AreLogTallies, IsAirTally, IsUpTo, IsAirTallyUpTo}
-use Rattle.report_text.specs.declared.summary.RunTally.{RunTally}
-use Rattle.report_text.specs.declared.summary.Summary.{Summary}
-use Rattle.report_text.specs.declared.tally.LogTally.{LogTally}
-use Rattle.report_text.proofs.TallyLemmas.{tally-same, tally-few, up-to, air-same, air-few}
-use Rattle.report_text.specs.Writing.{OfRun, IsEnded}
+use Rattle.report_writer.specs.Runs.{IsRunSummary}
+use Rattle.report_writer.specs.Summary.{IsNewTally}
+use Rattle.report_writer.specs.Tally.{IsLogTally, AreLogTallies, IsAirTally, IsUpTo, IsAirTallyUpTo}
+use Rattle.report_writer.specs.declared.summary.RunTally.{RunTally}
+use Rattle.report_writer.specs.declared.summary.Summary.{Summary}
+use Rattle.report_writer.specs.declared.tally.LogTally.{LogTally}
+use Rattle.report_writer.proofs.TallyLemmas.{tally-same, tally-few, up-to, air-same, air-few}
+use Rattle.report_writer.specs.Writing.{OfRun, IsEnded}
 use Rattle.mate_num.proofs.ListLemmas.{all-at}
 use Rattle.world_rules.specs.World.{World}
 use Rattle.world_rules.specs.State.{Moment}
-use Rattle.sim_state.specs.declared.mote.Mote.{Mote}
+use Rattle.world_state.specs.declared.mote.Mote.{Mote}
 use Rattle.world_laws.specs.EventText.{ShowTheirStores}
-use Rattle.sim_state.specs.Keeping.{IsWhole, HaveForgotten, LetsGo}
-use Rattle.sim_state.specs.Reporting.{ShowStores, mote_logs, told_report}
-use Rattle.sim_state.specs.Telling.{AddsEvent}
-use Rattle.sim_state.specs.declared.simulation.Simulation.{Simulation}
-use Rattle.sim_state.proofs.MotesLemmas.{first-mote, at-mote}
+use Rattle.world_state.specs.Keeping.{IsWhole, HaveForgotten, LetsGo}
+use Rattle.world_state.specs.Reporting.{ShowStores, mote_logs, told_report}
+use Rattle.world_state.specs.Telling.{AddsEvent}
+use Rattle.world_state.specs.declared.simulation.Simulation.{Simulation}
+use Rattle.world_state.proofs.MotesLemmas.{first-mote, at-mote}
 use Rattle.world_runs.specs.Counting.{IsCounted, IsCountedBehind, CountsHand, AreCounted, IsTallied, IsTalliedBefore, IsSmallTally, MayCount}
 use Rattle.world_runs.proofs.HandLemmas.{at-hand-now}
 use Rattle.world_runs.proofs.RecordingLemmas.{mote-low, one-mote, store-behind}

@@ -16,37 +16,37 @@ use Rattle.mate_journal.specs.Tidy.{NumbersInOrder, below}
 use Rattle.mate_files.specs.Sink.{Puts}
 use Rattle.mate_files.specs.declared.sink.SinkFault.{SinkFault}
 use Rattle.world_runs.specs.declared.record.Record.{Record}
-use Rattle.report_text.specs.Writing.{HasWritten, PutsLastLine, WritesReport, lines_before, last_line, write_fault_of}
-use Rattle.report_text.specs.declared.pass.Pass.{Pass}
-use Rattle.report_text.specs.declared.write_fault.WriteFault.{WriteFault}
-use Rattle.report_text.proofs.WritingLemmas.{written-nothing, written-more, stopped-within, ended-whole}
+use Rattle.report_writer.specs.Writing.{HasWritten, PutsLastLine, WritesReport, lines_before, last_line, write_fault_of}
+use Rattle.report_writer.specs.declared.pass.Pass.{Pass}
+use Rattle.report_writer.specs.declared.write_fault.WriteFault.{WriteFault}
+use Rattle.report_writer.proofs.WritingLemmas.{written-nothing, written-more, stopped-within, ended-whole}
 use Rattle.mate_journal.specs.declared.air.Aired.{Aired}
 use Rattle.mate_journal.specs.declared.report.Report.{Report}
 use Rattle.mate_journal.specs.declared.program.Program.{Program}
-use Rattle.report_text.specs.Text.{lines, event_lines, event_piece}
-use Rattle.vm_desc.specs.declared.description.Description.{Description}
+use Rattle.report_writer.specs.Text.{lines, event_lines, event_piece}
+use Rattle.vm_shape.specs.declared.description.Description.{Description}
 use Rattle.mate_num.proofs.ListLemmas.{all-at}
 use Rattle.world_rules.specs.World.{World}
 use Rattle.world_rules.specs.State.{Moment}
 use Rattle.world_rules.specs.Run.{journal, airs, IsJournalOf}
 use Rattle.world_rules.specs.Report.{IsWorldReport}
 use Rattle.world_laws.specs.EventText.{so_far, TellJournals, ShowTheirStores, StartsWithIntervals, StoresAddTheirLines, store_lines}
-use Rattle.sim_state.specs.Reporting.{mote_logs, told_report, ShowStores}
-use Rattle.world_script.specs.declared.world.World.{World as Script}
+use Rattle.world_state.specs.Reporting.{mote_logs, told_report, ShowStores}
+use Rattle.script_steps.specs.declared.world.World.{World as Script}
 use Rattle.world_run_laws.specs.Coming.{code_world}
-use Rattle.sim_state.specs.StandingAfter.{IsMoteAfter}
-use Rattle.sim_state.specs.declared.mote.Mote.{Mote}
-use Rattle.sim_state.specs.Running.{StandsAfter}
-use Rattle.sim_state.specs.Keeping.{IsWhole, HaveForgotten}
-use Rattle.sim_state.specs.Ranging.{AreInRange}
-use Rattle.sim_state.proofs.RangeLemmas.{shown-ranges, forgotten-ranges}
-use Rattle.sim_state.specs.Telling.{report_now, LogsAreKept}
+use Rattle.world_state.specs.StandingAfter.{IsMoteAfter}
+use Rattle.world_state.specs.declared.mote.Mote.{Mote}
+use Rattle.world_state.specs.Running.{StandsAfter}
+use Rattle.world_state.specs.Keeping.{IsWhole, HaveForgotten}
+use Rattle.world_state.specs.Ranging.{AreInRange}
+use Rattle.world_state.proofs.RangeLemmas.{shown-ranges, forgotten-ranges}
+use Rattle.world_state.specs.Telling.{report_now, LogsAreKept}
 use Rattle.world_runs.specs.Recording.{IsRecorded}
 use Rattle.world_runs.specs.Writing.{HasWrittenNow, StandsAtEnd, WritesRecorded}
-use Rattle.sim_state.specs.declared.simulation.Simulation.{Simulation}
-use Rattle.sim_state.proofs.WorldLemmas.{some-at, of-machine, shown-machine, whole-log, whole-report}
-use Rattle.sim_state.proofs.MotesLemmas.{log-at, long-logs, first-mote, tell, keeps-all}
-use Rattle.sim_state.proofs.KeepingLemmas.{forgotten-motes, forgotten-kept}
+use Rattle.world_state.specs.declared.simulation.Simulation.{Simulation}
+use Rattle.world_state.proofs.WorldLemmas.{some-at, of-machine, shown-machine, whole-log, whole-report}
+use Rattle.world_state.proofs.MotesLemmas.{log-at, long-logs, first-mote, tell, keeps-all}
+use Rattle.world_state.proofs.KeepingLemmas.{forgotten-motes, forgotten-kept}
 use Rattle.world_runs.proofs.WritingLemmas.{cut-report}
 use Rattle.world_runs.proofs.RecordingLemmas.{long-journal}
 

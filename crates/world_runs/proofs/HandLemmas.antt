@@ -3,24 +3,24 @@ use Rattle.std.proofs.Common.{◌≡◌, ◌<◌, ◌+◌, ◌-◌, ℕ, List, [
 use Rattle.std.specs.Prelude.{slice_get, unwrap_or}
 use Rattle.std.specs.List.{AllZip}
 use Rattle.std.proofs.lemmas.List.{length-set}
-use Rattle.vm_desc.specs.declared.description.Description.{Description}
+use Rattle.vm_shape.specs.declared.description.Description.{Description}
 use Rattle.mate_files.specs.Sink.{Puts}
 use Rattle.mate_files.specs.declared.sink.SinkFault.{SinkFault}
 use Rattle.mate_journal.specs.Log.{Log, IsSameLog}
 use Rattle.mate_journal.specs.OpenLog.{Gone, OpenView, IsKept}
 use Rattle.mate_journal.specs.declared.entry.Stamped.{Stamped}
-use Rattle.open_node.proofs.KeptLemmas.{count-kept}
+use Rattle.node_open.proofs.KeptLemmas.{count-kept}
 use Rattle.radio_sim.specs.Radio.{Ether}
-use Rattle.report_reading.proofs.BackLemmas.{all_lines_same}
-use Rattle.report_text.specs.Text.{event_piece, lines}
-use Rattle.report_text.proofs.KeptLines.{piece-kept}
-use Rattle.report_text.proofs.WritingLemmas.{written-as}
-use Rattle.sim_state.specs.declared.mote.Mote.{Mote}
-use Rattle.sim_state.specs.Keeping.{LetsGo}
-use Rattle.sim_state.specs.Reporting.{mote_logs}
-use Rattle.sim_state.specs.Telling.{report_now, AddsEvent}
+use Rattle.report_text.proofs.BackLemmas.{all_lines_same}
+use Rattle.report_writer.specs.Text.{event_piece, lines}
+use Rattle.report_writer.proofs.KeptLines.{piece-kept}
+use Rattle.report_writer.proofs.WritingLemmas.{written-as}
+use Rattle.world_state.specs.declared.mote.Mote.{Mote}
+use Rattle.world_state.specs.Keeping.{LetsGo}
+use Rattle.world_state.specs.Reporting.{mote_logs}
+use Rattle.world_state.specs.Telling.{report_now, AddsEvent}
 use Rattle.world_runs.specs.Writing.{HasWrittenNow}
-use Rattle.sim_state.specs.declared.simulation.Simulation.{Simulation}
+use Rattle.world_state.specs.declared.simulation.Simulation.{Simulation}
 use Rattle.event_queue.proofs.WheelLemmas.{slice_get_set_same}
 use Rattle.world_runs.proofs.RecordingLemmas.{go-logs}
 

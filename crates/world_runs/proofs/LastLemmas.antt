@@ -4,8 +4,8 @@ use Rattle.mate_files.specs.Sink.{Puts}
 use Rattle.mate_files.specs.declared.sink.SinkFault.TheVariants.{NoMemory}
 use Rattle.mate_files.proofs.SinkLemmas.{SentPart-nil, SentShort-nil}
 use Rattle.mate_journal.specs.declared.report.Report.{Report}
-use Rattle.report_text.specs.Text.{end_line, records}
-use Rattle.report_text.specs.Writing.{last_line}
+use Rattle.report_writer.specs.Text.{end_line, records}
+use Rattle.report_writer.specs.Writing.{last_line}
 
 some_bytes : (records events nodes : ℕ) (whole : Bool) → 0 < length (end_line records events nodes whole)
 some_bytes records events nodes true = grind arith

@@ -3,19 +3,19 @@ use Rattle.std.proofs.Common.{ℕ, List, Option, refl}
 use Rattle.mate_journal.specs.NodeScript.{RunEnd}
 use Rattle.mate_journal.specs.Ranges.{HasReportRanges}
 use Rattle.mate_journal.specs.declared.report.Report.{Report}
-use Rattle.report_reading.specs.Parts.{IsSameReport}
+use Rattle.report_text.specs.Parts.{IsSameReport}
 use Rattle.world_runs.proofs.RecordLemmas.{all-self}
 use Rattle.mate_journal.specs.declared.program.Program.{Program}
 use Rattle.node_programs.specs.WorldPrograms.{AreProgramsOfWorld}
 use Rattle.world_runs.specs.declared.record.Record.{Record}
-use Rattle.report_text.specs.declared.pass.Pass.{Pass}
+use Rattle.report_writer.specs.declared.pass.Pass.{Pass}
 use Rattle.world_run_laws.specs.Promise.{IsReportOfWorld}
-use Rattle.world_script.specs.declared.world.World.{World as Script}
-use Rattle.sim_state.specs.Reporting.{told_report}
+use Rattle.script_steps.specs.declared.world.World.{World as Script}
+use Rattle.world_state.specs.Reporting.{told_report}
 use Rattle.world_run_laws.specs.Coming.{code_world}
 use Rattle.world_runs.specs.Writing.{WritesRecorded}
-use Rattle.report_text.specs.Writing.{WritesRun}
-use Rattle.vm_desc.specs.declared.description.Description.{Description}
+use Rattle.report_writer.specs.Writing.{WritesRun}
+use Rattle.vm_shape.specs.declared.description.Description.{Description}
 use Rattle.world_rules.specs.Report.{IsWorldReport}
 use Rattle.world_runs.proofs.SameLemmas.{gives-as}
 

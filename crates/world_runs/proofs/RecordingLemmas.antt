@@ -21,24 +21,24 @@ use Rattle.mate_journal.specs.declared.air.Aired.{Aired}
 use Rattle.mate_journal.specs.declared.entry.Entry.{Entry}
 use Rattle.mate_journal.specs.declared.entry.Entry.TheVariants as entry
 use Rattle.mate_journal.specs.declared.entry.Stamped.{Stamped}
-use Rattle.report_reading.proofs.TripLemmas.{zip-sym}
+use Rattle.report_text.proofs.TripLemmas.{zip-sym}
 use Rattle.radio_sim.specs.Radio.{Ether}
 use Rattle.world_runs.specs.Records.{HasLog, IsEmptyRecord, IsSameRecord, MayAdd, HasAdded, HaveRoom, HasRoomFor, OthersStay}
 use Rattle.world_runs.specs.declared.record.Record.{Record}
-use Rattle.open_node.proofs.KeptLemmas.{count-kept}
+use Rattle.node_open.proofs.KeptLemmas.{count-kept}
 use Rattle.world_runs.proofs.KeptLemmas.{may-add, adds-whole, joined-whole}
 use Rattle.world_runs.proofs.RecordLemmas.{same-self, same-then, all-self, all-then, all-long, all-set_one, all-at, one-log, joined-as}
 use Rattle.world_rules.specs.World.{World}
 use Rattle.world_rules.specs.State.{Moment}
 use Rattle.world_rules.specs.Run.{journal}
-use Rattle.sim_state.specs.declared.mote.Mote.{Mote}
+use Rattle.world_state.specs.declared.mote.Mote.{Mote}
 use Rattle.world_laws.specs.EventText.{ShowTheirStores}
-use Rattle.sim_state.specs.Keeping.{IsWhole, HaveForgotten, LetsGo}
-use Rattle.sim_state.specs.Reporting.{ShowStores, mote_logs}
-use Rattle.sim_state.specs.Telling.{AddsEvent}
-use Rattle.sim_state.specs.declared.simulation.Simulation.{Simulation}
-use Rattle.sim_state.proofs.MotesLemmas.{long-logs, set-log, first-mote, at-mote}
-use Rattle.sim_state.proofs.KeepingLemmas.{alike}
+use Rattle.world_state.specs.Keeping.{IsWhole, HaveForgotten, LetsGo}
+use Rattle.world_state.specs.Reporting.{ShowStores, mote_logs}
+use Rattle.world_state.specs.Telling.{AddsEvent}
+use Rattle.world_state.specs.declared.simulation.Simulation.{Simulation}
+use Rattle.world_state.proofs.MotesLemmas.{long-logs, set-log, first-mote, at-mote}
+use Rattle.world_state.proofs.KeepingLemmas.{alike}
 use Rattle.world_runs.specs.Recording.{IsRecordOf, IsRecordBefore, HasStoreBehind, HaveStoresBehind, IsRecorded, IsRecordedBefore, AreStoresBefore, AreStoresRecorded, StaysRecorded}
 
 -- ---- lists of logs that are the same but for their room

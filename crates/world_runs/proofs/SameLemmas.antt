@@ -11,19 +11,19 @@ use Rattle.mate_journal.specs.Tidy.{below}
 use Rattle.mate_journal.specs.declared.air.Aired.{Aired}
 use Rattle.mate_journal.specs.declared.report.Report.{Report}
 use Rattle.journal_laws.proofs.GrowthLemmas.{same-ranges}
-use Rattle.report_reading.specs.Parts.{IsSameReport}
-use Rattle.report_reading.proofs.BackLemmas.{all_lines_same, text_same}
-use Rattle.report_text.specs.Text.{air_line, entry_lines, event_lines}
+use Rattle.report_text.specs.Parts.{IsSameReport}
+use Rattle.report_text.proofs.BackLemmas.{all_lines_same, text_same}
+use Rattle.report_writer.specs.Text.{air_line, entry_lines, event_lines}
 use Rattle.world_runs.proofs.RecordLemmas.{all-long}
-use Rattle.report_text.specs.Writing.{OfRun, IsWrittenPart, IsWrittenShort, IsNothingRun, WritesReport, last_event, lines_before, written_text}
-use Rattle.report_text.specs.declared.write_fault.WriteFault.{WriteFault}
-use Rattle.report_text.specs.declared.write_fault.WriteFault.TheVariants.{LogFull, NoMemory, Sink}
-use Rattle.report_reading.proofs.BackLemmas.{node_lines-same}
-use Rattle.vm_desc.specs.declared.description.Description.{Description}
+use Rattle.report_writer.specs.Writing.{OfRun, IsWrittenPart, IsWrittenShort, IsNothingRun, WritesReport, last_event, lines_before, written_text}
+use Rattle.report_writer.specs.declared.write_fault.WriteFault.{WriteFault}
+use Rattle.report_writer.specs.declared.write_fault.WriteFault.TheVariants.{LogFull, NoMemory, Sink}
+use Rattle.report_text.proofs.BackLemmas.{node_lines-same}
+use Rattle.vm_shape.specs.declared.description.Description.{Description}
 use Rattle.world_rules.specs.World.{World}
 use Rattle.world_rules.specs.State.{Moment}
 use Rattle.world_rules.specs.Report.{IsLogOf, IsWorldReport}
-use Rattle.sim_state.proofs.KeepingLemmas.{alike, tidy-as}
+use Rattle.world_state.proofs.KeepingLemmas.{alike, tidy-as}
 
 -- ---- it is a report of the same run
 

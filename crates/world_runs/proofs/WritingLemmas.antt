@@ -10,38 +10,38 @@ use Rattle.mate_journal.specs.Tidy.{below}
 use Rattle.mate_files.specs.Sink.{Puts}
 use Rattle.mate_files.specs.declared.sink.SinkFault.{SinkFault}
 use Rattle.world_runs.specs.declared.record.Record.{Record}
-use Rattle.report_text.specs.Writing.{OfRun, PutsLastLine, lines_before, write_fault_of}
-use Rattle.report_text.specs.declared.pass.Pass.{Pass}
-use Rattle.report_text.specs.declared.write_fault.WriteFault.{WriteFault}
-use Rattle.report_text.specs.declared.write_fault.WriteFault.TheVariants.{NoMemory}
-use Rattle.report_text.proofs.WritingLemmas.{written-more, stopped-within, cut-short, ended-full}
+use Rattle.report_writer.specs.Writing.{OfRun, PutsLastLine, lines_before, write_fault_of}
+use Rattle.report_writer.specs.declared.pass.Pass.{Pass}
+use Rattle.report_writer.specs.declared.write_fault.WriteFault.{WriteFault}
+use Rattle.report_writer.specs.declared.write_fault.WriteFault.TheVariants.{NoMemory}
+use Rattle.report_writer.proofs.WritingLemmas.{written-more, stopped-within, cut-short, ended-full}
 use Rattle.world_laws.proofs.EventLemmas.{all_stand, store_lines-next, store_lines-both}
 use Rattle.mate_journal.specs.declared.air.Aired.{Aired}
 use Rattle.mate_journal.specs.declared.program.Program.{Program}
 use Rattle.mate_journal.specs.declared.report.Report.{Report}
 use Rattle.node_state.specs.Meaning.{machine_in}
-use Rattle.open_node.specs.Journal.{KeepsJournal}
-use Rattle.report_text.specs.Text.{lines, event_lines, event_piece}
-use Rattle.vm_desc.specs.declared.description.Description.{Description}
+use Rattle.node_open.specs.Journal.{KeepsJournal}
+use Rattle.report_writer.specs.Text.{lines, event_lines, event_piece}
+use Rattle.vm_shape.specs.declared.description.Description.{Description}
 use Rattle.world_rules.specs.World.{World}
 use Rattle.world_rules.specs.State.{Moment, state}
 use Rattle.world_rules.specs.Run.{HaveCome, IsAtEnd, airs, journal}
 use Rattle.world_rules.specs.Report.{IsLogOf, IsWorldReport}
-use Rattle.world_script.specs.declared.world.World.{World as Script}
+use Rattle.script_steps.specs.declared.world.World.{World as Script}
 use Rattle.world_run_laws.specs.Coming.{code_world}
-use Rattle.sim_state.specs.StandingAfter.{IsMoteAfter}
-use Rattle.sim_state.specs.declared.mote.Mote.{Mote}
+use Rattle.world_state.specs.StandingAfter.{IsMoteAfter}
+use Rattle.world_state.specs.declared.mote.Mote.{Mote}
 use Rattle.world_laws.specs.EventText.{so_far, TellJournals, store_lines}
-use Rattle.sim_state.specs.Reporting.{mote_logs, told_report}
-use Rattle.sim_state.specs.Ranging.{AreInRange}
-use Rattle.sim_state.specs.Running.{StandsAfter}
-use Rattle.sim_state.specs.Telling.{report_now, LogsAreKept, AddsEvent}
-use Rattle.sim_state.proofs.RangeLemmas.{report-ranges}
-use Rattle.sim_state.proofs.MotesLemmas.{log-at, long-logs, first-mote, tell, keeps-all}
+use Rattle.world_state.specs.Reporting.{mote_logs, told_report}
+use Rattle.world_state.specs.Ranging.{AreInRange}
+use Rattle.world_state.specs.Running.{StandsAfter}
+use Rattle.world_state.specs.Telling.{report_now, LogsAreKept, AddsEvent}
+use Rattle.world_state.proofs.RangeLemmas.{report-ranges}
+use Rattle.world_state.proofs.MotesLemmas.{log-at, long-logs, first-mote, tell, keeps-all}
 use Rattle.world_runs.specs.Recording.{IsRecorded}
 use Rattle.world_runs.specs.Writing.{HasWrittenNow, StandsAtEnd, WritesRecorded}
-use Rattle.sim_state.specs.declared.simulation.Simulation.{Simulation}
-use Rattle.sim_state.proofs.WorldLemmas.{some-at, of-machine, full-report}
+use Rattle.world_state.specs.declared.simulation.Simulation.{Simulation}
+use Rattle.world_state.proofs.WorldLemmas.{some-at, of-machine, full-report}
 
 -- ---- the report of what stands
 

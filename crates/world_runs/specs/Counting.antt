@@ -1,14 +1,14 @@
 -- The run of a world that is counted as its events end.
 use Rattle.std.specs.Prelude.{◌≡◌, ◌≢◌, ◌+◌, ◌*◌, ◌^◌, ℕ, List, length, take, slice_get, Some, All}
-use Rattle.report_text.specs.Tally.{IsLogTally, IsAirTally, IsUpTo, IsAirTallyUpTo}
-use Rattle.report_text.specs.declared.summary.RunTally.{RunTally}
-use Rattle.report_text.specs.declared.tally.LogTally.{LogTally}
+use Rattle.report_writer.specs.Tally.{IsLogTally, IsAirTally, IsUpTo, IsAirTallyUpTo}
+use Rattle.report_writer.specs.declared.summary.RunTally.{RunTally}
+use Rattle.report_writer.specs.declared.tally.LogTally.{LogTally}
 use Rattle.world_rules.specs.World.{World}
-use Rattle.sim_state.specs.declared.mote.Mote.{Mote}
-use Rattle.sim_state.specs.Ranging.{AreInRange}
-use Rattle.sim_state.specs.Running.{StandsAfter}
-use Rattle.sim_state.specs.Telling.{LogsAreKept}
-use Rattle.sim_state.specs.declared.simulation.Simulation.{Simulation}
+use Rattle.world_state.specs.declared.mote.Mote.{Mote}
+use Rattle.world_state.specs.Ranging.{AreInRange}
+use Rattle.world_state.specs.Running.{StandsAfter}
+use Rattle.world_state.specs.Telling.{LogsAreKept}
+use Rattle.world_state.specs.declared.simulation.Simulation.{Simulation}
 
 -- all that the node recorded was counted, for n handlers; or all but what it has at hand
 abbrev pub IsCounted : ℕ → LogTally → Mote → Type 0

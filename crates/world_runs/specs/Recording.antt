@@ -8,9 +8,9 @@ use Rattle.mate_journal.specs.declared.air.Aired.{Aired}
 use Rattle.mate_journal.specs.declared.report.TheConstants.{ENTRIES_MAX}
 use Rattle.world_runs.specs.Records.{HasLog, IsSameRecord}
 use Rattle.world_runs.specs.declared.record.Record.{Record}
-use Rattle.sim_state.specs.declared.mote.Mote.{Mote}
-use Rattle.sim_state.specs.Reporting.{mote_logs}
-use Rattle.sim_state.specs.declared.simulation.Simulation.{Simulation}
+use Rattle.world_state.specs.declared.mote.Mote.{Mote}
+use Rattle.world_state.specs.Reporting.{mote_logs}
+use Rattle.world_state.specs.declared.simulation.Simulation.{Simulation}
 
 -- the record has these logs, but for their room, and this air
 pub record IsRecordOf (r : Record) (told : List Log) (aired : List Aired) : Type 0 where

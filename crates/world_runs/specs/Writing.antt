@@ -4,25 +4,25 @@ use Rattle.mate_journal.specs.NodeScript.{RunEnd}
 use Rattle.mate_journal.specs.Ranges.{HasReportRanges}
 use Rattle.mate_journal.specs.declared.air.Aired.{Aired}
 use Rattle.mate_journal.specs.declared.report.Report.{Report}
-use Rattle.report_text.specs.Text.{lines}
+use Rattle.report_writer.specs.Text.{lines}
 use Rattle.world_runs.specs.declared.record.Record.{Record}
-use Rattle.report_text.specs.Writing.{OfRun, HasWritten, WritesReport}
-use Rattle.report_text.specs.declared.pass.Pass.{Pass}
-use Rattle.report_text.specs.declared.write_fault.WriteFault.{WriteFault}
-use Rattle.vm_desc.specs.declared.description.Description.{Description}
+use Rattle.report_writer.specs.Writing.{OfRun, HasWritten, WritesReport}
+use Rattle.report_writer.specs.declared.pass.Pass.{Pass}
+use Rattle.report_writer.specs.declared.write_fault.WriteFault.{WriteFault}
+use Rattle.vm_shape.specs.declared.description.Description.{Description}
 use Rattle.world_rules.specs.World.{World}
 use Rattle.world_rules.specs.State.{Moment, state}
 use Rattle.world_rules.specs.Run.{HaveCome, IsAtEnd, airs}
 use Rattle.world_rules.specs.Report.{IsWorldReport}
-use Rattle.sim_state.specs.StandingAfter.{IsMoteAfter}
-use Rattle.sim_state.specs.Keeping.{IsWhole}
-use Rattle.sim_state.specs.Ranging.{AreInRange}
-use Rattle.sim_state.specs.Reporting.{mote_logs, told_report}
-use Rattle.sim_state.specs.declared.mote.Mote.{Mote}
-use Rattle.sim_state.specs.Telling.{report_now, LogsAreKept}
-use Rattle.sim_state.specs.Running.{StandsAfter}
+use Rattle.world_state.specs.StandingAfter.{IsMoteAfter}
+use Rattle.world_state.specs.Keeping.{IsWhole}
+use Rattle.world_state.specs.Ranging.{AreInRange}
+use Rattle.world_state.specs.Reporting.{mote_logs, told_report}
+use Rattle.world_state.specs.declared.mote.Mote.{Mote}
+use Rattle.world_state.specs.Telling.{report_now, LogsAreKept}
+use Rattle.world_state.specs.Running.{StandsAfter}
 use Rattle.world_runs.specs.Recording.{IsRecorded}
-use Rattle.sim_state.specs.declared.simulation.Simulation.{Simulation}
+use Rattle.world_state.specs.declared.simulation.Simulation.{Simulation}
 
 -- ---- what a part of a run writes
 

@@ -4,14 +4,14 @@ ghost use Rattle.std.specs.Prelude.{◌≡◌, ◌<◌, ◌*◌, ◌^◌, ℕ, l
 ghost use Rattle.mate_journal.specs.Log.{IsEmpty};
 ghost use Rattle.mate_journal.specs.NodeScript.{Whole};
 ghost use Rattle.node_programs.specs.WorldPrograms.{AreProgramsOfWorld};
-ghost use Rattle.report_text.specs.Runs.{IsRunSummary};
-ghost use Rattle.report_text.specs.Tally.{IsUpTo};
+ghost use Rattle.report_writer.specs.Runs.{IsRunSummary};
+ghost use Rattle.report_writer.specs.Tally.{IsUpTo};
 ghost use Rattle.world_run_laws.specs.Promise.{IsReportOfWorld};
-ghost use Rattle.sim_state.specs.Ranging.{AreInRange};
-ghost use Rattle.sim_state.specs.Running.{StandsAfter, StandsAtNext};
-ghost use Rattle.sim_state.specs.Telling.{LogsAreKept};
+ghost use Rattle.world_state.specs.Ranging.{AreInRange};
+ghost use Rattle.world_state.specs.Running.{StandsAfter, StandsAtNext};
+ghost use Rattle.world_state.specs.Telling.{LogsAreKept};
 ghost use Rattle.world_run_laws.specs.Coming.{code_world};
-ghost use Rattle.sim_state.specs.Motes.{plain_effect};
+ghost use Rattle.world_state.specs.Motes.{plain_effect};
 ghost use Rattle.world_runs.specs.Counting.{IsCounted, IsCountedBehind, AreCounted, CountsHand, IsTallied, IsTalliedBefore, IsSmallTally};
 ghost use Rattle.world_runs.specs.Counting.{MayCount, StartsCounted};
 ghost use Rattle.world_runs.specs.Writing.{StandsAtEnd};
@@ -20,14 +20,14 @@ use crate::pieces::logs_are_kept;
 use mate_journal::{NodeLog, Programs, RECORDS_MAX};
 use mate_num::{NoMemory, Stamp};
 use radio_sim::Event;
-use report_text::{LogTally, RunTally, Summary};
-use sim_event::step;
-use sim_state::{Effect, Mote, Simulation, Written, forget_all, may_tell, see_stores};
+use report_writer::{LogTally, RunTally, Summary};
+use script_steps::World;
 use std::alloc::Global;
 use std::mem;
-use vm_desc::Description;
+use vm_shape::Description;
+use world_event::step;
 use world_run_laws::{reports_keep_the_promise, states_are_sound};
-use world_script::World;
+use world_state::{Effect, Mote, Simulation, Written, forget_all, may_tell, see_stores};
 
 /// Runs a world as `run` does, and gives the summary of its report. What a node recorded in an event, and what happened on the air in it,
 /// is counted and then forgotten before the next one, so that a long run takes no more memory than its nodes and its longest event. The

@@ -3,14 +3,14 @@
 ghost use Rattle.std.specs.Prelude.{◌≡◌, ◌<◌, ◌≤◌, length, MatchResult};
 ghost use Rattle.mate_num.specs.declared.bounds.TheConstants.{NODES_MAX};
 ghost use Rattle.world_runs.specs.Records.{IsSameRecord};
-ghost use Rattle.sim_state.specs.Reporting.{mote_logs};
+ghost use Rattle.world_state.specs.Reporting.{mote_logs};
 ghost use Rattle.world_runs.specs.Recording.{IsRecordOf, IsRecordBefore, HaveStoresBehind, IsRecorded, IsRecordedBefore, AreStoresBefore, AreStoresRecorded};
 ghost use Rattle.world_runs.specs.Recording.{StaysRecorded, has_record};
 
 use crate::record::Record;
 use mate_journal::ENTRIES_MAX;
 use mate_num::NoMemory;
-use sim_state::{Mote, Simulation};
+use world_state::{Mote, Simulation};
 
 /// Records what a node and the radio have at hand, if a record is kept. `NoMemory` leaves it as it was, but for its room.
 pub fn record_event(

@@ -2,16 +2,16 @@
 
 ghost use Rattle.std.specs.Prelude.{◌≡◌, ◌≤◌, ◌<◌, ◌+◌, Some, OnOk, Err, false};
 ghost use Rattle.mate_journal.specs.Log.{IsEmpty};
-ghost use Rattle.report_text.specs.Writing.{WritesRun};
+ghost use Rattle.report_writer.specs.Writing.{WritesRun};
 ghost use Rattle.world_rules.specs.Report.{IsWorldReport};
 ghost use Rattle.world_run_laws.specs.Coming.{code_world};
 ghost use Rattle.node_programs.specs.WorldPrograms.{AreProgramsOfWorld};
-ghost use Rattle.sim_state.specs.Motes.{plain_effect};
+ghost use Rattle.world_state.specs.Motes.{plain_effect};
 ghost use Rattle.world_run_laws.specs.Promise.{IsReportOfWorld};
-ghost use Rattle.sim_state.specs.Keeping.{IsWhole};
-ghost use Rattle.sim_state.specs.Ranging.{AreInRange};
-ghost use Rattle.sim_state.specs.Running.{StandsAfter, StandsAtNext};
-ghost use Rattle.sim_state.specs.Telling.{LogsAreKept};
+ghost use Rattle.world_state.specs.Keeping.{IsWhole};
+ghost use Rattle.world_state.specs.Ranging.{AreInRange};
+ghost use Rattle.world_state.specs.Running.{StandsAfter, StandsAtNext};
+ghost use Rattle.world_state.specs.Telling.{LogsAreKept};
 ghost use Rattle.world_runs.specs.Recording.{IsRecorded, has_record};
 ghost use Rattle.world_runs.specs.Writing.{IsStepWritten, WritesRecorded};
 
@@ -23,13 +23,13 @@ use mate_files::Sink;
 use mate_journal::{NodeLog, Programs, RECORDS_MAX};
 use mate_num::Stamp;
 use radio_sim::Event;
-use report_text::{Pass, WriteFault, stopped};
-use sim_event::step;
-use sim_state::{Effect, Simulation, Written, may_tell};
+use report_writer::{Pass, WriteFault, stopped};
+use script_steps::World;
 use std::alloc::Global;
-use vm_desc::Description;
+use vm_shape::Description;
+use world_event::step;
 use world_run_laws::{reports_keep_the_promise, states_are_sound};
-use world_script::World;
+use world_state::{Effect, Simulation, Written, may_tell};
 
 /// Runs a world on nodes of this machine, with the programs of its files, and writes each event's lines when it ends, and then the last
 /// line. After a fault of the sink no further event is begun. No report is kept: what a node recorded in an event, and what happened on

@@ -5,12 +5,12 @@ ghost use Rattle.world_run_laws.specs.Promise.{WorldRunGives};
 
 use mate_journal::{NodeLog, NodeLogs, Programs, RECORDS_MAX, Report, RunFault};
 use mate_num::Stamp;
-use sim_event::step;
-use sim_state::{Effect, Simulation, Written, report_of, see_stores};
+use script_steps::World;
 use std::alloc::Global;
-use vm_desc::Description;
+use vm_shape::Description;
+use world_event::step;
 use world_run_laws::{reports_keep_the_promise, states_are_sound};
-use world_script::World;
+use world_state::{Effect, Simulation, Written, report_of, see_stores};
 
 /// Runs a world on nodes of this machine, with the programs of its files: each event is the next that is due, and at the end
 /// each node's store is seen. `LogFull` comes exactly if there are 1,000,000 records or more and an event is left, with the

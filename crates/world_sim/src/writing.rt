@@ -1,7 +1,7 @@
 //! The run of a world whose lines are written as its events end, and whose report may be handed out.
 
 ghost use Rattle.std.specs.Prelude.{◌≤◌, ◌<◌, Some, IfOk, Err};
-ghost use Rattle.report_text.specs.Writing.{RunsInto};
+ghost use Rattle.report_writer.specs.Writing.{RunsInto};
 ghost use Rattle.node_programs.specs.WorldPrograms.{AreProgramsOfWorld};
 ghost use Rattle.world_runs.specs.Writing.{StartsRecorded};
 ghost use Rattle.world_run_laws.specs.Promise.{IsReportOfWorld};
@@ -10,13 +10,13 @@ ghost use Rattle.world_run_laws.specs.Coming.{code_world};
 use mate_files::Sink;
 use mate_journal::{IntoFault, Programs, Report};
 use mate_num::NoMemory;
-use report_text::nothing_run;
-use sim_state::Simulation;
+use report_writer::nothing_run;
+use script_steps::World;
 use std::alloc::Global;
-use vm_desc::Description;
+use vm_shape::Description;
 use world_run_laws::reports_keep_the_promise;
 use world_runs::{Record, add_event, write_run};
-use world_script::World;
+use world_state::Simulation;
 
 /// The world before its first event, and the record of its start.
 fn start_recorded(

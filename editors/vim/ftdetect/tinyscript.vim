@@ -1,25 +1,34 @@
-" TinyScript sources end in .ts, as TypeScript's do. A file is taken for TinyScript where the first thing in it is a comment of
-" '!' or a line that has words and signs of TinyScript alone, and where no line near the top shows what only TypeScript has.
-autocmd BufRead,BufNewFile *.ts call s:Detect()
+" TinyScript sources end in .ts, as TypeScript's do. A file is taken for TinyScript at its first line that TypeScript can't have, and never
+" where TypeScript can have all its lines, as calls alone. Such a file begins with a comment of a few words, or `:setfiletype tinyscript`
+" says what it is.
+autocmd BufRead,BufNewFile *.ts if s:IsTinyScript(getline(1, 1000)) | setlocal filetype=tinyscript | endif
 
-function! s:Detect() abort
-  let lines = filter(getline(1, 100), 'v:val =~# ''\S''')
-  if empty(lines)
-    return
-  endif
-  if lines[0] =~# '^\s*!'
-    setlocal filetype=tinyscript
-    return
-  endif
-  let first = substitute(lines[0], '!.*$', '', '')
-  let foreign = '\<\(import\|export\|const\|let\|var\|function\|return\|new\|class\|interface\|type\|enum\|declare\|namespace\|abstract\|async\|await\)\>'
-  if first =~# '[^A-Za-z0-9_ \t\r;,()\[\]=<>+*/%-]' || first =~# '//\|/\*\|=>\|==' || first =~# foreign
-    return
-  endif
-  for line in lines
-    if substitute(line, '!.*$', '', '') =~# '[{}''"`]\|=>\|//'
-      return
+let s:name = '[A-Za-z_]\w*'
+" What begins a line in TinyScript alone: a declaration, a procedure, a block whose condition has no parenthesis, a value that is appended
+" to a buffer or taken from it.
+let s:own = '^\s*\%(\%(shared\|private\|buffer\)\s\+' . s:name . '\s*[,;]\|proc\s\+' . s:name . '\s*(\|\%(if\|while\)\s\+[A-Za-z0-9_-]\|for\s\+' . s:name
+      \ . '\s*=\|' . s:name . '\s*\[\s*\]\s*=[^=>]\|' . s:name . '\s*=\s*' . s:name . '\s*\[\s*\]\s*;\)'
+" Words between which TypeScript needs no sign either.
+let s:joins = '\%(\%(in\|of\|as\|is\|instanceof\|satisfies\|extends\|implements\|typeof\|void\|delete\|new\|await\|async\|yield\|function\|class\|keyof\)\>\)'
+" A block's end; behind a `/` it may be a regular expression's.
+let s:end = '^[^/]*\<\%(end\s\+\%(if\|while\|proc\)\>\|next\s\+' . s:joins . '\@!' . s:name . '\s*$\)'
+" A comment of words, since behind TypeScript's `!` no two stand side by side.
+let s:comment = '^\s*![A-Za-z0-9_ \t,.-]\{-}\<' . s:joins . '\@!\a\w*\s\+' . s:joins . '\@!\a\w*\>'
+" Signs that TinyScript hasn't, and words that begin what it hasn't.
+let s:signs = '[^A-Za-z0-9_ \t\r;,()\[\]=<>+*/%-]\|//\|/\*\|=>\|=='
+let s:words = '\<\%(import\|export\|const\|let\|var\|function\|return\|new\|class\|interface\|type\|enum\|declare\|module\|namespace\|abstract\|'
+      \ . 'async\|await\|yield\|throw\|try\|switch\|typeof\|void\|delete\|instanceof\|extends\)\>'
+
+function! s:IsTinyScript(lines) abort
+  for line in a:lines
+    let code = matchstr(line, '^[^!]*')
+    if code =~# s:signs
+      return 0
+    elseif code =~# s:own || code =~# s:end || line =~# s:comment
+      return 1
+    elseif code =~# s:words || strpart(line, strlen(code)) =~# '[`{]\|/\*'
+      return 0
     endif
   endfor
-  setlocal filetype=tinyscript
+  return 0
 endfunction

@@ -3,5 +3,5 @@ if exists('b:did_ftplugin')
   finish
 endif
 let b:did_ftplugin = 1
-setlocal comments=:! commentstring=!\ %s
-let b:undo_ftplugin = 'setlocal comments< commentstring<'
+setlocal comments=:! commentstring=!\ %s formatoptions-=t formatoptions+=croql
+let b:undo_ftplugin = 'setlocal comments< commentstring< formatoptions<'

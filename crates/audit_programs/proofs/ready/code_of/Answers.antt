@@ -5,7 +5,7 @@ use Rattle.mate_code.specs.BytesVerification.{bytes_verification}
 use Rattle.mate_code.specs.Run.{Code}
 use Rattle.mate_code.specs.declared.fault.VerifyFault.{VerifyFault}
 use Rattle.mate_code.specs.Verification.{Marks}
-use Rattle.vm_desc.specs.Shapes.{shape_of}
+use Rattle.vm_shape.specs.Shapes.{shape_of}
 use Rattle.capsule_codec.specs.Image.{CapsuleParts}
 use Rattle.capsule_codec.specs.Reading.{GivesCapsule, capsule_in}
 use Rattle.capsule_codec.specs.declared.capsule.Capsule.{Capsule}

@@ -1,4 +1,4 @@
-use Rattle.vm_desc.proofs.DescriptionLemmas.{trickle_rules}
+use Rattle.vm_shape.proofs.DescriptionLemmas.{trickle_rules}
 use Rattle.cases_machine.proofs.descriptions.settings.Goals as goal
 
 pub longest-longest-requires : goal.longest-longest-requires

@@ -1,8 +1,8 @@
 use Rattle.std.proofs.Common.{◌≡◌, ◌++◌, ◌∷◌, [], List, true, ap, sym, subst, ◌∙◌}
 use Rattle.mate_journal.specs.Log.{Log}
 use Rattle.mate_journal.specs.declared.air.Aired.{Aired}
-use Rattle.report_text.specs.Tidy.{IsTidy}
-use Rattle.report_text.proofs.QuietReport.{IsQuiet, begun, quiet_is_tidy}
+use Rattle.report_writer.specs.Tidy.{IsTidy}
+use Rattle.report_writer.proofs.QuietReport.{IsQuiet, begun, quiet_is_tidy}
 use Rattle.cases_reports.proofs.reports.quiet_report.Goals as goal
 
 pub returns : goal.returns

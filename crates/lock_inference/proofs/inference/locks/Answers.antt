@@ -1,5 +1,5 @@
 use Rattle.std.proofs.Common.{ℕ, ◌+◌, sym, subst}
-use Rattle.vm_desc.specs.Shapes.{shape_of}
+use Rattle.vm_shape.specs.Shapes.{shape_of}
 use Rattle.lock_inference.specs.Locks.{IsGathered}
 use Rattle.lock_inference.proofs.GainLemmas.{verified-names, gathered-none, gathered-more, starts-there, locks-all}
 use Rattle.lock_inference.proofs.inference.locks.Goals as goal

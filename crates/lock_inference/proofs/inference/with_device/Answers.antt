@@ -1,6 +1,6 @@
 use Rattle.std.proofs.lemmas.Bool.{lt-ltb}
 use Rattle.mate_num.specs.declared.resource.Resource.TheVariants.{Device}
-use Rattle.vm_desc.specs.Shapes.{shape_of}
+use Rattle.vm_shape.specs.Shapes.{shape_of}
 use Rattle.lock_inference.proofs.GainLemmas.{Gains-changes, Gains-calls, Gains-calls_none}
 use Rattle.lock_inference.proofs.inference.with_device.Goals as goal
 

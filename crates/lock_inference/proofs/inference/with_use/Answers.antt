@@ -1,6 +1,6 @@
 use Rattle.std.proofs.Common.{subst, sym}
 use Rattle.mate_num.specs.declared.resource.Resource.TheVariants.{Buffer}
-use Rattle.vm_desc.specs.Shapes.{shape_of}
+use Rattle.vm_shape.specs.Shapes.{shape_of}
 use Rattle.lock_inference.specs.Locks.{Gains}
 use Rattle.mate_code.specs.declared.uses.Use.{Use}
 use Rattle.lock_inference.proofs.GainLemmas.{Gains-gets, Gains-changes, Gains-sends}

@@ -1,9 +1,9 @@
 use Rattle.std.proofs.lemmas.Result.{IfOk-from_err}
 use Rattle.mate_cli.specs.Audit.{audit_of}
-use Rattle.mate_steps.specs.Steps.{goes_on}
-use Rattle.mate_steps.proofs.Laws.{moved}
-use Rattle.mate_documents.proofs.OwedLemmas.{owed-stops}
-use Rattle.mate_documents.specs.Outputs.{owed_in}
+use Rattle.command_steps.specs.Steps.{goes_on}
+use Rattle.command_steps.proofs.Laws.{moved}
+use Rattle.command_documents.proofs.OwedLemmas.{owed-stops}
+use Rattle.command_documents.specs.Outputs.{owed_in}
 use Rattle.mate_cli.proofs.audit.audit_by.Goals as goal
 
 pub returns-in_err-programs-clause-does : goal.returns-in_err-programs-clause-does

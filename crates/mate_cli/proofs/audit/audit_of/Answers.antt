@@ -1,9 +1,9 @@
 use Rattle.std.proofs.Common.{refl}
 use Rattle.std.proofs.lemmas.Result.{IfOk-from_err}
 use Rattle.mate_cli.proofs.AuditLemmas.{quiet-serial}
-use Rattle.mate_steps.specs.Steps.{goes_on}
-use Rattle.mate_steps.proofs.Laws.{reads-as, reads-err}
-use Rattle.mate_documents.proofs.OwedLemmas.{owed-stops}
+use Rattle.command_steps.specs.Steps.{goes_on}
+use Rattle.command_steps.proofs.Laws.{reads-as, reads-err}
+use Rattle.command_documents.proofs.OwedLemmas.{owed-stops}
 use Rattle.mate_cli.proofs.audit.audit_of.Goals as goal
 
 pub returns-in_err-report-clause-does : goal.returns-in_err-report-clause-does

@@ -1,12 +1,12 @@
 use Rattle.std.proofs.Common.{subst}
 use Rattle.std.proofs.lemmas.Result.{IfOk-from_err}
 use Rattle.mate_cli.specs.Audit.{audit_by}
-use Rattle.mate_steps.specs.Parts.{Folder}
-use Rattle.mate_steps.specs.Steps.{goes_on}
-use Rattle.mate_steps.proofs.Laws.{moved}
-use Rattle.mate_documents.proofs.OwedLemmas.{owed-stops}
-use Rattle.vm_desc.specs.declared.description.Description.{Description}
-use Rattle.mate_documents.specs.Outputs.{owed_in}
+use Rattle.command_steps.specs.Parts.{Folder}
+use Rattle.command_steps.specs.Steps.{goes_on}
+use Rattle.command_steps.proofs.Laws.{moved}
+use Rattle.command_documents.proofs.OwedLemmas.{owed-stops}
+use Rattle.vm_shape.specs.declared.description.Description.{Description}
+use Rattle.command_documents.specs.Outputs.{owed_in}
 use Rattle.mate_cli.proofs.audit.output.Goals as goal
 
 pub returns-in_err-machine-clause-does : goal.returns-in_err-machine-clause-does

@@ -1,10 +1,10 @@
 use Rattle.std.proofs.Common.{ℕ, List, subst}
 use Rattle.mate_cli.specs.Audit.{report_in}
 use Rattle.mate_cli.proofs.AuditLemmas.{quiet-report}
-use Rattle.mate_steps.specs.Steps.{goes_on}
-use Rattle.mate_steps.proofs.Laws.{stops_by, reads-as, reads-err}
-use Rattle.report_text.specs.Tidy.{IsTidy}
-use Rattle.script_programs.proofs.ReadLemmas.{if-err}
+use Rattle.command_steps.specs.Steps.{goes_on}
+use Rattle.command_steps.proofs.Laws.{stops_by, reads-as, reads-err}
+use Rattle.report_writer.specs.Tidy.{IsTidy}
+use Rattle.command_programs.proofs.ReadLemmas.{if-err}
 use Rattle.mate_cli.proofs.audit.report_of_file.Goals as goal
 
 pub returns-in_err-bytes-clause-does : goal.returns-in_err-bytes-clause-does

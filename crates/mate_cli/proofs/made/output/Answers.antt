@@ -1,7 +1,7 @@
-use Rattle.mate_steps.specs.Steps.{goes_on}
-use Rattle.mate_steps.proofs.Laws.{reads-as}
-use Rattle.mate_documents.proofs.OwedLemmas.{owed-stops}
-use Rattle.mate_documents.proofs.ReadsLemmas.{quiet-memory}
+use Rattle.command_steps.specs.Steps.{goes_on}
+use Rattle.command_steps.proofs.Laws.{reads-as}
+use Rattle.command_documents.proofs.OwedLemmas.{owed-stops}
+use Rattle.command_documents.proofs.ReadsLemmas.{quiet-memory}
 use Rattle.std.proofs.lemmas.Result.{IfOk-from_err}
 use Rattle.mate_cli.proofs.made.output.Goals as goal
 

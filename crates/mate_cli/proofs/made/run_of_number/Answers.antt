@@ -1,9 +1,9 @@
 use Rattle.std.proofs.Common.{Ok, Err, subst}
-use Rattle.vm_desc.specs.declared.description.Description.{Description}
-use Rattle.mate_steps.specs.Steps.{goes_on}
-use Rattle.mate_documents.proofs.OwedLemmas.{owed-stops}
+use Rattle.vm_shape.specs.declared.description.Description.{Description}
+use Rattle.command_steps.specs.Steps.{goes_on}
+use Rattle.command_documents.proofs.OwedLemmas.{owed-stops}
 use Rattle.std.proofs.lemmas.Result.{IfOk-from_err}
-use Rattle.script_programs.specs.Made.{made}
+use Rattle.command_programs.specs.Made.{made}
 use Rattle.node_programs.specs.WorldPrograms.{AreProgramsOfWorld}
 use Rattle.mate_cli.proofs.made.run_of_number.Goals as goal
 

@@ -1,13 +1,13 @@
 use Rattle.std.proofs.Common.{Ok, Err, subst}
-use Rattle.script_programs.specs.Programs.{script_programs}
-use Rattle.script_programs.specs.Scripts.{script}
-use Rattle.vm_desc.specs.declared.description.Description.{Description}
-use Rattle.mate_steps.specs.Parts.{Folder}
-use Rattle.mate_steps.specs.Steps.{goes_on}
-use Rattle.mate_steps.proofs.Laws.{moved, reads-as, reads-err, reads-then}
-use Rattle.mate_documents.proofs.OwedLemmas.{owed-stops}
+use Rattle.command_programs.specs.Programs.{script_programs}
+use Rattle.command_programs.specs.Scripts.{script}
+use Rattle.vm_shape.specs.declared.description.Description.{Description}
+use Rattle.command_steps.specs.Parts.{Folder}
+use Rattle.command_steps.specs.Steps.{goes_on}
+use Rattle.command_steps.proofs.Laws.{moved, reads-as, reads-err, reads-then}
+use Rattle.command_documents.proofs.OwedLemmas.{owed-stops}
 use Rattle.node_programs.specs.ScriptSteps.{AreProgramsOf}
-use Rattle.mate_documents.proofs.ReadsLemmas.{quiet-memory}
+use Rattle.command_documents.proofs.ReadsLemmas.{quiet-memory}
 use Rattle.std.proofs.lemmas.Result.{IfOk-from_err}
 use Rattle.mate_cli.proofs.node.run_of_script.Goals as goal
 

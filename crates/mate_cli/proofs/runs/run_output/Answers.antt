@@ -1,9 +1,9 @@
 use Rattle.std.proofs.Common.{Bool, false, Ok, refl, sym, subst}
 use Rattle.mate_cli.specs.Runs.{run_output}
-use Rattle.mate_documents.specs.Owed.{a_run}
-use Rattle.mate_documents.specs.declared.output.Run.{Run}
-use Rattle.mate_documents.specs.declared.output.Run.TheVariants as run
-use Rattle.mate_documents.specs.Outputs.{owed_in}
+use Rattle.command_documents.specs.Owed.{a_run}
+use Rattle.command_documents.specs.declared.output.Run.{Run}
+use Rattle.command_documents.specs.declared.output.Run.TheVariants as run
+use Rattle.command_documents.specs.Outputs.{owed_in}
 use Rattle.mate_cli.proofs.runs.run_output.Goals as goal
 
 whole : (r : Run) → run_output false r (Ok (a_run r))

@@ -1,20 +1,20 @@
 -- The summary is that of a report of the run.
 use Rattle.std.proofs.Common.{ℕ, Bool, true, List, Ok, Err, sym, inl, inr, refl, ◌∙◌, ap, subst}
-use Rattle.vm_desc.specs.declared.description.Description.{Description}
-use Rattle.mate_documents.specs.Owed.{a_text}
-use Rattle.report_text.specs.Summary.{summary_text}
-use Rattle.report_text.specs.declared.summary.Summary.{Summary}
-use Rattle.mate_steps.specs.Steps.{goes_on, stops}
-use Rattle.mate_refusals.specs.declared.refusal.Refusal.TheVariants.{NoMemory}
-use Rattle.report_text.specs.Runs.{IsRunSummary}
-use Rattle.report_text.proofs.SummaryLemmas.{text-same}
+use Rattle.vm_shape.specs.declared.description.Description.{Description}
+use Rattle.command_documents.specs.Owed.{a_text}
+use Rattle.report_writer.specs.Summary.{summary_text}
+use Rattle.report_writer.specs.declared.summary.Summary.{Summary}
+use Rattle.command_steps.specs.Steps.{goes_on, stops}
+use Rattle.command_refusals.specs.declared.refusal.Refusal.TheVariants.{NoMemory}
+use Rattle.report_writer.specs.Runs.{IsRunSummary}
+use Rattle.report_writer.proofs.SummaryLemmas.{text-same}
 use Rattle.mate_journal.specs.declared.program.Program.{Program}
 use Rattle.mate_journal.specs.declared.report.Report.{Report}
-use Rattle.mate_documents.specs.declared.output.Run.{Run}
-use Rattle.mate_documents.specs.declared.output.Run.TheVariants as run
-use Rattle.report_text.specs.Writing.{OfRun, IsEnded}
-use Rattle.run_steps.specs.Running.{IsScriptReport, IsReportOf}
-use Rattle.script_reader.specs.Steps.{NodeScript}
+use Rattle.command_documents.specs.declared.output.Run.{Run}
+use Rattle.command_documents.specs.declared.output.Run.TheVariants as run
+use Rattle.report_writer.specs.Writing.{OfRun, IsEnded}
+use Rattle.node_runs.specs.Running.{IsScriptReport, IsReportOf}
+use Rattle.script_steps.specs.Steps.{NodeScript}
 use Rattle.world_run_laws.specs.Promise.{IsReportOfWorld}
 use Rattle.mate_cli.specs.Runs.{output_of, run_output}
 use Rattle.mate_cli.proofs.runs.summary.Goals as goal

@@ -1,9 +1,9 @@
 use Rattle.std.proofs.Common.{refl}
 use Rattle.mate_cli.specs.Ends.{written, refused}
-use Rattle.mate_documents.specs.Outputs.{owed_of}
-use Rattle.mate_documents.specs.Owed.{Owed}
-use Rattle.mate_documents.specs.declared.output.Output.{Output}
-use Rattle.mate_steps.proofs.Laws.{unread-as}
+use Rattle.command_documents.specs.Outputs.{owed_of}
+use Rattle.command_documents.specs.Owed.{Owed}
+use Rattle.command_documents.specs.declared.output.Output.{Output}
+use Rattle.command_steps.proofs.Laws.{unread-as}
 use Rattle.mate_cli.proofs.top.mate.Goals as goal
 
 pub returns-in-Ok : goal.returns-in-Ok

@@ -2,8 +2,8 @@ use Rattle.std.proofs.Common.{inl, inr, refl, sym, List, map, subst, string_byte
 use Rattle.std.specs.Global.{Global}
 use Rattle.command_line.specs.Words.{HasNoLine}
 use Rattle.command_line.specs.Commands.{Task, task_held, Says, SaysNothing}
-use Rattle.mate_steps.specs.Steps.{goes_on, stops}
-use Rattle.mate_refusals.specs.declared.refusal.Refusal.TheVariants.{Usage, NoMemory}
+use Rattle.command_steps.specs.Steps.{goes_on, stops}
+use Rattle.command_refusals.specs.declared.refusal.Refusal.TheVariants.{Usage, NoMemory}
 use Rattle.mate_cli.proofs.top.output_of.Goals as goal
 
 pub returns-in-Err-NotTaken-clause-does : goal.returns-in-Err-NotTaken-clause-does

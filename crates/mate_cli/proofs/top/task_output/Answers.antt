@@ -1,9 +1,9 @@
 use Rattle.std.proofs.Common.{sym, subst}
 use Rattle.mate_cli.specs.Ends.{command}
-use Rattle.mate_steps.specs.Parts.{Folder}
+use Rattle.command_steps.specs.Parts.{Folder}
 use Rattle.command_line.specs.Commands.{task_held}
 use Rattle.command_line.specs.declared.command.Command.{Command}
-use Rattle.mate_documents.specs.Outputs.{owed_in}
+use Rattle.command_documents.specs.Outputs.{owed_in}
 use Rattle.mate_cli.proofs.top.task_output.Goals as goal
 
 pub returns-in-Node-clause-does : goal.returns-in-Node-clause-does

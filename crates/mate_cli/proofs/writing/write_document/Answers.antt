@@ -1,6 +1,6 @@
 use Rattle.std.proofs.Common.{true}
 use Rattle.mate_cli.proofs.RunLemmas.{text-written}
-use Rattle.mate_documents.specs.Documents.{document_text}
+use Rattle.command_documents.specs.Documents.{document_text}
 use Rattle.mate_cli.proofs.writing.write_document.Goals as goal
 
 pub returns : goal.returns

@@ -1,9 +1,9 @@
 use Rattle.std.proofs.Common.{sym, subst}
 use Rattle.mate_cli.specs.Ends.{Sinks, IsTextWritten, IsOwedWritten}
-use Rattle.vm_desc.specs.declared.description.Description.{Description}
-use Rattle.mate_documents.specs.Outputs.{CanBeWritten, owed_of}
-use Rattle.mate_documents.specs.declared.output.Output.{Output}
-use Rattle.report_text.specs.Summary.{summary_text}
+use Rattle.vm_shape.specs.declared.description.Description.{Description}
+use Rattle.command_documents.specs.Outputs.{CanBeWritten, owed_of}
+use Rattle.command_documents.specs.declared.output.Output.{Output}
+use Rattle.report_writer.specs.Summary.{summary_text}
 use Rattle.mate_cli.proofs.writing.write_output.Goals as goal
 
 pub returns-in-Document : goal.returns-in-Document

@@ -1,10 +1,10 @@
 use Rattle.std.proofs.Common.{sym, subst}
 use Rattle.mate_cli.specs.Ends.{Sinks, IsReportWritten, IsRunWritten}
-use Rattle.vm_desc.specs.declared.description.Description.{Description}
-use Rattle.mate_documents.specs.Outputs.{HasPrograms}
-use Rattle.mate_documents.specs.declared.output.Run.{Run}
+use Rattle.vm_shape.specs.declared.description.Description.{Description}
+use Rattle.command_documents.specs.Outputs.{HasPrograms}
+use Rattle.command_documents.specs.declared.output.Run.{Run}
 use Rattle.node_programs.specs.ScriptSteps.{AreProgramsOf}
-use Rattle.run_steps.specs.Running.{IsReportOf}
+use Rattle.node_runs.specs.Running.{IsReportOf}
 use Rattle.node_programs.specs.WorldPrograms.{AreProgramsOfWorld}
 use Rattle.world_run_laws.specs.Promise.{IsReportOfWorld}
 use Rattle.mate_cli.proofs.RunLemmas.{run-written}

@@ -1,5 +1,5 @@
 use Rattle.mate_cli.proofs.RunLemmas.{text-written}
-use Rattle.report_text.specs.Summary.{summary_text}
+use Rattle.report_writer.specs.Summary.{summary_text}
 use Rattle.mate_cli.proofs.writing.write_summary.Goals as goal
 
 pub returns : goal.returns

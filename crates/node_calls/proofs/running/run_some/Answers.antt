@@ -1,6 +1,6 @@
 -- The ready invocation can execute, and each instruction that goes on keeps what the node keeps.
 use Rattle.std.proofs.Common.{◌<◌, ◌^◌, arith}
-use Rattle.vm_desc.proofs.DescriptionLemmas.{bounds_of}
+use Rattle.vm_shape.proofs.DescriptionLemmas.{bounds_of}
 use Rattle.node_calls.specs.Pacing.{most}
 use Rattle.node_calls.proofs.RunningLemmas.{CanExecute-ready, RunsFor-from}
 use Rattle.node_calls.proofs.running.run_some.Goals as goal

@@ -1,7 +1,7 @@
 use Rattle.std.proofs.Common.{◌≡◌, length, take, map, ap, ◌∙◌, lit<, le_of_lt, arith}
 use Rattle.std.proofs.lemmas.List.{take_all, length-map, length-take-le}
-use Rattle.vm_desc.proofs.ListLemmas.{map_pushed}
-use Rattle.vm_desc.specs.declared.function.Function.{Function}
+use Rattle.vm_shape.proofs.ListLemmas.{map_pushed}
+use Rattle.vm_shape.specs.declared.function.Function.{Function}
 use Rattle.opcode_gen.proofs.generate.function_names.Goals as goal
 
 pub push-requires : goal.push-requires

@@ -4,7 +4,7 @@ use Rattle.std.proofs.lemmas.List.FromFn.{length-enumerate_from}
 use Rattle.mate_files.proofs.PenLemmas.{Prints-by, Prints-nil, Prints-all, Prints-next, Puts-finished}
 use Rattle.mate_code.specs.declared.kind.Kind.TheVariants.{Halt}
 use Rattle.mate_code.specs.Table.{table_of, kinds_of}
-use Rattle.vm_desc.specs.Shapes.{shape_of}
+use Rattle.vm_shape.specs.Shapes.{shape_of}
 use Rattle.opcode_gen.specs.TableText.{names_of_functions, table_row}
 use Rattle.opcode_gen.proofs.TableTextLemmas.{kind_at-within, row-by, rows-by, IsNamed-kind_at}
 use Rattle.opcode_gen.proofs.generate.print_table.Goals as goal

@@ -2,7 +2,7 @@ use Rattle.std.proofs.Common.{ap}
 use Rattle.mate_files.proofs.PenLemmas.{◌⟫◌, Prints-by, Puts-finished}
 use Rattle.mate_code.specs.CodeUses as code
 use Rattle.mate_num.specs.Locks.{lock_uses}
-use Rattle.vm_desc.specs.Shapes.{shape_of}
+use Rattle.vm_shape.specs.Shapes.{shape_of}
 use Rattle.opcode_gen.specs.LockLine.{lock_line}
 use Rattle.opcode_gen.proofs.LockLineLemmas.{uses-same}
 use Rattle.opcode_gen.proofs.printing.print_capsule.Goals as goal

@@ -1,6 +1,6 @@
 use Rattle.std.proofs.Common.{◌<◌, ◌∙◌, length, get_or, refl, arith}
 use Rattle.std.proofs.lemmas.List.{length-set}
-use Rattle.world_script.specs.declared.world.Link.{Link}
+use Rattle.script_steps.specs.declared.world.Link.{Link}
 use Rattle.radio_sim.proofs.RadioLemmas.{links_none, links_more, links_all}
 use Rattle.radio_sim.proofs.radio.wires_of.Goals as goal
 

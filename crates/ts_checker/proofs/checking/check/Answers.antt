@@ -1,5 +1,5 @@
 use Rattle.std.proofs.Common.{rules, ◌≡◌, Ok}
-use Rattle.ts_syntax.specs.Seen.{source_seen}
+use Rattle.ts_trees.specs.Seen.{source_seen}
 use Rattle.ts_checked.specs.TreeOf.{block_tree}
 use Rattle.ts_checker.specs.Checks.{checked_source}
 use Rattle.ts_checker.proofs.RightLemmas.{checked-right}

@@ -1,12 +1,12 @@
 use Rattle.std.proofs.Common.{◌≡◌, ◌∙◌, ap, sym, subst, refl, Bool, List, Result, Ok}
-use Rattle.ts_syntax.specs.Tree as given
-use Rattle.ts_syntax.specs.Tree.{Tree}
+use Rattle.ts_trees.specs.Tree as given
+use Rattle.ts_trees.specs.Tree.{Tree}
 use Rattle.ts_checked.specs.Expression.{Item}
 use Rattle.ts_checked.specs.declared.checked_expr.CExpr.{CExpr}
-use Rattle.ts_syntax.proofs.SeenLemmas.{tree_variable, tree_item, tree_size, tree_message_item, tree_call, tree_negative, tree_inverse, tree_paren}
-use Rattle.ts_syntax.specs.Seen.{tree_of, trees_of}
+use Rattle.ts_trees.proofs.SeenLemmas.{tree_variable, tree_item, tree_size, tree_message_item, tree_call, tree_negative, tree_inverse, tree_paren}
+use Rattle.ts_trees.specs.Seen.{tree_of, trees_of}
 use Rattle.ts_checked.specs.TreeOf.{expr_tree, args_trees}
-use Rattle.ts_syntax.specs.declared.expr.Expr.{Expr}
+use Rattle.ts_trees.specs.declared.expr.Expr.{Expr}
 use Rattle.ts_checker.specs.declared.fault.CheckFault.{CheckFault}
 use Rattle.mate_num.specs.Results.{◌>>=◌}
 use Rattle.ts_checker.specs.Answer.{GivesChecked}

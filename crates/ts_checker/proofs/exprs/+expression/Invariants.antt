@@ -1,5 +1,5 @@
 use Rattle.std.proofs.Common.{◌≡◌, drop}
-use Rattle.ts_syntax.specs.Seen.{trees_of}
+use Rattle.ts_trees.specs.Seen.{trees_of}
 use Rattle.ts_checked.specs.TreeOf.{args_trees}
 use Rattle.ts_checker.specs.Checks.{checked_args}
 use Rattle.ts_checker.specs.Seen.{scope_names}

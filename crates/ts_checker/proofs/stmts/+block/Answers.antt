@@ -1,9 +1,9 @@
 use Rattle.std.proofs.Common.{◌≡◌, ◌∙◌, ap, sym, subst, true, refl, Result}
-use Rattle.ts_syntax.specs.Seen.{tree_of, act_of, acts_of}
-use Rattle.ts_syntax.specs.Tree as given
-use Rattle.ts_syntax.specs.Tree.{Act}
+use Rattle.ts_trees.specs.Seen.{tree_of, act_of, acts_of}
+use Rattle.ts_trees.specs.Tree as given
+use Rattle.ts_trees.specs.Tree.{Act}
 use Rattle.ts_checked.specs.declared.checked_stmt.CStmt.{CStmt}
-use Rattle.ts_syntax.proofs.SeenLemmas.{act_set, act_set_item, act_append, act_take_last, act_clear, act_call_alone, act_for_next, act_while_do, act_run_procedure}
+use Rattle.ts_trees.proofs.SeenLemmas.{act_set, act_set_item, act_append, act_take_last, act_clear, act_call_alone, act_for_next, act_while_do, act_run_procedure}
 use Rattle.ts_checker.specs.declared.fault.CheckFault.{CheckFault}
 use Rattle.ts_checker.specs.Answer.{GivesChecked, RefusesScript}
 use Rattle.ts_checker.specs.Names.{ScriptNames}

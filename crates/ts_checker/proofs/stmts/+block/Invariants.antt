@@ -1,5 +1,5 @@
 use Rattle.std.proofs.Common.{◌≡◌, drop}
-use Rattle.ts_syntax.specs.Seen.{acts_of}
+use Rattle.ts_trees.specs.Seen.{acts_of}
 use Rattle.ts_checked.specs.TreeOf.{block_trees}
 use Rattle.ts_checker.specs.Checks.{checked_block}
 use Rattle.ts_checker.specs.Seen.{scope_names}

@@ -1,5 +1,5 @@
 use Rattle.std.proofs.Common.{◌∙◌, sym, refl, true, false}
-use Rattle.ts_syntax.specs.Seen.{tree_of}
+use Rattle.ts_trees.specs.Seen.{tree_of}
 use Rattle.ts_checker.specs.Checks.{checked_expr, checked_head}
 use Rattle.ts_checker.specs.Seen.{checked_head_of, scope_names}
 use Rattle.ts_checker.proofs.RefusalLemmas.{refused_part, refused_by}

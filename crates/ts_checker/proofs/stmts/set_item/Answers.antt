@@ -1,6 +1,6 @@
 use Rattle.std.proofs.Common.{◌∙◌, sym, refl, true}
-use Rattle.ts_syntax.specs.Seen.{tree_of}
-use Rattle.ts_syntax.specs.Tree as given
+use Rattle.ts_trees.specs.Seen.{tree_of}
+use Rattle.ts_trees.specs.Tree as given
 use Rattle.ts_checked.specs.TreeOf.{stmt_tree}
 use Rattle.ts_checker.specs.Checks.{checked_expr, checked_stmt}
 use Rattle.ts_checker.specs.Seen.{scope_names}

@@ -6,8 +6,8 @@ use Rattle.mate_code.specs.Instr.{size_of}
 use Rattle.ts_checked.specs.Expression.{Expression, Arguments, arguments, Shared, Private, Item, Size, MsgItem, MsgSize, Call, SendBuf, Neg, Not, Two}
 use Rattle.ts_checked.specs.TreeOf.{expr_tree, args_trees}
 use Rattle.ts_checked.specs.declared.checked_expr.CExpr.{CExpr, the_lemmas}
-use Rattle.ts_meaning.specs.Translation.{size_of_instrs, expr_code, args_code, args_need, expr_size, expr_need, operator_code}
-use Rattle.ts_meaning.proofs.PlaceLemmas.{size_of-operator_code}
+use Rattle.ts_semantics.specs.Translation.{size_of_instrs, expr_code, args_code, args_need, expr_size, expr_need, operator_code}
+use Rattle.ts_semantics.proofs.PlaceLemmas.{size_of-operator_code}
 use Rattle.ts_compiler.specs.Parts.{capped}
 use Rattle.ts_compiler.proofs.ExtentLemmas.{ArgsMeasured, args_next, args_size, args_needs, capped-push, capped-two, two_sizes, capped-with, capped-above, capped-max}
 use Rattle.ts_compiler.proofs.PartLemmas.{bytes_of-push, rest_more, rest_none}

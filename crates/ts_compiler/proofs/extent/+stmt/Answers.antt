@@ -6,7 +6,7 @@ use Rattle.ts_checked.specs.Expression.{Expression, Arguments, arguments}
 use Rattle.ts_checked.specs.Statement.{Statement, Block, block, Set, SetItem, Append, Take, Clear, Do, DoSend, If, IfElse, For, While}
 use Rattle.ts_checked.specs.TreeOf.{expr_tree, args_trees, stmt_tree, block_tree, block_trees}
 use Rattle.ts_checked.specs.declared.checked_stmt.CStmt.{CStmt, the_lemmas}
-use Rattle.ts_meaning.specs.Translation.{size_of_instrs, number_code, args_code, expr_size, expr_need, stmt_size, stmt_need, block_size, block_need}
+use Rattle.ts_semantics.specs.Translation.{size_of_instrs, number_code, args_code, expr_size, expr_need, stmt_size, stmt_need, block_size, block_need}
 use Rattle.ts_compiler.specs.Parts.{capped}
 use Rattle.ts_compiler.proofs.PartLemmas.{bytes_of-push, rest_more, rest_none}
 use Rattle.ts_compiler.proofs.ExtentLemmas.{BlockMeasured, block_next, block_sizes, block_needs, capped-with, capped-above, capped-then, capped-max, else_bytes, for_bytes, while_bytes, for_needs}

@@ -2,18 +2,18 @@ use Rattle.std.proofs.Common.{◌≡◌, ◌≤◌, Bor, List, length, refl, sym
 use Rattle.std.specs.declared.alloc.Global.{Global}
 use Rattle.std.specs.declared.boxed.Box.{Box}
 use Rattle.ts_expressions.specs.Boxed.{boxed_tree}
-use Rattle.ts_syntax.specs.declared.expr.Expr.{Expr}
-use Rattle.ts_syntax.specs.Seen.{trees_of}
-use Rattle.ts_syntax.specs.declared.token.Token.{Token}
-use Rattle.ts_syntax.specs.Spelling.{kinds}
-use Rattle.ts_syntax.specs.declared.token.TokenKind.TheVariants as kind
-use Rattle.ts_syntax.specs.Tree.{negative, variable, inverse, paren, item, message_item}
+use Rattle.ts_trees.specs.declared.expr.Expr.{Expr}
+use Rattle.ts_trees.specs.Seen.{trees_of}
+use Rattle.ts_trees.specs.declared.token.Token.{Token}
+use Rattle.ts_trees.specs.Spelling.{kinds}
+use Rattle.ts_trees.specs.declared.token.TokenKind.TheVariants as kind
+use Rattle.ts_trees.specs.Tree.{negative, variable, inverse, paren, item, message_item}
 use Rattle.ts_checked.specs.declared.bin_op.BinOp.TheVariants as op
-use Rattle.ts_syntax.specs.Machine.{Operand, in_negative, named, sized, Whole, first_product, first_sum, first_compare, first_and, in_inverse, first_or, in_paren, in_item, in_message, want, want_inverse, message, sum_due, inverse_due, expr_due, give, have_product, have_sum, have_inverse, have_and, have}
-use Rattle.ts_syntax.specs.Parsing.{reads, noted_then, Caller, called_open, called, called_with}
-use Rattle.ts_syntax.proofs.Turns.{inverse_is_read, inverse_is_first}
-use Rattle.ts_syntax.proofs.Reading.{sign_read}
-use Rattle.ts_syntax.proofs.Parts.{halts, starts_shorter}
+use Rattle.ts_trees.specs.Machine.{Operand, in_negative, named, sized, Whole, first_product, first_sum, first_compare, first_and, in_inverse, first_or, in_paren, in_item, in_message, want, want_inverse, message, sum_due, inverse_due, expr_due, give, have_product, have_sum, have_inverse, have_and, have}
+use Rattle.ts_trees.specs.Parsing.{reads, noted_then, Caller, called_open, called, called_with}
+use Rattle.ts_trees.proofs.Turns.{inverse_is_read, inverse_is_first}
+use Rattle.ts_trees.proofs.Reading.{sign_read}
+use Rattle.ts_trees.proofs.Parts.{halts, starts_shorter}
 use Rattle.ts_expressions.proofs.ExprLemmas.{part_halts, starts_at, operand_read, not_read, and_read, item_read, message_begins, variable_read, comma_read, no_arguments, argument_due, trees_more, comparison_read}
 use Rattle.ts_expressions.proofs.FindingLemmas.{paren_ended, item_ended, message_ended, call_ended, call_shorter, called_reads, called_shorter, made_reads, made_behind, ended_shorter, joined_behind, sign_shorter, or_joined, and_joined, sum_joined, product_joined, comparison_joined}
 use Rattle.ts_expressions.proofs.OperatorLemmas.{product_read, sum_read, or_read, product_over, and_over, sum_alone, comparison_sign_read}

@@ -1,8 +1,8 @@
 use Rattle.std.proofs.Common.{◌<◌, ◌≤◌, length, ◌≡◌, ◌+◌, ◌*◌}
-use Rattle.ts_syntax.specs.Machine.{Product, Sum, Conjunction, Whole, want, want_inverse, first_product, first_and, sum_due, expr_due, have_product, have_sum, have_and, have}
-use Rattle.ts_syntax.specs.Parsing.{reads, Caller, called_open, called_with}
+use Rattle.ts_trees.specs.Machine.{Product, Sum, Conjunction, Whole, want, want_inverse, first_product, first_and, sum_due, expr_due, have_product, have_sum, have_and, have}
+use Rattle.ts_trees.specs.Parsing.{reads, Caller, called_open, called_with}
 use Rattle.ts_expressions.specs.Boxed.{boxed_tree}
-use Rattle.ts_syntax.specs.Seen.{trees_of}
+use Rattle.ts_trees.specs.Seen.{trees_of}
 use Rattle.ts_expressions.proofs.expression.+expr.Given as goal
 
 -- each part of an expression begins with a tighter part, or behind a token

@@ -1,9 +1,9 @@
 use Rattle.std.specs.declared.alloc.Global.{Global}
 use Rattle.std.specs.declared.boxed.Box.{Box}
 use Rattle.ts_expressions.specs.Boxed.{boxed_tree}
-use Rattle.ts_syntax.specs.declared.expr.Expr.{Expr}
-use Rattle.ts_syntax.specs.declared.token.TokenKind.TheVariants as kind
-use Rattle.ts_syntax.specs.Machine.{Operand, sized, give}
+use Rattle.ts_trees.specs.declared.expr.Expr.{Expr}
+use Rattle.ts_trees.specs.declared.token.TokenKind.TheVariants as kind
+use Rattle.ts_trees.specs.Machine.{Operand, sized, give}
 use Rattle.ts_expressions.proofs.FindingLemmas.{size_ended}
 use Rattle.ts_expressions.proofs.StoppingLemmas.{sign_halts, size_missing}
 use Rattle.ts_expressions.proofs.expression.size.Goals as goal

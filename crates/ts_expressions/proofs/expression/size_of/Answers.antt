@@ -1,10 +1,10 @@
 use Rattle.std.specs.declared.alloc.Global.{Global}
 use Rattle.std.specs.declared.boxed.Box.{Box}
 use Rattle.ts_expressions.specs.Boxed.{boxed_tree}
-use Rattle.ts_syntax.specs.declared.expr.Expr.{Expr}
-use Rattle.ts_syntax.specs.Machine.{Operand, size_opened, size_named}
+use Rattle.ts_trees.specs.declared.expr.Expr.{Expr}
+use Rattle.ts_trees.specs.Machine.{Operand, size_opened, size_named}
 use Rattle.ts_expressions.proofs.ExprLemmas.{message_sized, buffer_sized}
-use Rattle.ts_syntax.specs.Tree.{size, message_size}
+use Rattle.ts_trees.specs.Tree.{size, message_size}
 use Rattle.ts_expressions.proofs.FindingLemmas.{made_reads}
 use Rattle.ts_expressions.proofs.StoppingLemmas.{name_halts, size_unnamed}
 use Rattle.ts_expressions.proofs.expression.size_of.Goals as goal

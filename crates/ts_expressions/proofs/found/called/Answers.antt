@@ -1,7 +1,7 @@
 use Rattle.std.proofs.Common.{sym, subst, Result, List, Bor}
-use Rattle.ts_syntax.specs.declared.expr.Expr.{Expr}
-use Rattle.ts_syntax.specs.declared.halt.Halt.{Halt}
-use Rattle.ts_syntax.specs.declared.token.Token.{Token}
+use Rattle.ts_trees.specs.declared.expr.Expr.{Expr}
+use Rattle.ts_trees.specs.declared.halt.Halt.{Halt}
+use Rattle.ts_trees.specs.declared.token.Token.{Token}
 use Rattle.ts_expressions.specs.Finding.{MadeCall}
 use Rattle.ts_expressions.proofs.FindingLemmas.{called_made}
 use Rattle.ts_expressions.proofs.found.called.Goals as goal

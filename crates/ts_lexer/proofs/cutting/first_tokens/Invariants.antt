@@ -1,5 +1,5 @@
 use Rattle.std.proofs.Common.{◌≡◌, length}
-use Rattle.ts_syntax.specs.Cut.{cut_in}
+use Rattle.ts_trees.specs.Cut.{cut_in}
 use Rattle.ts_lexer.specs.Scanner.{due}
 use Rattle.ts_lexer.proofs.cutting.first_tokens.Given as goal
 

@@ -1,4 +1,4 @@
-use Rattle.ts_syntax.specs.Cut.{cut_in}
+use Rattle.ts_trees.specs.Cut.{cut_in}
 use Rattle.ts_lexer.specs.Scanner.{due}
 use Rattle.ts_lexer.proofs.StepLemmas.{cuts_by}
 use Rattle.ts_lexer.proofs.cutting.tokens_in.Goals as goal

@@ -1,7 +1,7 @@
 use Rattle.std.proofs.Common.{List, [], ◌∷◌, sym, ◌∙◌, ap}
-use Rattle.ts_syntax.specs.declared.token.TokenKind.{TokenKind}
-use Rattle.ts_syntax.specs.declared.token.TokenKind.TheVariants as kind
-use Rattle.ts_syntax.specs.Cut.{keyword_among}
+use Rattle.ts_trees.specs.declared.token.TokenKind.{TokenKind}
+use Rattle.ts_trees.specs.declared.token.TokenKind.TheVariants as kind
+use Rattle.ts_trees.specs.Cut.{keyword_among}
 use Rattle.ts_lexer.proofs.WordLemmas.{among_none, unlike}
 use Rattle.ts_lexer.proofs.spans.procedure_word.Goals as goal
 

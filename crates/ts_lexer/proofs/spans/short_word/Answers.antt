@@ -1,5 +1,5 @@
 use Rattle.std.proofs.Common.{sym, ◌∙◌, ap}
-use Rattle.ts_syntax.specs.Cut.{word_kind, kind_in}
+use Rattle.ts_trees.specs.Cut.{word_kind, kind_in}
 use Rattle.ts_lexer.proofs.WordLemmas.{short_word_none}
 use Rattle.ts_lexer.proofs.spans.short_word.Goals as goal
 

@@ -1,7 +1,7 @@
 use Rattle.std.proofs.Common.{◌≡◌, [], length}
-use Rattle.ts_syntax.specs.declared.dialect.Dialect.{Dialect}
-use Rattle.ts_syntax.specs.Machine.{decls}
-use Rattle.ts_syntax.specs.Parsing.{reads}
+use Rattle.ts_trees.specs.declared.dialect.Dialect.{Dialect}
+use Rattle.ts_trees.specs.Machine.{decls}
+use Rattle.ts_trees.specs.Parsing.{reads}
 use Rattle.ts_parser.proofs.decls.declarations.Given as goal
 
 -- the declarations so far were read

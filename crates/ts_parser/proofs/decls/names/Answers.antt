@@ -1,8 +1,8 @@
 use Rattle.std.proofs.Common.{length, sym, ◌∙◌, ap, arith}
-use Rattle.ts_syntax.specs.declared.token.TokenKind.TheVariants as kind
-use Rattle.ts_syntax.specs.Machine.{decl_more}
-use Rattle.ts_syntax.specs.Parsing.{reads}
-use Rattle.ts_syntax.proofs.Parts.{starts_shorter}
+use Rattle.ts_trees.specs.declared.token.TokenKind.TheVariants as kind
+use Rattle.ts_trees.specs.Machine.{decl_more}
+use Rattle.ts_trees.specs.Parsing.{reads}
+use Rattle.ts_trees.proofs.Parts.{starts_shorter}
 use Rattle.ts_parser.proofs.ScriptLemmas.{decl_named, decl_missing, decl_follows, name_halts, decl_closes}
 use Rattle.ts_parser.proofs.decls.names.Goals as goal
 

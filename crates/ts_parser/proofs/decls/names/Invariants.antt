@@ -1,7 +1,7 @@
 use Rattle.std.proofs.Common.{◌≡◌, ◌≤◌, true, length}
-use Rattle.ts_syntax.specs.declared.dialect.Dialect.{Dialect}
-use Rattle.ts_syntax.specs.Machine.{decl_name}
-use Rattle.ts_syntax.specs.Parsing.{reads}
+use Rattle.ts_trees.specs.declared.dialect.Dialect.{Dialect}
+use Rattle.ts_trees.specs.Machine.{decl_name}
+use Rattle.ts_trees.specs.Parsing.{reads}
 use Rattle.ts_parser.proofs.decls.names.Given as goal
 
 -- the names so far were read

@@ -1,7 +1,7 @@
 use Rattle.std.proofs.Common.{◌+◌, sym, ◌∙◌, ap, drop}
 use Rattle.std.specs.Option.{option_map}
-use Rattle.ts_syntax.specs.Depth.{role_is_deep, deep_from}
-use Rattle.ts_syntax.specs.Spelling.{kinds}
+use Rattle.ts_trees.specs.Depth.{role_is_deep, deep_from}
+use Rattle.ts_trees.specs.Spelling.{kinds}
 use Rattle.ts_parser.proofs.DeepLemmas.{first_here, first_later, first_none}
 use Rattle.ts_parser.proofs.depth.first_deep.Goals as goal
 

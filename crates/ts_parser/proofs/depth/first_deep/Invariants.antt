@@ -1,7 +1,7 @@
 use Rattle.std.proofs.Common.{◌≡◌, ◌+◌, drop}
 use Rattle.std.specs.Option.{option_map}
-use Rattle.ts_syntax.specs.Depth.{deep_from, first_deep}
-use Rattle.ts_syntax.specs.Spelling.{kinds}
+use Rattle.ts_trees.specs.Depth.{deep_from, first_deep}
+use Rattle.ts_trees.specs.Spelling.{kinds}
 use Rattle.ts_parser.proofs.depth.first_deep.Given as goal
 
 -- the tokens before the index aren't too deep

@@ -1,6 +1,6 @@
 use Rattle.std.proofs.Common.{[], ◌∷◌, sym, subst, take, ◌+◌}
-use Rattle.ts_syntax.specs.Faults.{IsUnexpectedIn}
-use Rattle.ts_syntax.specs.Seen.{procedure_source_of}
+use Rattle.ts_trees.specs.Faults.{IsUnexpectedIn}
+use Rattle.ts_trees.specs.Seen.{procedure_source_of}
 use Rattle.ts_parser.proofs.ParseLemmas.{deep_read, deep_cut, deep_stops, rest_length, none_left, some_left}
 use Rattle.ts_parser.proofs.parser.deep.Goals as goal
 

@@ -1,4 +1,4 @@
-use Rattle.ts_syntax.specs.Seen.{procedure_source_of}
+use Rattle.ts_trees.specs.Seen.{procedure_source_of}
 use Rattle.ts_parser.proofs.OwnPlaces.{spells_plain}
 use Rattle.ts_parser.proofs.ReadingLemmas.{same_refusal}
 use Rattle.ts_parser.proofs.parser.parse.Goals as goal

@@ -1,10 +1,10 @@
 use Rattle.std.proofs.Common.{List, map, ◌∙◌}
-use Rattle.ts_syntax.specs.declared.stmt.Stmt.{Stmt}
-use Rattle.ts_syntax.specs.declared.script.Decl.{Decl}
-use Rattle.ts_syntax.specs.declared.procedure.Proc.{Proc}
-use Rattle.ts_syntax.specs.Seen.{acts_of, procedure_of}
-use Rattle.ts_syntax.specs.Tree.{no_acts}
-use Rattle.ts_syntax.specs.Machine.{block, decls}
+use Rattle.ts_trees.specs.declared.stmt.Stmt.{Stmt}
+use Rattle.ts_trees.specs.declared.script.Decl.{Decl}
+use Rattle.ts_trees.specs.declared.procedure.Proc.{Proc}
+use Rattle.ts_trees.specs.Seen.{acts_of, procedure_of}
+use Rattle.ts_trees.specs.Tree.{no_acts}
+use Rattle.ts_trees.specs.Machine.{block, decls}
 use Rattle.ts_statements.specs.Blocks.{FrameIn}
 use Rattle.ts_parser.specs.Scripts.{script_frame}
 use Rattle.ts_parser.proofs.ScriptLemmas.{script_halts, body_frame, script_read, script_left}

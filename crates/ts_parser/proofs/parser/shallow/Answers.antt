@@ -1,6 +1,6 @@
 use Rattle.std.proofs.Common.{sym, subst}
-use Rattle.ts_syntax.specs.Faults.{IsUnexpectedIn}
-use Rattle.ts_syntax.specs.Seen.{procedure_source_of}
+use Rattle.ts_trees.specs.Faults.{IsUnexpectedIn}
+use Rattle.ts_trees.specs.Seen.{procedure_source_of}
 use Rattle.ts_parser.proofs.ParseLemmas.{spells_all, rest_length, unexpected}
 use Rattle.ts_parser.proofs.parser.shallow.Goals as goal
 

@@ -1,13 +1,13 @@
 use Rattle.std.proofs.Common.{◌≡◌, List, Result, Ok, Err, Bor, length, sym, ◌∙◌, ap, arith}
-use Rattle.ts_syntax.specs.declared.token.Token.{Token}
-use Rattle.ts_syntax.specs.declared.token.TokenKind.TheVariants as kind
-use Rattle.ts_syntax.specs.declared.word.Word.{Word}
-use Rattle.ts_syntax.specs.Spelling.{kinds}
-use Rattle.ts_syntax.specs.declared.halt.Halt.{Halt}
-use Rattle.ts_syntax.specs.declared.halt.Halt.TheVariants as halt
-use Rattle.ts_syntax.specs.Machine.{param_due}
-use Rattle.ts_syntax.specs.Parsing.{reads, Reads, Starts, Lacks, Ended}
-use Rattle.ts_syntax.proofs.Parts.{starts_shorter}
+use Rattle.ts_trees.specs.declared.token.Token.{Token}
+use Rattle.ts_trees.specs.declared.token.TokenKind.TheVariants as kind
+use Rattle.ts_trees.specs.declared.word.Word.{Word}
+use Rattle.ts_trees.specs.Spelling.{kinds}
+use Rattle.ts_trees.specs.declared.halt.Halt.{Halt}
+use Rattle.ts_trees.specs.declared.halt.Halt.TheVariants as halt
+use Rattle.ts_trees.specs.Machine.{param_due}
+use Rattle.ts_trees.specs.Parsing.{reads, Reads, Starts, Lacks, Ended}
+use Rattle.ts_trees.proofs.Parts.{starts_shorter}
 use Rattle.ts_parser.specs.Scripts.{Header, params_due, header_read}
 use Rattle.ts_parser.proofs.ScriptLemmas.{no_params, params_begin, param_missing, param_taken, param_follows, params_close, param_stops}
 use Rattle.ts_statements.proofs.Halting.{name_misses}

@@ -1,6 +1,6 @@
 use Rattle.std.proofs.Common.{◌≡◌, ◌≤◌, length}
-use Rattle.ts_syntax.specs.Machine.{param_due}
-use Rattle.ts_syntax.specs.Parsing.{reads}
+use Rattle.ts_trees.specs.Machine.{param_due}
+use Rattle.ts_trees.specs.Parsing.{reads}
 use Rattle.ts_parser.specs.Scripts.{Header, params_due}
 use Rattle.ts_parser.proofs.procs.parameters.Given as goal
 

@@ -1,16 +1,16 @@
 use Rattle.std.proofs.Common.{List, [], ◌∷◌, ◌++◌, Result, Ok, Err, Bor, refl, ◌∙◌}
-use Rattle.ts_syntax.specs.declared.procedure.Proc.{Proc}
-use Rattle.ts_syntax.specs.declared.script.Decl.{Decl}
-use Rattle.ts_syntax.specs.declared.stmt.Stmt.{Stmt}
-use Rattle.ts_syntax.specs.declared.token.Token.{Token}
-use Rattle.ts_syntax.specs.declared.token.TokenKind.TheVariants as kind
-use Rattle.ts_syntax.specs.declared.word.Word.{Word}
-use Rattle.ts_syntax.specs.Seen.{acts_of, procedure_of}
-use Rattle.ts_syntax.specs.Tree.{Procedure}
-use Rattle.ts_syntax.specs.declared.halt.Halt.{Halt}
-use Rattle.ts_syntax.specs.Machine.{proc_word, proc_named, proc_opened, procedures}
-use Rattle.ts_syntax.specs.Parsing.{Reads, TakesName, Ended}
-use Rattle.ts_syntax.proofs.Parts.{halts}
+use Rattle.ts_trees.specs.declared.procedure.Proc.{Proc}
+use Rattle.ts_trees.specs.declared.script.Decl.{Decl}
+use Rattle.ts_trees.specs.declared.stmt.Stmt.{Stmt}
+use Rattle.ts_trees.specs.declared.token.Token.{Token}
+use Rattle.ts_trees.specs.declared.token.TokenKind.TheVariants as kind
+use Rattle.ts_trees.specs.declared.word.Word.{Word}
+use Rattle.ts_trees.specs.Seen.{acts_of, procedure_of}
+use Rattle.ts_trees.specs.Tree.{Procedure}
+use Rattle.ts_trees.specs.declared.halt.Halt.{Halt}
+use Rattle.ts_trees.specs.Machine.{proc_word, proc_named, proc_opened, procedures}
+use Rattle.ts_trees.specs.Parsing.{Reads, TakesName, Ended}
+use Rattle.ts_trees.proofs.Parts.{halts}
 use Rattle.ts_parser.specs.Scripts.{Header, params_due, header_read, Routine, routine_due, routine_read}
 use Rattle.ts_parser.proofs.ScriptLemmas.{header_missing, header_names, header_open, header_begins}
 use Rattle.ts_statements.proofs.EndedLemmas.{name_reads, ended_reads}

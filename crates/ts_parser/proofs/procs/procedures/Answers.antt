@@ -1,11 +1,11 @@
 use Rattle.std.proofs.Common.{◌≡◌, List, [], ◌∷◌, ◌++◌, map, refl, sym, ◌∙◌, ap}
-use Rattle.ts_syntax.specs.declared.procedure.Proc.{Proc}
-use Rattle.ts_syntax.specs.declared.script.Decl.{Decl}
-use Rattle.ts_syntax.specs.Seen.{procedure_of}
-use Rattle.ts_syntax.specs.Tree.{Procedure, no_acts}
-use Rattle.ts_syntax.specs.Machine.{main, block, proc_word, procedures}
-use Rattle.ts_syntax.specs.Parsing.{reads}
-use Rattle.ts_syntax.proofs.Parts.{halts}
+use Rattle.ts_trees.specs.declared.procedure.Proc.{Proc}
+use Rattle.ts_trees.specs.declared.script.Decl.{Decl}
+use Rattle.ts_trees.specs.Seen.{procedure_of}
+use Rattle.ts_trees.specs.Tree.{Procedure, no_acts}
+use Rattle.ts_trees.specs.Machine.{main, block, proc_word, procedures}
+use Rattle.ts_trees.specs.Parsing.{reads}
+use Rattle.ts_trees.proofs.Parts.{halts}
 use Rattle.ts_parser.proofs.ScriptLemmas.{proc_begins, main_begins}
 use Rattle.ts_parser.proofs.procs.procedures.Goals as goal
 

@@ -1,8 +1,8 @@
 use Rattle.std.proofs.Common.{◌≡◌, [], length, List, map}
-use Rattle.ts_syntax.specs.declared.script.Decl.{Decl}
-use Rattle.ts_syntax.specs.Seen.{procedure_of}
-use Rattle.ts_syntax.specs.Machine.{procedures}
-use Rattle.ts_syntax.specs.Parsing.{reads}
+use Rattle.ts_trees.specs.declared.script.Decl.{Decl}
+use Rattle.ts_trees.specs.Seen.{procedure_of}
+use Rattle.ts_trees.specs.Machine.{procedures}
+use Rattle.ts_trees.specs.Parsing.{reads}
 use Rattle.ts_parser.proofs.procs.procedures.Given as goal
 
 -- the procedures so far were read

@@ -1,15 +1,15 @@
 use Rattle.std.proofs.Common.{◌≡◌, List, [], map, Ok, Err, Bor, Result, refl, sym, ap, subst}
 use Rattle.std.specs.Prelude.{IfOk}
-use Rattle.ts_syntax.specs.declared.dialect.Dialect.TheVariants as dialect
-use Rattle.ts_syntax.specs.declared.procedure.Proc.{Proc}
-use Rattle.ts_syntax.specs.declared.script.Decl.{Decl}
-use Rattle.ts_syntax.specs.declared.token.Token.{Token}
-use Rattle.ts_syntax.specs.Seen.{procedure_of}
-use Rattle.ts_syntax.specs.Tree.{no_acts}
-use Rattle.ts_syntax.specs.declared.halt.Halt.{Halt}
-use Rattle.ts_syntax.specs.Machine.{main, block, decls, procedures}
-use Rattle.ts_syntax.specs.Parsing.{reads, Reads}
-use Rattle.ts_syntax.proofs.Parts.{ends_as}
+use Rattle.ts_trees.specs.declared.dialect.Dialect.TheVariants as dialect
+use Rattle.ts_trees.specs.declared.procedure.Proc.{Proc}
+use Rattle.ts_trees.specs.declared.script.Decl.{Decl}
+use Rattle.ts_trees.specs.declared.token.Token.{Token}
+use Rattle.ts_trees.specs.Seen.{procedure_of}
+use Rattle.ts_trees.specs.Tree.{no_acts}
+use Rattle.ts_trees.specs.declared.halt.Halt.{Halt}
+use Rattle.ts_trees.specs.Machine.{main, block, decls, procedures}
+use Rattle.ts_trees.specs.Parsing.{reads, Reads}
+use Rattle.ts_trees.proofs.Parts.{ends_as}
 use Rattle.ts_parser.specs.Scripts.{script_frame, FewIn}
 use Rattle.ts_parser.proofs.ScriptLemmas.{body_begins, procedures_begin}
 use Rattle.ts_parser.proofs.procs.procedures_in.Goals as goal

@@ -1,10 +1,10 @@
 use Rattle.std.proofs.Common.{List, refl}
-use Rattle.ts_syntax.specs.declared.dialect.Dialect.TheVariants as dialect
-use Rattle.ts_syntax.specs.declared.stmt.Stmt.{Stmt}
-use Rattle.ts_syntax.specs.declared.token.TokenKind.TheVariants as kind
-use Rattle.ts_syntax.specs.Seen.{acts_of}
-use Rattle.ts_syntax.specs.Tree.{no_acts}
-use Rattle.ts_syntax.specs.Machine.{State, block, procedure, proc_ended}
+use Rattle.ts_trees.specs.declared.dialect.Dialect.TheVariants as dialect
+use Rattle.ts_trees.specs.declared.stmt.Stmt.{Stmt}
+use Rattle.ts_trees.specs.declared.token.TokenKind.TheVariants as kind
+use Rattle.ts_trees.specs.Seen.{acts_of}
+use Rattle.ts_trees.specs.Tree.{no_acts}
+use Rattle.ts_trees.specs.Machine.{State, block, procedure, proc_ended}
 use Rattle.ts_statements.specs.Blocks.{FrameIn, LacksStmt}
 use Rattle.ts_parser.specs.Scripts.{Routine, routine_due, routine_read}
 use Rattle.ts_parser.proofs.ScriptLemmas.{routine_in, routine_open, routine_end, routine_named, routine_left}

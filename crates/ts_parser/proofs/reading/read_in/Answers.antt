@@ -1,5 +1,5 @@
 use Rattle.std.proofs.Common.{Err, refl, sym, subst}
-use Rattle.ts_syntax.specs.Cut.{cut_in}
+use Rattle.ts_trees.specs.Cut.{cut_in}
 use Rattle.ts_parser.specs.Reading.{ReadsIn}
 use Rattle.ts_parser.proofs.ReadingLemmas.{fails_by}
 use Rattle.ts_parser.proofs.reading.read_in.Goals as goal

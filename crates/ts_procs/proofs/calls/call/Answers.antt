@@ -1,23 +1,23 @@
 use Rattle.std.proofs.Common.{◌≡◌, ◌≤◌, ◌<◌, ◌+◌, ◌++◌, ◌∙◌, List, [], ℕ, Option, ap, sym, subst, length, map, take, min}
 use Rattle.std.specs.Prelude.{unwrap_or}
-use Rattle.ts_syntax.specs.declared.expr.Expr.{Expr}
-use Rattle.ts_syntax.specs.declared.procedure.Proc.{Proc}
-use Rattle.ts_syntax.specs.declared.stmt.Stmt.{Stmt}
-use Rattle.ts_syntax.specs.Seen.{act_of, acts_of, trees_of, procedure_of}
-use Rattle.proc_names.specs.Heads.{parameter_count}
-use Rattle.proc_names.specs.Places.{declared_as}
-use Rattle.proc_expansion.specs.declared.extent.Extent.{Extent}
-use Rattle.proc_renaming.specs.Renaming.{assigned}
-use Rattle.proc_expansion.specs.Expansion.{Callee, callee, body_called}
-use Rattle.proc_expansion.specs.Extents.{extent_of}
-use Rattle.proc_renaming.specs.Hidden.{hiding_of}
+use Rattle.ts_trees.specs.declared.expr.Expr.{Expr}
+use Rattle.ts_trees.specs.declared.procedure.Proc.{Proc}
+use Rattle.ts_trees.specs.declared.stmt.Stmt.{Stmt}
+use Rattle.ts_trees.specs.Seen.{act_of, acts_of, trees_of, procedure_of}
+use Rattle.ts_proc_names.specs.Heads.{parameter_count}
+use Rattle.ts_proc_names.specs.Places.{declared_as}
+use Rattle.ts_proc_expansion.specs.declared.extent.Extent.{Extent}
+use Rattle.ts_proc_renaming.specs.Renaming.{assigned}
+use Rattle.ts_proc_expansion.specs.Expansion.{Callee, callee, body_called}
+use Rattle.ts_proc_expansion.specs.Extents.{extent_of}
+use Rattle.ts_proc_renaming.specs.Hidden.{hiding_of}
 use Rattle.ts_procs.specs.Pending.{body_steps, acts_steps, steps_of_bodies}
-use Rattle.proc_expansion.specs.Plan.{bodies_of}
-use Rattle.proc_expansion.proofs.InOrderLemmas.{none_named, one_named}
-use Rattle.proc_expansion.proofs.CalleeLemmas.{count_before, first_at, firsts-within, fits_all, params_fit, args_fit}
-use Rattle.proc_renaming.proofs.WrittenLemmas.{failed}
-use Rattle.proc_expansion.proofs.ExtentLemmas.{extents-within, extents-at, none_counted}
-use Rattle.proc_expansion.proofs.CalledLemmas.{call_written, body_left, hides}
+use Rattle.ts_proc_expansion.specs.Plan.{bodies_of}
+use Rattle.ts_proc_expansion.proofs.InOrderLemmas.{none_named, one_named}
+use Rattle.ts_proc_expansion.proofs.CalleeLemmas.{count_before, first_at, firsts-within, fits_all, params_fit, args_fit}
+use Rattle.ts_proc_renaming.proofs.WrittenLemmas.{failed}
+use Rattle.ts_proc_expansion.proofs.ExtentLemmas.{extents-within, extents-at, none_counted}
+use Rattle.ts_proc_expansion.proofs.CalledLemmas.{call_written, body_left, hides}
 use Rattle.ts_procs.proofs.WritingLemmas.{called_shallow, called_steps}
 use Rattle.ts_procs.proofs.calls.call.Goals as goal
 

@@ -1,14 +1,14 @@
 use Rattle.std.proofs.Common.{◌≡◌, ◌∙◌, ◌<◌, ℕ, List, ap, sym, subst, map}
 use Rattle.std.specs.Prelude.{◌^◌}
-use Rattle.ts_syntax.specs.declared.procedure.Proc.{Proc}
-use Rattle.ts_syntax.specs.declared.stmt.Stmt.{Stmt}
-use Rattle.ts_syntax.specs.Seen.{acts_of, procedure_of}
-use Rattle.ts_syntax.specs.Tree.{ProcedureSource}
-use Rattle.proc_names.specs.Heads.{parameter_count}
-use Rattle.proc_names.specs.Named.{written_of}
-use Rattle.proc_expansion.specs.Expansion.{callees}
-use Rattle.proc_expansion.specs.Live.{BecomesSame}
-use Rattle.proc_expansion.specs.Plan.{bodies_of}
+use Rattle.ts_trees.specs.declared.procedure.Proc.{Proc}
+use Rattle.ts_trees.specs.declared.stmt.Stmt.{Stmt}
+use Rattle.ts_trees.specs.Seen.{acts_of, procedure_of}
+use Rattle.ts_trees.specs.Tree.{ProcedureSource}
+use Rattle.ts_proc_names.specs.Heads.{parameter_count}
+use Rattle.ts_proc_names.specs.Named.{written_of}
+use Rattle.ts_proc_expansion.specs.Expansion.{callees}
+use Rattle.ts_proc_expansion.specs.Live.{BecomesSame}
+use Rattle.ts_proc_expansion.specs.Plan.{bodies_of}
 use Rattle.ts_procs.proofs.expanding.shortened.Goals as goal
 
 pub of-requires : goal.of-requires

@@ -1,15 +1,15 @@
 use Rattle.std.proofs.Common.{arith, ◌≡◌, ◌++◌, ◌∙◌, List, ap, length, map, take}
-use Rattle.ts_syntax.specs.declared.procedure.Proc.{Proc}
-use Rattle.ts_syntax.specs.declared.script.Decl.{Decl}
-use Rattle.ts_syntax.specs.Seen.{act_of, acts_of, acts}
-use Rattle.ts_syntax.specs.Tree.{Act, ProcedureSource}
-use Rattle.proc_names.specs.Named.{written_of}
-use Rattle.proc_renaming.specs.Renaming.{parameter_decls}
-use Rattle.proc_renaming.specs.Hidden.{hiding_of}
-use Rattle.proc_expansion.specs.Expansion.{expanded_acts}
-use Rattle.proc_expansion.specs.Extent.{acts_depth}
-use Rattle.proc_expansion.specs.Plan.{bodies_of}
-use Rattle.proc_expansion.proofs.ExpandLemmas.{whole_of, whole_same, expansion_made}
+use Rattle.ts_trees.specs.declared.procedure.Proc.{Proc}
+use Rattle.ts_trees.specs.declared.script.Decl.{Decl}
+use Rattle.ts_trees.specs.Seen.{act_of, acts_of, acts}
+use Rattle.ts_trees.specs.Tree.{Act, ProcedureSource}
+use Rattle.ts_proc_names.specs.Named.{written_of}
+use Rattle.ts_proc_renaming.specs.Renaming.{parameter_decls}
+use Rattle.ts_proc_renaming.specs.Hidden.{hiding_of}
+use Rattle.ts_proc_expansion.specs.Expansion.{expanded_acts}
+use Rattle.ts_proc_expansion.specs.Extent.{acts_depth}
+use Rattle.ts_proc_expansion.specs.Plan.{bodies_of}
+use Rattle.ts_proc_expansion.proofs.ExpandLemmas.{whole_of, whole_same, expansion_made}
 use Rattle.ts_procs.proofs.expanding.written.Goals as goal
 
 pub block-requires : goal.block-requires

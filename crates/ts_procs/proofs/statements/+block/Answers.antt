@@ -1,18 +1,18 @@
 use Rattle.std.proofs.Common.{◌≡◌, ◌++◌, ◌∙◌, ap, sym, subst, rules, arith, ◌≤◌, ◌<◌, ◌-◌, ◌+◌, List, Option, ℕ, map, take, drop}
 use Rattle.std.specs.Prelude.{IfOk}
 use Rattle.std.proofs.lemmas.List.{append-nil}
-use Rattle.ts_syntax.specs.declared.procedure.Proc.{Proc}
-use Rattle.ts_syntax.specs.Seen.{act_of, acts_of, acts, trees_of}
-use Rattle.ts_syntax.specs.Tree.{Act, run_procedure}
-use Rattle.ts_syntax.proofs.SeenLemmas.{act_run_procedure}
+use Rattle.ts_trees.specs.declared.procedure.Proc.{Proc}
+use Rattle.ts_trees.specs.Seen.{act_of, acts_of, acts, trees_of}
+use Rattle.ts_trees.specs.Tree.{Act, run_procedure}
+use Rattle.ts_trees.proofs.SeenLemmas.{act_run_procedure}
 use Rattle.ts_procs.specs.declared.pending.Pending.{Pending}
-use Rattle.proc_expansion.specs.Expansion.{Callee, expanded_act, expanded_acts}
+use Rattle.ts_proc_expansion.specs.Expansion.{Callee, expanded_act, expanded_acts}
 use Rattle.ts_procs.specs.Pending.{acts_left, left_if, left_on, steps_if, steps_of_bodies, act_steps}
-use Rattle.proc_renaming.specs.Hidden.{hiding_of}
-use Rattle.proc_renaming.specs.Renaming.{Hiding}
-use Rattle.proc_expansion.specs.Plan.{bodies_of}
-use Rattle.proc_expansion.specs.Extent.{acts_depth}
-use Rattle.proc_renaming.proofs.WrittenLemmas.{failed}
+use Rattle.ts_proc_renaming.specs.Hidden.{hiding_of}
+use Rattle.ts_proc_renaming.specs.Renaming.{Hiding}
+use Rattle.ts_proc_expansion.specs.Plan.{bodies_of}
+use Rattle.ts_proc_expansion.specs.Extent.{acts_depth}
+use Rattle.ts_proc_renaming.proofs.WrittenLemmas.{failed}
 use Rattle.ts_procs.proofs.WritingLemmas.{within_more, block_from, block_next, block_end, block_part, popped, popped_none, fewer_below, fewer, stack_next, front_depth, top_depth}
 use Rattle.ts_procs.proofs.statements.+block.Goals as goal
 

@@ -1,10 +1,10 @@
 use Rattle.std.proofs.Common.{◌≡◌, ◌+◌, ◌*◌, ◌++◌, ◌≤◌, map, take, drop}
-use Rattle.ts_syntax.specs.Seen.{act_of, acts_of, acts}
-use Rattle.proc_expansion.specs.Expansion.{expanded_acts}
-use Rattle.proc_expansion.specs.Extent.{acts_depth}
-use Rattle.proc_renaming.specs.Hidden.{hiding_of}
+use Rattle.ts_trees.specs.Seen.{act_of, acts_of, acts}
+use Rattle.ts_proc_expansion.specs.Expansion.{expanded_acts}
+use Rattle.ts_proc_expansion.specs.Extent.{acts_depth}
+use Rattle.ts_proc_renaming.specs.Hidden.{hiding_of}
 use Rattle.ts_procs.specs.Pending.{left_if, left_on, steps_on}
-use Rattle.proc_expansion.specs.Plan.{bodies_of}
+use Rattle.ts_proc_expansion.specs.Plan.{bodies_of}
 use Rattle.ts_procs.proofs.statements.+block.Given as goal
 
 -- what is written so far, and what the rest becomes

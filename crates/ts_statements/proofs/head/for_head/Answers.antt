@@ -1,17 +1,17 @@
 use Rattle.std.proofs.Common.{◌≡◌, ◌∙◌, List, Option, Result, Err, Ok, Bor, refl}
 use Rattle.std.specs.Prelude.{IfOk}
-use Rattle.ts_syntax.specs.declared.expr.Expr.{Expr}
-use Rattle.ts_syntax.specs.declared.stmt.ForHead.{ForHead}
-use Rattle.ts_syntax.specs.declared.stmt.Step.{Step}
-use Rattle.ts_syntax.specs.declared.token.Token.{Token}
-use Rattle.ts_syntax.specs.declared.token.TokenKind.TheVariants as kind
-use Rattle.ts_syntax.specs.declared.word.Word.{Word}
-use Rattle.ts_syntax.specs.Seen.{tree_of}
-use Rattle.ts_syntax.specs.Tree.{Acts}
-use Rattle.ts_syntax.specs.declared.halt.Halt.{Halt}
-use Rattle.ts_syntax.specs.Machine.{Frame, Whole, for_word, for_named, expr_due, have, in_from, in_to}
-use Rattle.ts_syntax.specs.Parsing.{reads, Reads, Lacks, TakesName, Ended}
-use Rattle.ts_syntax.proofs.Parts.{halts}
+use Rattle.ts_trees.specs.declared.expr.Expr.{Expr}
+use Rattle.ts_trees.specs.declared.stmt.ForHead.{ForHead}
+use Rattle.ts_trees.specs.declared.stmt.Step.{Step}
+use Rattle.ts_trees.specs.declared.token.Token.{Token}
+use Rattle.ts_trees.specs.declared.token.TokenKind.TheVariants as kind
+use Rattle.ts_trees.specs.declared.word.Word.{Word}
+use Rattle.ts_trees.specs.Seen.{tree_of}
+use Rattle.ts_trees.specs.Tree.{Acts}
+use Rattle.ts_trees.specs.declared.halt.Halt.{Halt}
+use Rattle.ts_trees.specs.Machine.{Frame, Whole, for_word, for_named, expr_due, have, in_from, in_to}
+use Rattle.ts_trees.specs.Parsing.{reads, Reads, Lacks, TakesName, Ended}
+use Rattle.ts_trees.proofs.Parts.{halts}
 use Rattle.ts_statements.specs.Simple.{Bound, limit_due, limited, head_read}
 use Rattle.ts_statements.proofs.EndedLemmas.{name_reads, ended_reads, ended_over}
 use Rattle.ts_statements.proofs.SimpleLemmas.{var_read, var_missing, from_begins, from_missing, from_open, to_read}

@@ -1,10 +1,10 @@
 use Rattle.std.proofs.Common.{◌∙◌, Option}
-use Rattle.ts_syntax.specs.declared.expr.Expr.{Expr}
-use Rattle.ts_syntax.specs.declared.stmt.Step.{Step}
-use Rattle.ts_syntax.specs.Seen.{tree_of}
-use Rattle.ts_syntax.specs.Machine.{in_to}
+use Rattle.ts_trees.specs.declared.expr.Expr.{Expr}
+use Rattle.ts_trees.specs.declared.stmt.Step.{Step}
+use Rattle.ts_trees.specs.Seen.{tree_of}
+use Rattle.ts_trees.specs.Machine.{in_to}
 use Rattle.ts_statements.specs.Simple.{Bound, limit_due, limit_read, limited, Limit}
-use Rattle.ts_syntax.proofs.Parts.{halts}
+use Rattle.ts_trees.proofs.Parts.{halts}
 use Rattle.ts_statements.proofs.head.limit.Goals as goal
 
 pub returns-in_err-step-clause-reads : goal.returns-in_err-step-clause-reads

@@ -1,14 +1,14 @@
 use Rattle.std.proofs.Common.{List, Result, Err, Ok, Bor, refl, sym, ◌∙◌, ap}
-use Rattle.ts_syntax.specs.declared.expr.Expr.{Expr}
-use Rattle.ts_syntax.specs.declared.token.Token.{Token}
-use Rattle.ts_syntax.specs.declared.token.TokenKind.TheVariants as kind
-use Rattle.ts_syntax.specs.declared.word.Word.{Word}
-use Rattle.ts_syntax.specs.Seen.{trees_of}
-use Rattle.ts_syntax.specs.Tree.{Acts, call_alone}
-use Rattle.ts_syntax.proofs.SeenLemmas.{act_call_alone}
-use Rattle.ts_syntax.specs.declared.halt.Halt.{Halt}
-use Rattle.ts_syntax.specs.Machine.{Frame, block, stmt_named, set_to, boxed, with_act}
-use Rattle.ts_syntax.specs.Parsing.{reads, Reads, Starts, Caller, of_stmt, called_open, called, Ended}
+use Rattle.ts_trees.specs.declared.expr.Expr.{Expr}
+use Rattle.ts_trees.specs.declared.token.Token.{Token}
+use Rattle.ts_trees.specs.declared.token.TokenKind.TheVariants as kind
+use Rattle.ts_trees.specs.declared.word.Word.{Word}
+use Rattle.ts_trees.specs.Seen.{trees_of}
+use Rattle.ts_trees.specs.Tree.{Acts, call_alone}
+use Rattle.ts_trees.proofs.SeenLemmas.{act_call_alone}
+use Rattle.ts_trees.specs.declared.halt.Halt.{Halt}
+use Rattle.ts_trees.specs.Machine.{Frame, block, stmt_named, set_to, boxed, with_act}
+use Rattle.ts_trees.specs.Parsing.{reads, Reads, Starts, Caller, of_stmt, called_open, called, Ended}
 use Rattle.ts_statements.proofs.EndedLemmas.{closed_reads, stmt_stops}
 use Rattle.ts_statements.proofs.Halting.{stmt_misses, stmt_ends}
 use Rattle.ts_statements.proofs.SimpleLemmas.{set_begins, item_begins, call_open, call_read}

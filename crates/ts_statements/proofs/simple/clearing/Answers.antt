@@ -1,12 +1,12 @@
 use Rattle.std.proofs.Common.{List, Result, Err, Ok, Bor, refl, sym, ◌∙◌, ap}
-use Rattle.ts_syntax.specs.declared.token.Token.{Token}
-use Rattle.ts_syntax.specs.declared.token.TokenKind.TheVariants as kind
-use Rattle.ts_syntax.specs.declared.word.Word.{Word}
-use Rattle.ts_syntax.specs.Tree.{Acts, clear}
-use Rattle.ts_syntax.proofs.SeenLemmas.{act_clear}
-use Rattle.ts_syntax.specs.declared.halt.Halt.{Halt}
-use Rattle.ts_syntax.specs.Machine.{Frame, block, cleared, clear_opened, clear_named, closed, with_act}
-use Rattle.ts_syntax.specs.Parsing.{reads, Reads, Starts, TakesName, Ended}
+use Rattle.ts_trees.specs.declared.token.Token.{Token}
+use Rattle.ts_trees.specs.declared.token.TokenKind.TheVariants as kind
+use Rattle.ts_trees.specs.declared.word.Word.{Word}
+use Rattle.ts_trees.specs.Tree.{Acts, clear}
+use Rattle.ts_trees.proofs.SeenLemmas.{act_clear}
+use Rattle.ts_trees.specs.declared.halt.Halt.{Halt}
+use Rattle.ts_trees.specs.Machine.{Frame, block, cleared, clear_opened, clear_named, closed, with_act}
+use Rattle.ts_trees.specs.Parsing.{reads, Reads, Starts, TakesName, Ended}
 use Rattle.ts_statements.proofs.EndedLemmas.{name_reads, ended_reads, closed_reads, stmt_stops}
 use Rattle.ts_statements.proofs.Halting.{stmt_misses}
 use Rattle.ts_statements.proofs.SimpleLemmas.{clear_missing, clear_opens, clear_unnamed, clear_names, clear_open, clear_closes}

@@ -1,15 +1,15 @@
 use Rattle.std.proofs.Common.{List, Result, Err, Ok, Bor, sym, ◌∙◌, ap}
 use Rattle.std.specs.Prelude.{IfOk}
-use Rattle.ts_syntax.specs.declared.expr.Expr.{Expr}
-use Rattle.ts_syntax.specs.declared.token.Token.{Token}
-use Rattle.ts_syntax.specs.declared.token.TokenKind.TheVariants as kind
-use Rattle.ts_syntax.specs.declared.word.Word.{Word}
-use Rattle.ts_syntax.specs.Seen.{tree_of}
-use Rattle.ts_syntax.specs.Tree.{Acts}
-use Rattle.ts_syntax.proofs.SeenLemmas.{act_append, act_set_item}
-use Rattle.ts_syntax.specs.declared.halt.Halt.{Halt}
-use Rattle.ts_syntax.specs.Machine.{Frame, Whole, in_index, have, block, boxed, item_indexed, expr_due, with_act}
-use Rattle.ts_syntax.specs.Parsing.{reads, Reads, Lacks, Ended}
+use Rattle.ts_trees.specs.declared.expr.Expr.{Expr}
+use Rattle.ts_trees.specs.declared.token.Token.{Token}
+use Rattle.ts_trees.specs.declared.token.TokenKind.TheVariants as kind
+use Rattle.ts_trees.specs.declared.word.Word.{Word}
+use Rattle.ts_trees.specs.Seen.{tree_of}
+use Rattle.ts_trees.specs.Tree.{Acts}
+use Rattle.ts_trees.proofs.SeenLemmas.{act_append, act_set_item}
+use Rattle.ts_trees.specs.declared.halt.Halt.{Halt}
+use Rattle.ts_trees.specs.Machine.{Frame, Whole, in_index, have, block, boxed, item_indexed, expr_due, with_act}
+use Rattle.ts_trees.specs.Parsing.{reads, Reads, Lacks, Ended}
 use Rattle.ts_statements.specs.Simple.{Target, of_append, of_item, value_due, value_set}
 use Rattle.ts_statements.proofs.EndedLemmas.{ended_over, stmt_stops}
 use Rattle.ts_statements.proofs.Halting.{stmt_halts}

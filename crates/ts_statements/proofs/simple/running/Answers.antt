@@ -1,14 +1,14 @@
 use Rattle.std.proofs.Common.{◌≡◌, List, Result, Err, Ok, Bor, refl, sym, ◌∙◌, ap}
-use Rattle.ts_syntax.specs.declared.expr.Expr.{Expr}
-use Rattle.ts_syntax.specs.declared.token.Token.{Token}
-use Rattle.ts_syntax.specs.declared.token.TokenKind.TheVariants as kind
-use Rattle.ts_syntax.specs.declared.word.Word.{Word}
-use Rattle.ts_syntax.specs.Seen.{trees_of}
-use Rattle.ts_syntax.specs.Tree.{Acts, run_procedure}
-use Rattle.ts_syntax.proofs.SeenLemmas.{act_run_procedure}
-use Rattle.ts_syntax.specs.declared.halt.Halt.{Halt}
-use Rattle.ts_syntax.specs.Machine.{Frame, block, do_word, do_named, do_opened, with_act}
-use Rattle.ts_syntax.specs.Parsing.{reads, Reads, TakesName, Caller, of_do, called_open, called, Ended}
+use Rattle.ts_trees.specs.declared.expr.Expr.{Expr}
+use Rattle.ts_trees.specs.declared.token.Token.{Token}
+use Rattle.ts_trees.specs.declared.token.TokenKind.TheVariants as kind
+use Rattle.ts_trees.specs.declared.word.Word.{Word}
+use Rattle.ts_trees.specs.Seen.{trees_of}
+use Rattle.ts_trees.specs.Tree.{Acts, run_procedure}
+use Rattle.ts_trees.proofs.SeenLemmas.{act_run_procedure}
+use Rattle.ts_trees.specs.declared.halt.Halt.{Halt}
+use Rattle.ts_trees.specs.Machine.{Frame, block, do_word, do_named, do_opened, with_act}
+use Rattle.ts_trees.specs.Parsing.{reads, Reads, TakesName, Caller, of_do, called_open, called, Ended}
 use Rattle.ts_statements.proofs.EndedLemmas.{name_reads, ended_reads, closed_reads, stmt_stops}
 use Rattle.ts_statements.proofs.SimpleLemmas.{do_missing, do_names, do_unopened, do_opens}
 use Rattle.ts_statements.proofs.simple.running.Goals as goal

@@ -1,8 +1,8 @@
-use Rattle.ts_syntax.specs.declared.expr.Expr.{Expr}
-use Rattle.ts_syntax.specs.declared.token.TokenKind.TheVariants as kind
-use Rattle.ts_syntax.specs.Seen.{tree_of}
-use Rattle.ts_syntax.specs.Machine.{Whole, have, expr_due}
-use Rattle.ts_syntax.specs.Parsing.{Lacks}
+use Rattle.ts_trees.specs.declared.expr.Expr.{Expr}
+use Rattle.ts_trees.specs.declared.token.TokenKind.TheVariants as kind
+use Rattle.ts_trees.specs.Seen.{tree_of}
+use Rattle.ts_trees.specs.Machine.{Whole, have, expr_due}
+use Rattle.ts_trees.specs.Parsing.{Lacks}
 use Rattle.ts_statements.specs.Simple.{Target, value_due, value_in, value_set}
 use Rattle.ts_statements.proofs.EndedLemmas.{ended_over}
 use Rattle.ts_statements.proofs.Halting.{token_misses}

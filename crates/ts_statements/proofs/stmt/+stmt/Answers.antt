@@ -2,24 +2,24 @@ use Rattle.std.proofs.Common.{◌≡◌, refl, subst, List, Option, Some, None, 
 use Rattle.std.specs.declared.alloc.Global.{Global}
 use Rattle.std.specs.declared.boxed.Box.{Box}
 use Rattle.ts_expressions.specs.Boxed.{boxed_tree}
-use Rattle.ts_syntax.specs.declared.expr.Expr.{Expr}
-use Rattle.ts_syntax.specs.declared.stmt.Stmt.{Stmt}
-use Rattle.ts_syntax.specs.declared.stmt.ForHead.{ForHead}
-use Rattle.ts_syntax.specs.declared.stmt.Stmt.TheVariants as does
-use Rattle.ts_syntax.specs.declared.word.Word.{Word}
-use Rattle.ts_syntax.specs.Seen.{tree_of, act_of, acts_of}
-use Rattle.ts_syntax.specs.Tree.{Acts, no_acts, if_then}
-use Rattle.ts_syntax.proofs.SeenLemmas.{act_if_then, act_if_else, act_for_next, act_while_do}
-use Rattle.ts_syntax.specs.Machine.{Frame, Whole, have, stmt_named, cleared, do_word, in_if, in_while, block, for_word, expr_due, with_act}
-use Rattle.ts_syntax.specs.Parsing.{reads}
+use Rattle.ts_trees.specs.declared.expr.Expr.{Expr}
+use Rattle.ts_trees.specs.declared.stmt.Stmt.{Stmt}
+use Rattle.ts_trees.specs.declared.stmt.ForHead.{ForHead}
+use Rattle.ts_trees.specs.declared.stmt.Stmt.TheVariants as does
+use Rattle.ts_trees.specs.declared.word.Word.{Word}
+use Rattle.ts_trees.specs.Seen.{tree_of, act_of, acts_of}
+use Rattle.ts_trees.specs.Tree.{Acts, no_acts, if_then}
+use Rattle.ts_trees.proofs.SeenLemmas.{act_if_then, act_if_else, act_for_next, act_while_do}
+use Rattle.ts_trees.specs.Machine.{Frame, Whole, have, stmt_named, cleared, do_word, in_if, in_while, block, for_word, expr_due, with_act}
+use Rattle.ts_trees.specs.Parsing.{reads}
 use Rattle.ts_statements.specs.Blocks.{opened_by, FrameIn, ReadsStmtIn, if_made, choice_made, Branch, branch_due, Repetition, repeated_block, repetition_made, Count, counted_block, count_made}
 use Rattle.ts_statements.specs.Simple.{head_read}
 use Rattle.ts_expressions.proofs.ShorterLemmas.{untold, lower, lowest, fewer}
 use Rattle.ts_statements.proofs.DialectLemmas.{no_more}
 use Rattle.ts_statements.proofs.Halting.{token_misses}
-use Rattle.ts_syntax.proofs.Parts.{halts, starts_shorter}
+use Rattle.ts_trees.proofs.Parts.{halts, starts_shorter}
 use Rattle.ts_statements.proofs.OpeningLemmas.{stmt_opens, opens_shorter, then_read, then_left, body_due}
-use Rattle.ts_syntax.specs.declared.token.TokenKind.TheVariants as kind
+use Rattle.ts_trees.specs.declared.token.TokenKind.TheVariants as kind
 use Rattle.ts_statements.proofs.BlockLemmas.{then_in, else_in, else_begins, then_end, if_named}
 use Rattle.ts_statements.proofs.EndingLemmas.{repeated_reads, else_reads, counted_reads, ended_shorter, counted_shorter, branch_stuck}
 use Rattle.ts_statements.proofs.TakenLemmas.{onto, onto_halts, onto_shorter, onto_less, not_more, narrowed, block_halts}

@@ -1,9 +1,9 @@
 use Rattle.std.proofs.Common.{◌≡◌, ◌≤◌, ◌+◌, ◌*◌, length}
-use Rattle.ts_syntax.specs.Seen.{acts_of}
-use Rattle.ts_syntax.specs.Tree.{no_acts}
+use Rattle.ts_trees.specs.Seen.{acts_of}
+use Rattle.ts_trees.specs.Tree.{no_acts}
 use Rattle.ts_statements.specs.Blocks.{FrameIn}
-use Rattle.ts_syntax.specs.Machine.{block}
-use Rattle.ts_syntax.specs.Parsing.{reads}
+use Rattle.ts_trees.specs.Machine.{block}
+use Rattle.ts_trees.specs.Parsing.{reads}
 use Rattle.ts_statements.proofs.stmt.+stmt.Given as goal
 
 -- each part of a statement begins with a part of less, or behind a token

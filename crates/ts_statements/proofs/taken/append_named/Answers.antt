@@ -1,5 +1,5 @@
 use Rattle.ts_statements.proofs.TakenLemmas.{simple_reads, simple_shorter}
-use Rattle.ts_syntax.specs.Machine.{stmt_named}
+use Rattle.ts_trees.specs.Machine.{stmt_named}
 use Rattle.ts_statements.proofs.taken.append_named.Goals as goal
 
 pub returns-clause-reads : goal.returns-clause-reads

@@ -1,4 +1,4 @@
-use Rattle.vm_desc.proofs.DescriptionLemmas.{trickle_rules}
+use Rattle.vm_shape.proofs.DescriptionLemmas.{trickle_rules}
 use Rattle.view_pictures.proofs.bounds.hop_of.Goals as goal
 
 pub longest-requires : goal.longest-requires

@@ -3,9 +3,9 @@ use Rattle.std.specs.Prelude.{Some, slice_get}
 use Rattle.std.proofs.lemmas.List.{take-append-drop}
 use Rattle.std.proofs.lemmas.Option.{slice_get-get_or}
 use Rattle.mate_journal.specs.declared.air.Aired.{Aired}
-use Rattle.report_text.specs.declared.tally.LogTally.{LogTally}
-use Rattle.report_text.proofs.TallyLemmas.{up-to, air-same, air-up-to}
-use Rattle.sim_state.specs.declared.mote.Mote.{Mote}
+use Rattle.report_writer.specs.declared.tally.LogTally.{LogTally}
+use Rattle.report_writer.proofs.TallyLemmas.{up-to, air-same, air-up-to}
+use Rattle.world_state.specs.declared.mote.Mote.{Mote}
 use Rattle.world_runs.proofs.CountingLemmas.{event-counted, event-small}
 use Rattle.world_runs.proofs.counting.count_event.Goals as goal
 

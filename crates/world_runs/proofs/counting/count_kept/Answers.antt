@@ -1,5 +1,5 @@
 use Rattle.std.proofs.Common.{take}
-use Rattle.report_text.proofs.TallyLemmas.{counted-kept}
+use Rattle.report_writer.proofs.TallyLemmas.{counted-kept}
 use Rattle.world_runs.proofs.counting.count_kept.Goals as goal
 
 pub returns : goal.returns

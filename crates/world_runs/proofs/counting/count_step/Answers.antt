@@ -1,7 +1,7 @@
 use Rattle.std.proofs.Common.{length, arith}
 use Rattle.world_run_laws.specs.Coming.{code_world}
-use Rattle.sim_state.proofs.RangeLemmas.{left-ranges}
-use Rattle.sim_state.proofs.KeepingLemmas.{few-after, few-stand, left-stands}
+use Rattle.world_state.proofs.RangeLemmas.{left-ranges}
+use Rattle.world_state.proofs.KeepingLemmas.{few-after, few-stand, left-stands}
 use Rattle.world_runs.proofs.HandLemmas.{at-hand-now}
 use Rattle.world_runs.proofs.CountingLemmas.{tallied-left, tallied-before, may-count}
 use Rattle.world_runs.proofs.counting.count_step.Goals as goal

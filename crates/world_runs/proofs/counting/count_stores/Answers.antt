@@ -1,8 +1,8 @@
 use Rattle.std.proofs.Common.{◌≡◌, ◌<◌, ◌+◌, ℕ, List, length, set, refl, sym, ◌∙◌, ap, subst, arith}
 use Rattle.std.specs.Prelude.{Some, slice_get}
 use Rattle.std.proofs.lemmas.Option.{slice_get-get_or}
-use Rattle.report_text.specs.declared.tally.LogTally.{LogTally}
-use Rattle.sim_state.specs.declared.mote.Mote.{Mote}
+use Rattle.report_writer.specs.declared.tally.LogTally.{LogTally}
+use Rattle.world_state.specs.declared.mote.Mote.{Mote}
 use Rattle.world_runs.proofs.CountingLemmas.{StoresCounted, none-counted, store-few, store-counted, stores-counted, stores-small}
 use Rattle.world_runs.proofs.counting.count_stores.Goals as goal
 

@@ -1,14 +1,14 @@
 use Rattle.std.proofs.Common.{◌≡◌, ◌+◌, ℕ, suc, true, List, length, refl, sym, ap, subst, arith, inl}
 use Rattle.mate_num.specs.declared.call.Stamp.{Stamp}
 use Rattle.mate_journal.specs.NodeScript.{Whole}
-use Rattle.report_text.specs.declared.summary.RunTally.{RunTally}
+use Rattle.report_writer.specs.declared.summary.RunTally.{RunTally}
 use Rattle.world_run_laws.specs.Promise.{IsReportOfWorld}
-use Rattle.sim_state.specs.Reporting.{told_report}
-use Rattle.sim_state.specs.Telling.{LogsAreKept}
-use Rattle.sim_state.specs.declared.simulation.Simulation.{Simulation}
-use Rattle.sim_state.proofs.RangeLemmas.{report-ranges, few-of}
-use Rattle.sim_state.proofs.WorldLemmas.{all-timely}
-use Rattle.sim_state.specs.declared.mote.Mote.{Mote}
+use Rattle.world_state.specs.Reporting.{told_report}
+use Rattle.world_state.specs.Telling.{LogsAreKept}
+use Rattle.world_state.specs.declared.simulation.Simulation.{Simulation}
+use Rattle.world_state.proofs.RangeLemmas.{report-ranges, few-of}
+use Rattle.world_state.proofs.WorldLemmas.{all-timely}
+use Rattle.world_state.specs.declared.mote.Mote.{Mote}
 use Rattle.world_run_laws.specs.Coming.{code_world}
 use Rattle.world_runs.specs.Counting.{IsCounted, IsCountedBehind, AreCounted}
 use Rattle.world_runs.proofs.CountingLemmas.{all-behind, all-few, run-summary}

@@ -3,10 +3,10 @@ use Rattle.mate_journal.specs.NodeScript.{Whole, Full}
 use Rattle.radio_sim.specs.Radio.{Ether}
 use Rattle.world_run_laws.specs.Promise.{IsReportOfWorld}
 use Rattle.world_run_laws.specs.Coming.{code_world}
-use Rattle.sim_state.specs.Reporting.{told_report}
-use Rattle.sim_state.specs.declared.simulation.Simulation.{Simulation}
-use Rattle.sim_state.proofs.RangeLemmas.{same-ranges, report-ranges, few-of}
-use Rattle.sim_state.proofs.RunLemmas.{behind, is-done}
+use Rattle.world_state.specs.Reporting.{told_report}
+use Rattle.world_state.specs.declared.simulation.Simulation.{Simulation}
+use Rattle.world_state.proofs.RangeLemmas.{same-ranges, report-ranges, few-of}
+use Rattle.world_state.proofs.RunLemmas.{behind, is-done}
 use Rattle.world_runs.proofs.WritingLemmas.{at-end, full-report-now}
 use Rattle.world_runs.proofs.CountingLemmas.{tallied-air, run-summary}
 use Rattle.world_runs.proofs.counting.sum_started.Goals as goal

@@ -1,10 +1,10 @@
 use Rattle.std.proofs.Common.{◌≡◌, length}
 use Rattle.mate_journal.specs.Log.{IsEmpty}
 use Rattle.world_run_laws.specs.Coming.{code_world}
-use Rattle.sim_state.specs.Motes.{plain_effect}
-use Rattle.sim_state.specs.Ranging.{AreInRange}
-use Rattle.sim_state.specs.Running.{StandsAfter}
-use Rattle.sim_state.specs.Telling.{LogsAreKept}
+use Rattle.world_state.specs.Motes.{plain_effect}
+use Rattle.world_state.specs.Ranging.{AreInRange}
+use Rattle.world_state.specs.Running.{StandsAfter}
+use Rattle.world_state.specs.Telling.{LogsAreKept}
 use Rattle.world_runs.specs.Counting.{IsTallied, IsSmallTally}
 use Rattle.world_runs.proofs.counting.sum_started.Given as goal
 

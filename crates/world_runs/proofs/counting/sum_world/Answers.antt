@@ -1,6 +1,6 @@
 use Rattle.std.proofs.Common.{length, sym, ◌∙◌, subst, arith}
-use Rattle.report_text.specs.Summary.{IsNewTally}
-use Rattle.sim_state.specs.Telling.{LogsAreKept}
+use Rattle.report_writer.specs.Summary.{IsNewTally}
+use Rattle.world_state.specs.Telling.{LogsAreKept}
 use Rattle.world_runs.proofs.CountingLemmas.{start-tallied, start-few}
 use Rattle.world_runs.proofs.counting.sum_world.Goals as goal
 

@@ -1,6 +1,6 @@
 use Rattle.std.proofs.Common.{Result, ap}
-use Rattle.report_text.specs.declared.pass.Pass.{Pass}
-use Rattle.report_text.specs.declared.write_fault.WriteFault.{WriteFault}
+use Rattle.report_writer.specs.declared.pass.Pass.{Pass}
+use Rattle.report_writer.specs.declared.write_fault.WriteFault.{WriteFault}
 use Rattle.world_runs.proofs.pieces.end_with.Goals as goal
 
 pub returns : goal.returns

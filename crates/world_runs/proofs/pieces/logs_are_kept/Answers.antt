@@ -2,9 +2,9 @@ use Rattle.std.proofs.Common.{subst}
 use Rattle.std.proofs.lemmas.List.{take_all}
 use Rattle.std.proofs.lemmas.List.Elements.{All-more}
 use Rattle.node_state.specs.Meaning.{machine_in}
-use Rattle.open_node.specs.Journal.{KeepsJournal}
-use Rattle.sim_state.specs.declared.mote.Mote.{Mote}
-use Rattle.sim_state.specs.Telling.{LogsAreKept}
+use Rattle.node_open.specs.Journal.{KeepsJournal}
+use Rattle.world_state.specs.declared.mote.Mote.{Mote}
+use Rattle.world_state.specs.Telling.{LogsAreKept}
 use Rattle.world_runs.proofs.pieces.logs_are_kept.Goals as goal
 
 pub loop-mote-preserved : goal.loop-mote-preserved

@@ -1,5 +1,5 @@
 use Rattle.std.proofs.Common.{take}
-use Rattle.sim_state.specs.Telling.{LogsAreKept}
+use Rattle.world_state.specs.Telling.{LogsAreKept}
 use Rattle.world_runs.proofs.pieces.logs_are_kept.Given as goal
 
 abbrev pub invariant-loop-mote : goal.invariant-loop-mote

@@ -1,16 +1,16 @@
 use Rattle.std.proofs.Common.{◌≡◌, ◌<◌, ℕ, suc, ◌+◌, List, length, Ok, Err, refl, sym, ap, subst, arith, All, true}
 use Rattle.mate_files.specs.Sink.{Puts}
 use Rattle.mate_journal.specs.NodeScript.{Whole}
-use Rattle.report_text.specs.declared.pass.Pass.{Pass}
-use Rattle.sim_state.specs.declared.mote.Mote.{Mote}
+use Rattle.report_writer.specs.declared.pass.Pass.{Pass}
+use Rattle.world_state.specs.declared.mote.Mote.{Mote}
 use Rattle.world_laws.specs.EventText.{store_lines}
-use Rattle.sim_state.specs.Reporting.{mote_logs}
-use Rattle.sim_state.specs.Telling.{LogsAreKept}
-use Rattle.sim_state.specs.declared.simulation.Simulation.{Simulation}
+use Rattle.world_state.specs.Reporting.{mote_logs}
+use Rattle.world_state.specs.Telling.{LogsAreKept}
+use Rattle.world_state.specs.declared.simulation.Simulation.{Simulation}
 use Rattle.world_run_laws.specs.Coming.{code_world}
-use Rattle.sim_state.proofs.RangeLemmas.{report-ranges, few-of}
-use Rattle.sim_state.proofs.WorldLemmas.{all-timely}
-use Rattle.report_text.specs.Writing.{PutsLastLine}
+use Rattle.world_state.proofs.RangeLemmas.{report-ranges, few-of}
+use Rattle.world_state.proofs.WorldLemmas.{all-timely}
+use Rattle.report_writer.specs.Writing.{PutsLastLine}
 use Rattle.world_runs.specs.Recording.{AreStoresBefore, AreStoresRecorded}
 use Rattle.world_runs.specs.Writing.{EndsSo, report_of}
 use Rattle.world_runs.proofs.HandLemmas.{still-written}

@@ -1,6 +1,6 @@
 use Rattle.std.proofs.Common.{List, length, sym, ap, subst, arith}
-use Rattle.report_text.specs.Writing.{PutsLastLine}
-use Rattle.sim_state.specs.declared.mote.Mote.{Mote}
+use Rattle.report_writer.specs.Writing.{PutsLastLine}
+use Rattle.world_state.specs.declared.mote.Mote.{Mote}
 use Rattle.world_runs.specs.Writing.{report_of}
 use Rattle.world_runs.proofs.pieces.write_last.Goals as goal
 

@@ -3,9 +3,9 @@ use Rattle.std.specs.Prelude.{Some, slice_get, unwrap_or}
 use Rattle.std.proofs.lemmas.Option.{slice_get-get_or}
 use Rattle.mate_files.specs.Sink.{Puts}
 use Rattle.mate_journal.specs.declared.air.Aired.{Aired}
-use Rattle.report_text.specs.Text.{event_piece}
-use Rattle.sim_state.specs.declared.mote.Mote.{Mote}
-use Rattle.report_text.proofs.KeptLines.{piece-all}
+use Rattle.report_writer.specs.Text.{event_piece}
+use Rattle.world_state.specs.declared.mote.Mote.{Mote}
+use Rattle.report_writer.proofs.KeptLines.{piece-all}
 use Rattle.world_runs.proofs.pieces.write_piece.Goals as goal
 
 pub returns : goal.returns

@@ -1,7 +1,7 @@
 use Rattle.std.proofs.Common.{◌<◌, length, subst, arith}
 use Rattle.world_run_laws.specs.Coming.{code_world}
-use Rattle.sim_state.specs.Telling.{LogsAreKept}
-use Rattle.sim_state.proofs.MotesLemmas.{first-mote, at-mote}
+use Rattle.world_state.specs.Telling.{LogsAreKept}
+use Rattle.world_state.proofs.MotesLemmas.{first-mote, at-mote}
 use Rattle.world_runs.proofs.EndingLemmas.{start-goes, start-fails}
 use Rattle.world_runs.proofs.pieces.write_start.Goals as goal
 

@@ -2,11 +2,11 @@ use Rattle.std.proofs.Common.{◌≡◌, ◌-◌, ◌<◌, ℕ, suc, List, [], �
 use Rattle.mate_files.specs.Sink.{Puts}
 use Rattle.mate_files.proofs.SinkLemmas.{Puts-trans, Puts-stop}
 use Rattle.mate_journal.specs.declared.entry.Stamped.{Stamped}
-use Rattle.report_text.specs.Text.{event_piece}
-use Rattle.sim_state.specs.Reporting.{mote_logs}
+use Rattle.report_writer.specs.Text.{event_piece}
+use Rattle.world_state.specs.Reporting.{mote_logs}
 use Rattle.world_laws.specs.EventText.{store_lines}
-use Rattle.open_node.proofs.KeptLemmas.{count-kept}
-use Rattle.sim_state.specs.declared.mote.Mote.{Mote}
+use Rattle.node_open.proofs.KeptLemmas.{count-kept}
+use Rattle.world_state.specs.declared.mote.Mote.{Mote}
 use Rattle.world_runs.proofs.HandLemmas.{piece-last}
 use Rattle.world_runs.proofs.WritingLemmas.{next-line, rest-lines}
 use Rattle.world_runs.proofs.pieces.write_stores.Goals as goal

@@ -1,6 +1,6 @@
 use Rattle.std.proofs.Common.{◌≡◌, Ok, take}
 use Rattle.mate_files.specs.Sink.{Puts}
-use Rattle.sim_state.specs.Reporting.{mote_logs}
+use Rattle.world_state.specs.Reporting.{mote_logs}
 use Rattle.world_laws.specs.EventText.{store_lines}
 use Rattle.world_runs.proofs.pieces.write_stores.Given as goal
 

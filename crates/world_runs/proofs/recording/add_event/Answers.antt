@@ -2,7 +2,7 @@ use Rattle.std.proofs.Common.{◌≡◌, ◌<◌, length, sym, ◌∙◌, ap, ar
 use Rattle.std.specs.Prelude.{Some, slice_get}
 use Rattle.std.proofs.lemmas.Option.{slice_get-get_or}
 use Rattle.std.proofs.lemmas.Result.{MatchResult-weaker}
-use Rattle.sim_state.specs.declared.mote.Mote.{Mote}
+use Rattle.world_state.specs.declared.mote.Mote.{Mote}
 use Rattle.world_runs.proofs.RecordingLemmas.{event-may, record-low, event-recorded, same-record}
 use Rattle.world_runs.proofs.recording.add_event.Goals as goal
 

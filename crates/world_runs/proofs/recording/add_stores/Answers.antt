@@ -4,8 +4,8 @@ use Rattle.std.proofs.lemmas.Option.{slice_get-get_or}
 use Rattle.std.proofs.lemmas.Result.{MatchResult-from_err}
 use Rattle.mate_journal.specs.declared.air.Aired.{Aired}
 use Rattle.world_runs.specs.Records.{MayAdd, HasAdded, HasRoomFor, OthersStay}
-use Rattle.sim_state.specs.Reporting.{mote_logs}
-use Rattle.sim_state.specs.declared.mote.Mote.{Mote}
+use Rattle.world_state.specs.Reporting.{mote_logs}
+use Rattle.world_state.specs.declared.mote.Mote.{Mote}
 use Rattle.world_runs.specs.Recording.{IsRecordOf}
 use Rattle.world_runs.proofs.RecordingLemmas.{none-added, behind-as, store-low, store-may, store-room, store-added, stores-recorded}
 use Rattle.world_runs.proofs.recording.add_stores.Goals as goal

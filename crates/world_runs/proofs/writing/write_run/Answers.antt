@@ -2,12 +2,12 @@ use Rattle.std.proofs.Common.{◌≡◌, ℕ, ◌≤◌, lit<, false, length, re
 use Rattle.mate_journal.specs.NodeScript.{Whole, Full}
 use Rattle.radio_sim.specs.Radio.{Ether}
 use Rattle.world_runs.proofs.RecordLemmas.{all-self}
-use Rattle.report_text.specs.declared.pass.Pass.{Pass}
+use Rattle.report_writer.specs.declared.pass.Pass.{Pass}
 use Rattle.world_rules.specs.Report.{IsWorldReport}
 use Rattle.world_run_laws.specs.Coming.{code_world}
-use Rattle.sim_state.specs.Reporting.{mote_logs}
-use Rattle.sim_state.proofs.RangeLemmas.{same-ranges, report-ranges, few-of}
-use Rattle.sim_state.proofs.RunLemmas.{behind, is-done}
+use Rattle.world_state.specs.Reporting.{mote_logs}
+use Rattle.world_state.proofs.RangeLemmas.{same-ranges, report-ranges, few-of}
+use Rattle.world_state.proofs.RunLemmas.{behind, is-done}
 use Rattle.world_runs.specs.Writing.{WritesRecorded}
 use Rattle.world_runs.proofs.RecordingLemmas.{recorded-as}
 use Rattle.world_runs.proofs.WritingLemmas.{at-end, memory-ends, full-ends}

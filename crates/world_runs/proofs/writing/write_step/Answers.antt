@@ -1,8 +1,8 @@
 use Rattle.std.proofs.Common.{◌≡◌, ◌≤◌, ◌-◌, ℕ, suc, length, sym, subst, arith}
-use Rattle.report_text.specs.declared.pass.Pass.{Pass}
+use Rattle.report_writer.specs.declared.pass.Pass.{Pass}
 use Rattle.world_run_laws.specs.Coming.{code_world}
-use Rattle.sim_state.proofs.RangeLemmas.{left-ranges, few-before}
-use Rattle.sim_state.proofs.KeepingLemmas.{few-after, left-stands}
+use Rattle.world_state.proofs.RangeLemmas.{left-ranges, few-before}
+use Rattle.world_state.proofs.KeepingLemmas.{few-after, left-stands}
 use Rattle.world_runs.specs.Writing.{EndsSo}
 use Rattle.world_runs.proofs.HandLemmas.{written-still, at-hand-now, put-now, left-written}
 use Rattle.world_runs.proofs.RecordingLemmas.{recorded-before, recorded-still, left-recorded}

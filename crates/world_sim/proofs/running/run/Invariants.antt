@@ -1,9 +1,9 @@
 use Rattle.std.proofs.Common.{◌≡◌, length}
 use Rattle.mate_journal.specs.Log.{IsEmpty}
 use Rattle.world_run_laws.specs.Coming.{code_world}
-use Rattle.sim_state.specs.Motes.{plain_effect}
-use Rattle.sim_state.specs.Keeping.{IsWhole}
-use Rattle.sim_state.specs.Running.{StandsAfter}
+use Rattle.world_state.specs.Motes.{plain_effect}
+use Rattle.world_state.specs.Keeping.{IsWhole}
+use Rattle.world_state.specs.Running.{StandsAfter}
 use Rattle.world_sim.proofs.running.run.Given as goal
 
 abbrev pub invariant-loop-events : goal.invariant-loop-events

@@ -1,6 +1,6 @@
 use Rattle.std.proofs.Common.{refl, subst, inl, Option}
 use Rattle.world_runs.specs.declared.record.Record.{Record}
-use Rattle.report_text.proofs.WritingLemmas.{given-whole, given-fault}
+use Rattle.report_writer.proofs.WritingLemmas.{given-whole, given-fault}
 use Rattle.world_run_laws.specs.Promise.{IsReportOfWorld}
 use Rattle.world_rules.specs.Report.{IsWorldReport}
 use Rattle.world_run_laws.specs.Coming.{code_world}

@@ -1,4 +1,4 @@
-use Rattle.vm_desc.specs.Shapes.{shape_of}
+use Rattle.vm_shape.specs.Shapes.{shape_of}
 use Rattle.code_verifier.proofs.PassLemmas.{read-Accepts}
 use Rattle.code_verifier.proofs.verifier.Verifier.check.Goals as goal
 

@@ -2,9 +2,9 @@ use Rattle.std.proofs.Common.{◌≡◌, ℤ, to_z, of_z, w16, rules, subst, ◌
 use Rattle.std.specs.Prelude.{MatchResult}
 use Rattle.mate_journal.specs.NodeScript.{AnswersCall}
 use Rattle.node_calls.specs.Calls.{NobodyWaits}
-use Rattle.open_node.specs.View.{NodeView, heard_of, Tells}
-use Rattle.open_node.specs.Calls.{Pacing}
-use Rattle.open_node.proofs.CallLemmas.{gone-either, places-either}
+use Rattle.node_open.specs.View.{NodeView, heard_of, Tells}
+use Rattle.node_open.specs.Calls.{Pacing}
+use Rattle.node_open.proofs.CallLemmas.{gone-either, places-either}
 use Rattle.node_core.proofs.node.Node.answer.Goals as goal
 
 pub returns : goal.returns

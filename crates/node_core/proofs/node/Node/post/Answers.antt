@@ -1,9 +1,9 @@
 use Rattle.std.proofs.Common.{subst, ◌∙◌}
 use Rattle.node_state.specs.Meaning.{machine_in}
 use Rattle.node_calls.specs.Posting.{PostGives}
-use Rattle.open_node.specs.View.{NodeView, heard_of, Tells}
-use Rattle.open_node.specs.Calls.{Pacing}
-use Rattle.open_node.proofs.CallLemmas.{places-told}
+use Rattle.node_open.specs.View.{NodeView, heard_of, Tells}
+use Rattle.node_open.specs.Calls.{Pacing}
+use Rattle.node_open.proofs.CallLemmas.{places-told}
 use Rattle.node_core.proofs.node.Node.post.Goals as goal
 
 pub returns : goal.returns

@@ -1,6 +1,6 @@
 use Rattle.std.proofs.Common.{sym, subst, ◌∙◌}
-use Rattle.open_node.specs.View.{NodeView, HasPace}
-use Rattle.open_node.proofs.CallLemmas.{places-same}
+use Rattle.node_open.specs.View.{NodeView, HasPace}
+use Rattle.node_open.proofs.CallLemmas.{places-same}
 use Rattle.node_core.proofs.node.Node.reserve.Goals as goal
 
 pub returns-clause-pace : goal.returns-clause-pace

@@ -1,5 +1,5 @@
 use Rattle.std.proofs.Common.{◌∙◌}
-use Rattle.open_node.proofs.CallLemmas.{places-told}
+use Rattle.node_open.proofs.CallLemmas.{places-told}
 use Rattle.node_core.proofs.node.Node.seen.Goals as goal
 
 pub invariant_of-self : goal.invariant_of-self

@@ -1,8 +1,8 @@
 use Rattle.std.proofs.Common.{◌≡◌, ◌∷◌, [], subst, ◌∙◌}
 use Rattle.mate_journal.specs.Journal.{Void}
-use Rattle.open_node.specs.View.{NodeView, Tells}
-use Rattle.open_node.specs.Calls.{Pacing}
-use Rattle.open_node.proofs.CallLemmas.{places-told}
+use Rattle.node_open.specs.View.{NodeView, Tells}
+use Rattle.node_open.specs.Calls.{Pacing}
+use Rattle.node_open.proofs.CallLemmas.{places-told}
 use Rattle.node_core.proofs.node.Node.void.Goals as goal
 
 pub returns : goal.returns

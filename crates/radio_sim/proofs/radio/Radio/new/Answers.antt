@@ -1,8 +1,8 @@
 use Rattle.std.proofs.Common.{◌≡◌, List, ◌++◌, length, sym, ◌∙◌, ap, subst, refl, arith}
 use Rattle.mate_journal.specs.declared.air.Aired.{Aired}
-use Rattle.world_script.specs.declared.world.Link.{Link}
+use Rattle.script_steps.specs.declared.world.Link.{Link}
 use Rattle.radio_sim.specs.Sending.{AreLeaving}
-use Rattle.vm_desc.proofs.DescriptionLemmas.{bounds_of}
+use Rattle.vm_shape.proofs.DescriptionLemmas.{bounds_of}
 use Rattle.event_queue.specs.Agenda.{Agenda}
 use Rattle.radio_sim.specs.declared.waiting.Waiting.{Waiting}
 use Rattle.radio_sim.specs.Waiting.{IsOnTime}

@@ -1,5 +1,5 @@
 use Rattle.std.proofs.Common.{IsTrue, refl, subst, rules}
-use Rattle.vm_desc.specs.Limits.{is_trickle}
+use Rattle.vm_shape.specs.Limits.{is_trickle}
 use Rattle.trickle_timer.specs.Timer.{Timer}
 use Rattle.trickle_timer.proofs.IntervalLemmas.{Decides-at_point}
 use Rattle.trickle_timer.proofs.timer.Trickle.fire.Goals as goal

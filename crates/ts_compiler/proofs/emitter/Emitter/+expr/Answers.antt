@@ -4,7 +4,7 @@ use Rattle.mate_code.specs.declared.instr.Instr.TheVariants.{Fun}
 use Rattle.ts_checked.specs.Expression.{Expression, arguments, Shared, Private, Item, Size, MsgItem, MsgSize, Call, SendBuf, Neg, Not, Two}
 use Rattle.ts_checked.specs.TreeOf.{expr_tree, args_trees}
 use Rattle.ts_checked.specs.declared.checked_expr.CExpr.{CExpr, the_lemmas}
-use Rattle.ts_meaning.specs.Translation.{expr_code, args_code, operator_code}
+use Rattle.ts_semantics.specs.Translation.{expr_code, args_code, operator_code}
 use Rattle.ts_compiler.specs.Parts.{HasRoom, WritesInstrs}
 use Rattle.ts_compiler.proofs.PartLemmas.{◌⟫◌, room_first, room_second, ArgsFrom, args_room, args_step, args_end, rest_more, rest_none, room_expr, writes_expr}
 use Rattle.ts_compiler.proofs.TreeLemmas.{tree-Shared, tree-Private, tree-Size, tree-MsgSize, tree-Call, tree-SendBuf}

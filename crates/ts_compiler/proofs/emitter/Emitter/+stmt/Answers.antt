@@ -7,7 +7,7 @@ use Rattle.ts_checked.specs.Expression.{Expression, arguments}
 use Rattle.ts_checked.specs.Statement.{Statement, Block, block, Set, SetItem, Append, Take, Clear, Do, DoSend, If, IfElse, For, While}
 use Rattle.ts_checked.specs.TreeOf.{expr_tree, args_trees, stmt_tree, block_tree, block_trees}
 use Rattle.ts_checked.specs.declared.checked_stmt.CStmt.{CStmt, the_lemmas}
-use Rattle.ts_meaning.specs.Translation.{size_of_instrs, number_code, expr_code, stmt_code, block_code}
+use Rattle.ts_semantics.specs.Translation.{size_of_instrs, number_code, expr_code, stmt_code, block_code}
 use Rattle.ts_compiler.specs.Parts.{HasRoom, WritesInstrs}
 use Rattle.ts_compiler.proofs.PartLemmas.{◌⟫◌, BlockFrom, block_room, block_step, block_end, rest_more, rest_none, guarded_small, guarded_test, guarded_jump, guarded_body, guarded_writes, other_small, other_jump, other_body, other_writes, else_room_first, else_room_second, else_writes, while_room_first, while_room_second, while_writes, for_head_room, for_small, for_jump, for_body_room, for_step, for_back, for_writes, room_stmt, writes_stmt, room_last, writes_last}
 use Rattle.ts_compiler.proofs.TreeLemmas.{tree-Set, tree-SetItem, tree-Append, tree-Take, tree-Clear, tree-Do, tree-DoSend, tree-For, tree-While}

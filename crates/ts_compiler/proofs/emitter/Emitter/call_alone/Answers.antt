@@ -2,7 +2,7 @@ use Rattle.std.proofs.Common.{◌++◌, ◌∷◌, []}
 use Rattle.mate_code.specs.declared.instr.Instr.TheVariants.{Drop, Fun}
 use Rattle.ts_checked.specs.Expression.{arguments}
 use Rattle.ts_checked.specs.TreeOf.{args_trees}
-use Rattle.ts_meaning.specs.Translation.{args_code}
+use Rattle.ts_semantics.specs.Translation.{args_code}
 use Rattle.ts_compiler.proofs.PartLemmas.{◌⟫◌, room_first, room_second}
 use Rattle.ts_compiler.proofs.emitter.Emitter.call_alone.Goals as goal
 

@@ -1,7 +1,7 @@
 use Rattle.std.proofs.Common.{◌++◌, ◌∷◌, []}
 use Rattle.mate_code.specs.declared.instr.Instr.TheVariants.{BSet}
 use Rattle.ts_checked.specs.TreeOf.{expr_tree}
-use Rattle.ts_meaning.specs.Translation.{expr_code}
+use Rattle.ts_semantics.specs.Translation.{expr_code}
 use Rattle.ts_compiler.proofs.PartLemmas.{◌⟫◌, room_first, room_second}
 use Rattle.ts_compiler.proofs.emitter.Emitter.set_item.Goals as goal
 

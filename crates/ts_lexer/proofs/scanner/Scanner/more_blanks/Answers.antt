@@ -1,4 +1,4 @@
-use Rattle.ts_syntax.specs.Cut.{is_blank}
+use Rattle.ts_trees.specs.Cut.{is_blank}
 use Rattle.ts_lexer.proofs.StepLemmas.{fits_front, blanks_due, no_longer}
 use Rattle.ts_lexer.proofs.scanner.Scanner.more_blanks.Goals as goal
 

@@ -1,5 +1,5 @@
 use Rattle.std.proofs.Common.{◌∙◌, ap}
-use Rattle.ts_syntax.specs.Cut.{between, with_front, cut_from, all_in}
+use Rattle.ts_trees.specs.Cut.{between, with_front, cut_from, all_in}
 use Rattle.ts_lexer.proofs.CutLemmas.{with_front-nil}
 use Rattle.ts_lexer.proofs.StepLemmas.{cut_in-all}
 use Rattle.ts_lexer.proofs.scanner.Scanner.new.Goals as goal

@@ -1,6 +1,6 @@
 use Rattle.std.proofs.Common.{sym, refl}
-use Rattle.ts_syntax.specs.declared.token.TokenKind.TheVariants as kind
-use Rattle.ts_syntax.specs.Cut.{is_digit}
+use Rattle.ts_trees.specs.declared.token.TokenKind.TheVariants as kind
+use Rattle.ts_trees.specs.Cut.{is_digit}
 use Rattle.ts_lexer.proofs.WordLemmas.{same_in}
 use Rattle.ts_lexer.proofs.StepLemmas.{fits_front, front_passes, number_steps, big_literal_due, letter_due}
 use Rattle.ts_lexer.proofs.scanner.Scanner.number.Goals as goal

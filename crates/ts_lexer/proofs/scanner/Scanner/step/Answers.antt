@@ -1,6 +1,6 @@
 use Rattle.std.proofs.Common.{◌==◌, sym}
 use Rattle.std.proofs.lemmas.Bool.{eq-eqb}
-use Rattle.ts_syntax.specs.Cut.{is_blank, is_digit, begins_name}
+use Rattle.ts_trees.specs.Cut.{is_blank, is_digit, begins_name}
 use Rattle.ts_lexer.specs.Spans.{begins_sign}
 use Rattle.ts_lexer.proofs.StepLemmas.{first_begins}
 use Rattle.ts_lexer.proofs.SignLemmas.{others_begin_signs}

@@ -1,5 +1,5 @@
 use Rattle.std.proofs.Common.{◌∙◌, refl}
-use Rattle.ts_syntax.specs.Cut.{in_name, word_kind}
+use Rattle.ts_trees.specs.Cut.{in_name, word_kind}
 use Rattle.ts_lexer.proofs.StepLemmas.{fits_front, front_passes, word_steps, long_word_due}
 use Rattle.ts_lexer.proofs.scanner.Scanner.word.Goals as goal
 

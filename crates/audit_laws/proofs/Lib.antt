@@ -1,5 +1,0 @@
-pub mod Told
-pub mod Programs
-pub mod NodeReports
-pub mod WorldReports
-pub mod ReadBack

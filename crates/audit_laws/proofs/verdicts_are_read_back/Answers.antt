@@ -1,5 +1,0 @@
-use Rattle.audit_laws.proofs.ReadBack.{read-back, read-text}
-use Rattle.audit_laws.proofs.verdicts_are_read_back.Goals as goal
-
-pub returns : goal.returns
-returns c = record { same = read-back; text = read-text }

@@ -1,2 +1,0 @@
-pub mod NodeInstalls
-pub mod Reading

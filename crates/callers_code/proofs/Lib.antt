@@ -1,0 +1,5 @@
+mod ListingLemmas
+mod RunLemmas
+mod StepLemmas
+mod VerifyLemmas
+mod LockLemmas

@@ -1,0 +1,7 @@
+mod AcceptingLemmas
+mod FolderLemmas
+mod ProgramLemmas
+mod CommandLemmas
+mod ReadLemmas
+mod TextLemmas
+mod AuditLemmas

@@ -1,0 +1,4 @@
+pub mod Folders
+pub mod Scripts
+pub mod Refusals
+pub mod Reports

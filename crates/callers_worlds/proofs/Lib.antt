@@ -1,0 +1,9 @@
+mod EndLemmas
+mod RunLemmas
+mod AirLemmas
+mod LineLemmas
+mod MadeLemmas
+mod ScriptLemmas
+mod FrameLemmas
+mod PieceLemmas
+mod SourceLemmas

@@ -1,5 +1,0 @@
-use Rattle.cases_nodes.specs.Idle.{IsIdleScript}
-use Rattle.cases_nodes.proofs.idle.idle_script.Given as goal
-
-abbrev pub invariant-loop : goal.invariant-loop
-invariant-loop l = IsIdleScript l.script

@@ -1,0 +1,50 @@
+//! A report with more marks than a picture has, and what is counted of its picture.
+
+use mate_files::{MemSink, Pen};
+use std::alloc::Global;
+use std::{io, str};
+
+/// How many posts are dropped.
+const DROPS: u64 = 10_050;
+
+/// A report of the built-in machine: an invocation that lives at its end, and then many dropped posts in one event.
+pub fn long_report(alloc: Global) -> MemSink {
+    let mut report = MemSink::new(alloc);
+    let mut pen = Pen::new();
+    pen.text(
+        &mut report,
+        "1 0 0 install main 1 4d41544501000000000100000001001002030400030003010a04020204040000\n",
+    );
+    pen.text(&mut report, "2 0 0 post 1 main 0\n2 0 0 start 1\n");
+    for _ in 0..DROPS {
+        pen.text(&mut report, "3 0 0 drop main busy\n");
+    }
+    pen.text(&mut report, "end ");
+    pen.number(&mut report, DROPS + 3);
+    pen.text(&mut report, " 3 1\n");
+    report
+}
+
+/// Prints the line that says which part is drawn, and how many marks there are, arrows of what still lives, and things
+/// that go on behind the picture.
+pub fn count_marks(rt: &impl Print, picture: &[u8]) -> io::Result<()> {
+    let Ok(text) = str::from_utf8(picture) else {
+        return println!(rt; "no text");
+    };
+    let (mut marks, mut arrows, mut dots) = (0u64, 0u64, 0u64);
+    for line in text.lines() {
+        if line.contains(" marks from ") {
+            println!(rt; "{line}")?;
+        }
+        if line.contains("<title>") {
+            marks = marks.saturating_add(1);
+        }
+        if line.contains("class=\"open\"") {
+            arrows = arrows.saturating_add(1);
+        }
+        if line.contains("goes on behind this picture, ") {
+            dots = dots.saturating_add(1);
+        }
+    }
+    println!(rt; "{marks} marks, {arrows} arrows, {dots} that go on")
+}

@@ -1,4 +1,0 @@
-mod ListingLemmas
-mod RunLemmas
-mod StepLemmas
-mod VerifyLemmas

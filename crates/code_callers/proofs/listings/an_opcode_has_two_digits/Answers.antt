@@ -1,5 +1,0 @@
-use Rattle.code_callers.proofs.ListingLemmas.{table_of_builtin}
-use Rattle.code_callers.proofs.listings.an_opcode_has_two_digits.Goals as goal
-
-pub returns : goal.returns
-returns g c = rw (← table_of_builtin c.builtin.result c.builtin.ensures) c.print_table.ensures

@@ -1,3 +1,0 @@
-mod AcceptingLemmas
-mod FolderLemmas
-mod ProgramLemmas

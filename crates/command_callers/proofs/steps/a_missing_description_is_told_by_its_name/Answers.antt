@@ -1,9 +1,0 @@
-use Rattle.std.proofs.Common.{codes}
-use Rattle.mate_steps.specs.Parts.{Folder}
-use Rattle.command_callers.proofs.FolderLemmas.{missing_machine}
-use Rattle.command_callers.proofs.steps.a_missing_description_is_told_by_its_name.Goals as goal
-
-pub returns : goal.returns
-returns g c =
-    let f : Folder = record { told = g.F.Files.contents c.args.files.now; steady = g.F.Files.steady c.args.files.now } in
-    missing_machine f (codes "w.toml") c.machine_of.result c.requires (λ same. cc) c.machine_of.ensures.does

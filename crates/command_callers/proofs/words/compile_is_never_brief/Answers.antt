@@ -1,6 +1,0 @@
-use Rattle.std.proofs.Common.{◌∙◌, ap}
-use Rattle.command_line.specs.Commands.{task_of}
-use Rattle.command_callers.proofs.words.compile_is_never_brief.Goals as goal
-
-pub returns : goal.returns
-returns c = c.command_of.ensures ∙ ap task_of c.requires

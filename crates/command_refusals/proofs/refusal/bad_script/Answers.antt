@@ -1,0 +1,5 @@
+use Rattle.mate_files.proofs.PenLemmas.{◌⟫◌}
+use Rattle.command_refusals.proofs.refusal.bad_script.Goals as goal
+
+pub returns : goal.returns
+returns g c = c.text.ensures ⟫ c.print_line.ensures

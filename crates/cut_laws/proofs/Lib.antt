@@ -1,4 +1,0 @@
-mod Fronts
-mod TextLemmas
-mod NodeFronts
-mod WorldFronts

@@ -1,5 +1,0 @@
-use Rattle.cut_laws.proofs.NodeFronts.{begins}
-use Rattle.cut_laws.proofs.laws.fewer_steps_begin_more.Goals as goal
-
-pub returns : goal.returns
-returns c m steps more how l l' run run' is = begins m steps more how l l' run run' is

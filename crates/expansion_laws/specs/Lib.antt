@@ -1,2 +1,0 @@
-pub mod CompiledText
-pub mod ExpansionText

@@ -1,9 +1,0 @@
-pub mod Rules
-pub mod Lists
-pub mod OneEach
-pub mod OneSeen
-pub mod OneStart
-pub mod OneTurn
-pub mod OneStep
-pub mod OneRun
-pub mod OneText

@@ -1,3 +1,0 @@
-pub mod Scripts
-pub mod Sources
-pub mod Refused

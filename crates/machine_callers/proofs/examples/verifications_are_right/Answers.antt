@@ -1,7 +1,0 @@
-use Rattle.std.proofs.Common.{refl}
-use Rattle.mate_code.specs.Verification.{pass}
-use Rattle.machine_callers.proofs.examples.verifications_are_right.Goals as goal
-
-pub returns : goal.returns
-unfolding pass
-returns c = (refl, refl, refl, refl, refl, refl, refl, refl, refl, refl, refl, refl, refl, refl, refl, refl)

@@ -1,5 +1,0 @@
-use Rattle.mate_files.proofs.PenLemmas.{◌⟫◌}
-use Rattle.mate_documents.proofs.answer.print_refused.Goals as goal
-
-pub returns : goal.returns
-returns g c = c.text.ensures ⟫ c.print.ensures

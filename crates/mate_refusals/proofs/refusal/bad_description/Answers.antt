@@ -1,5 +1,0 @@
-use Rattle.mate_files.proofs.PenLemmas.{◌⟫◌}
-use Rattle.mate_refusals.proofs.refusal.bad_description.Goals as goal
-
-pub returns : goal.returns
-returns g c = c.text.ensures ⟫ c.print.ensures

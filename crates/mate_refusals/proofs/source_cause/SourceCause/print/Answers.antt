@@ -1,7 +1,0 @@
-use Rattle.std.proofs.Common.{ap, sym}
-use Rattle.mate_files.proofs.PenLemmas.{Prints-by}
-use Rattle.mate_refusals.specs.SourceCauses.{source_words}
-use Rattle.mate_refusals.proofs.source_cause.SourceCause.print.Goals as goal
-
-pub returns-in-Undeclared : goal.returns-in-Undeclared
-returns-in-Undeclared g c = Prints-by (ap source_words (sym c.in-Undeclared.is)) c.print_numbered_name.ensures

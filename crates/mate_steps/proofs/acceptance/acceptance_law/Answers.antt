@@ -1,5 +1,0 @@
-use Rattle.mate_steps.proofs.AcceptanceLemmas.{one_tree, one_refusal, apart, some}
-use Rattle.mate_steps.proofs.acceptance.acceptance_law.Goals as goal
-
-pub returns : goal.returns
-returns c = record { one_tree = one_tree; one_refusal = one_refusal; apart = apart; some = some }

@@ -1,7 +1,0 @@
-use Rattle.std.proofs.Common.{Err}
-use Rattle.proc_texts.specs.Reading.{ReadsProcedures}
-use Rattle.mate_steps.proofs.ExpansionLemmas.{told_as}
-use Rattle.mate_steps.proofs.expansion.script_with_procedures.Goals as goal
-
-pub returns-in-Err : goal.returns-in-Err
-returns-in-Err c = told_as (λ f. ReadsProcedures c.args.bytes.now (Err f)) c.args.name.now c.in-Err.fault c.refused.result c.in-Err.ensures c.refused.ensures

@@ -1,2 +1,0 @@
-pub mod MemFiles
-pub mod MemSink

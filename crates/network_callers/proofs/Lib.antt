@@ -1,3 +1,0 @@
-mod FrameLemmas
-mod PieceLemmas
-mod SourceLemmas

@@ -1,9 +1,0 @@
-use Rattle.std.proofs.Common.{List, [], ◌∷◌, ◌++◌, ℕ, ◌∙◌, ap}
-use Rattle.capsule_exchange.specs.Happenings.{Installs}
-use Rattle.capsule_exchange.specs.Knowledge.{knowledge}
-use Rattle.network_callers.proofs.exchanges.a_holder.Goals as goal
-
-pub returns : goal.returns
-returns c =
-    c.in_ok-installed.ensures.learned 1 [] c.in_ok-exchange.ensures
-    ∙ ap (λ (bytes : List ℕ). knowledge 1 (Installs 0 2 bytes ∷ [])) (c.push.ensures.items ∙ ap (λ (bytes : List ℕ). bytes ++ 7 ∷ []) c.new-image.ensures)

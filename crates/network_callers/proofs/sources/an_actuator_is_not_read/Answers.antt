@@ -1,6 +1,0 @@
-use Rattle.std.proofs.Common.{◌∙◌}
-use Rattle.network_callers.proofs.SourceLemmas.{of_actuator}
-use Rattle.network_callers.proofs.sources.an_actuator_is_not_read.Goals as goal
-
-pub returns : goal.returns
-returns c = λ f shared functions acts. c.in_ok-text.ensures.value ∙ of_actuator c.args.desc.now f shared functions acts

@@ -1,6 +1,0 @@
--- The laws of journals.
-use Rattle.open_node.proofs.JournalLemmas.{KeepsJournal-rests}
-use Rattle.open_node.proofs.open_node.keeps_journal.Goals as goal
-
-pub returns : goal.returns
-returns c = KeepsJournal-rests c.args.description.now c.args.parts.now c.asks_devices_in_order.ensures c.requires

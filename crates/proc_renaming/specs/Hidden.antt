@@ -1,6 +1,0 @@
--- What the program's hidden names mean.
-use Rattle.proc_renaming.specs.declared.hidden.Hidden.{Hidden}
-use Rattle.proc_renaming.specs.Renaming.{Hiding}
-
-abbrev pub hiding_of : Hidden → Hiding
-hiding_of h = record { first = h.first; params = h.params.words.now }

@@ -1,9 +1,0 @@
-use Rattle.ts_syntax.specs.Spelling.{source_spelled}
-use Rattle.ts_syntax.specs.Text.{text_of}
-use Rattle.proc_expansion.specs.Expansion.{expansion}
-use Rattle.proc_names.specs.Named.{written_of}
-use Rattle.proc_texts.proofs.TextLemmas.{nothing_put}
-use Rattle.proc_texts.proofs.writing.write_expansion.Goals as goal
-
-pub returns-in_default : goal.returns-in_default
-returns-in_default g c = nothing_put (text_of (source_spelled (expansion (written_of c.args.script.now))))

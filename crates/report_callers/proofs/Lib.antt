@@ -1,3 +1,0 @@
-mod CommandLemmas
-mod ReadLemmas
-mod TextLemmas

@@ -1,5 +1,0 @@
-use Rattle.report_callers.proofs.TextLemmas.{brief_of_drop}
-use Rattle.report_callers.proofs.texts.a_drop_is_no_post.Goals as goal
-
-pub returns : goal.returns
-returns g c = rw (← brief_of_drop c.args.desc.now c.args.report.now c.requires.handlers c.requires.report) c.brief.ensures

@@ -1,0 +1,3 @@
+pub mod OneReport
+pub mod Ending
+pub mod Begins

@@ -1,5 +1,0 @@
-use Rattle.report_text.proofs.ChunkLemmas.{◌⋙◌}
-use Rattle.report_text.proofs.entry_line.seen_in_front.Goals as goal
-
-pub returns-clause-adds : goal.returns-clause-adds
-returns-clause-adds g c = c.text.ensures.adds ⋙ c.shown_in_front.ensures.adds

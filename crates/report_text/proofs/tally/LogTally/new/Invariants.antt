@@ -1,8 +1,0 @@
-use Rattle.std.proofs.Common.{◌≡◌, length}
-use Rattle.std.specs.List.{All}
-use Rattle.report_text.specs.Tally.{versions_none}
-use Rattle.report_text.specs.declared.tally.Versions.{Versions}
-use Rattle.report_text.proofs.tally.LogTally.new.Given as goal
-
-abbrev pub invariant-loop-handler : goal.invariant-loop-handler
-invariant-loop-handler l = record { count : length l.versions.items ≡ l._handler; none : All (λ (v : Versions). v ≡ versions_none) l.versions.items }

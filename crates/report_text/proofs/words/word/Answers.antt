@@ -1,5 +1,0 @@
-use Rattle.mate_files.proofs.PenLemmas.{◌⟫◌}
-use Rattle.report_text.proofs.words.word.Goals as goal
-
-pub returns : goal.returns
-returns g c = c.text.ensures ⟫ c.bytes.ensures

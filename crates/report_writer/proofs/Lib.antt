@@ -1,0 +1,16 @@
+pub mod ChunkLemmas
+pub mod EventLemmas
+pub mod TextLemmas
+pub mod MergeLemmas
+pub mod QuietReport
+pub mod PieceLemmas
+pub mod NodeLemmas
+pub mod BriefLemmas
+pub mod CountLemmas
+pub mod TallyLemmas
+pub mod SummaryLemmas
+pub mod WritingLemmas
+pub mod KeptLines
+pub mod EntryCountLemmas
+pub mod PrintLemmas
+pub mod VersionLemmas

@@ -1,0 +1,12 @@
+pub mod Words
+pub mod Text
+pub mod Tidy
+pub mod Progress
+pub mod Pieces
+pub mod Chunk
+pub mod Brief
+pub mod Tally
+pub mod Summary
+pub mod Runs
+pub mod Writing
+pub mod Counts

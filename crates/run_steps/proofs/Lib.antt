@@ -1,5 +1,0 @@
-pub mod EventLemmas
-pub mod RunLemmas
-pub mod WrittenLemmas
-pub mod KeptLemmas
-pub mod CountingLemmas

@@ -1,5 +1,0 @@
-use Rattle.script_programs.proofs.MadeLemmas.{short-source}
-use Rattle.script_programs.proofs.made.sources_are_short.Goals as goal
-
-pub returns : goal.returns
-returns c = short-source

@@ -1,5 +1,0 @@
-use Rattle.sim_air.proofs.ChangeLemmas.{adds-event}
-use Rattle.sim_air.proofs.changes.schedule.Goals as goal
-
-pub returns : goal.returns
-returns c = adds-event c.args.radio.now c.schedule.new.self c.args.time c.args.event c.in_ok-schedule.ensures.list c.in_ok-schedule.ensures.due

@@ -1,7 +1,0 @@
-use Rattle.std.proofs.Common.{[], take}
-use Rattle.sim_air.specs.Changes.{AddsToAir}
-use Rattle.sim_air.specs.Starting.{first_periods}
-use Rattle.sim_air.proofs.start.schedule_periods.Given as goal
-
-abbrev pub invariant-loop-h : goal.invariant-loop-h
-invariant-loop-h l = AddsToAir l.initial.radio l.radio [] (first_periods l.node 0 (take l.h l.desc.handlers.items))

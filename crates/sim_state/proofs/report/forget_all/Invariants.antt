@@ -1,5 +1,0 @@
-use Rattle.sim_state.specs.Keeping.{HaveForgotten}
-use Rattle.sim_state.proofs.report.forget_all.Given as goal
-
-abbrev pub invariant-loop-k : goal.invariant-loop-k
-invariant-loop-k l = HaveForgotten l.k l.initial.motes.items l.motes.items

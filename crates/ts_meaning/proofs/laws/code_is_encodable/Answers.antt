@@ -1,5 +1,0 @@
-use Rattle.ts_meaning.proofs.EncodableLemmas.{IsEncodable-script_code}
-use Rattle.ts_meaning.proofs.laws.code_is_encodable.Goals as goal
-
-pub returns : goal.returns
-returns c = IsEncodable-script_code

@@ -1,5 +1,0 @@
-use Rattle.ts_meaning.proofs.VerifiedLemmas.{IsAccepted-script_code}
-use Rattle.ts_meaning.proofs.laws.code_is_verified.Goals as goal
-
-pub returns : goal.returns
-returns c = IsAccepted-script_code

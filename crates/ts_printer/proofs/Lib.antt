@@ -1,2 +1,0 @@
-pub mod NamingLemmas
-pub mod PrintLemmas

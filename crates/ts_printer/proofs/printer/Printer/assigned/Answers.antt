@@ -1,7 +1,0 @@
-use Rattle.std.proofs.Common.{refl}
-use Rattle.ts_syntax.specs.declared.token.TokenKind.TheVariants as kind
-use Rattle.ts_printer.proofs.PrintLemmas.{◌⋙◌}
-use Rattle.ts_printer.proofs.printer.Printer.assigned.Goals as goal
-
-pub returns : goal.returns
-returns g c = c.token.ensures kind.Eq refl ⋙ c.expr.ensures ⋙ c.token-2.ensures kind.Semi refl

@@ -1,7 +1,0 @@
-use Rattle.std.proofs.Common.{refl}
-use Rattle.ts_syntax.specs.declared.token.TokenKind.TheVariants as kind
-use Rattle.ts_printer.proofs.PrintLemmas.{◌⋙◌}
-use Rattle.ts_printer.proofs.printer.Printer.call_alone.Goals as goal
-
-pub returns : goal.returns
-returns g c = c.name.ensures ⋙ c.token.ensures kind.Open refl ⋙ (c.args-2.ensures ⋙ (c.token-2.ensures kind.Close refl ⋙ c.token-3.ensures kind.Semi refl))

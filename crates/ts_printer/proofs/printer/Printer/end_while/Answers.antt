@@ -1,7 +1,0 @@
-use Rattle.std.proofs.Common.{refl}
-use Rattle.ts_syntax.specs.declared.token.TokenKind.TheVariants as kind
-use Rattle.ts_printer.proofs.PrintLemmas.{◌⋙◌}
-use Rattle.ts_printer.proofs.printer.Printer.end_while.Goals as goal
-
-pub returns : goal.returns
-returns g c = c.token.ensures kind.End refl ⋙ c.token-2.ensures kind.While refl

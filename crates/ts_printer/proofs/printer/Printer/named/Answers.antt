@@ -1,7 +1,0 @@
-use Rattle.std.proofs.Common.{ap, sym, [], ◌∷◌}
-use Rattle.ts_syntax.specs.Spelling.{name}
-use Rattle.ts_printer.proofs.PrintLemmas.{tokens_by}
-use Rattle.ts_printer.proofs.printer.Printer.named.Goals as goal
-
-pub returns : goal.returns
-returns g c = tokens_by (ap (λ w. name w ∷ []) (sym c.word-word.ensures)) c.name.ensures

@@ -1,6 +1,0 @@
-use Rattle.std.proofs.Common.{refl}
-use Rattle.ts_syntax.specs.declared.token.TokenKind.TheVariants as kind
-use Rattle.ts_printer.proofs.printer.Printer.otherwise.Goals as goal
-
-pub returns : goal.returns
-returns g c = c.token.ensures kind.Else refl

@@ -1,0 +1,16 @@
+pub mod TurnLemmas
+pub mod LoopLemmas
+pub mod OutcomeLemmas
+pub mod PlaceLemmas
+pub mod UsesLemmas
+pub mod EncodableLemmas
+pub mod VerifiedPass
+pub mod VerifiedExpressions
+pub mod VerifiedStatements
+pub mod VerifiedLemmas
+pub mod RunPlaces
+pub mod RunReaches
+pub mod RunExpressions
+pub mod RunLoops
+pub mod RunStatements
+pub mod RunScripts

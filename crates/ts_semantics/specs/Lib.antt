@@ -1,0 +1,5 @@
+pub mod State
+pub mod Meaning
+pub mod Uses
+pub mod Translation
+pub mod Laws

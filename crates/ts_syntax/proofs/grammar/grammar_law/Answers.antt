@@ -1,5 +1,0 @@
-use Rattle.ts_syntax.proofs.GrammarLemmas.{whole_is_script, begins_is_begins_script, whole_is_procedure_script, begins_is_begins_procedures}
-use Rattle.ts_syntax.proofs.grammar.grammar_law.Goals as goal
-
-pub returns : goal.returns
-returns c = record { whole = whole_is_script; begins = begins_is_begins_script; procedures_whole = whole_is_procedure_script; procedures_begin = begins_is_begins_procedures }

@@ -1,0 +1,7 @@
+use Rattle.std.proofs.Common.{refl}
+use Rattle.ts_trees.specs.declared.token.TokenKind.TheVariants as kind
+use Rattle.ts_syntax.proofs.PrintLemmas.{◌⋙◌}
+use Rattle.ts_syntax.proofs.printer.Printer.assigned.Goals as goal
+
+pub returns : goal.returns
+returns g c = c.token.ensures kind.Eq refl ⋙ c.expr.ensures ⋙ c.token-2.ensures kind.Semi refl

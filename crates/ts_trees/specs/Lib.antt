@@ -1,0 +1,14 @@
+pub mod Cut
+pub mod Depth
+pub mod Derived
+pub mod Faults
+pub mod Grammar
+pub mod Script
+pub mod Seen
+pub mod Spelling
+pub mod Text
+pub mod Tree
+pub mod Answers
+pub mod Code
+pub mod Machine
+pub mod Parsing

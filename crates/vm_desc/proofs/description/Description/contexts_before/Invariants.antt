@@ -1,6 +1,0 @@
-use Rattle.std.proofs.Common.{◌≡◌, take}
-use Rattle.vm_desc.specs.Limits.{context_sum}
-use Rattle.vm_desc.proofs.description.Description.contexts_before.Given as goal
-
-abbrev pub invariant-loop-handler : goal.invariant-loop-handler
-invariant-loop-handler l = l.contexts ≡ context_sum (take l.handler-index l.handler-items)

@@ -1,4 +1,0 @@
-pub mod Fronts
-pub mod ReadingLemmas
-pub mod FieldLemmas
-pub mod KnownLemmas

@@ -1,5 +1,0 @@
-use Rattle.vm_reader.proofs.FieldLemmas.{AreNames}
-use Rattle.vm_reader.proofs.fields.names_in.Given as goal
-
-abbrev pub invariant-loop-item : goal.invariant-loop-item
-invariant-loop-item g l = AreNames l.item-items l.item-index l.names.items

@@ -1,0 +1,3 @@
+pub mod DescriptionLemmas
+pub mod ListLemmas
+pub mod NameLemmas

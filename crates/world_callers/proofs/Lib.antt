@@ -1,4 +1,0 @@
-mod AirLemmas
-mod LineLemmas
-mod MadeLemmas
-mod ScriptLemmas

@@ -1,5 +1,0 @@
-use Rattle.world_callers.proofs.ScriptLemmas.{refused_script, turned_back}
-use Rattle.world_callers.proofs.scripts.the_last_time_is_kept.Goals as goal
-
-pub returns : goal.returns
-returns c = refused_script 5 _ _ c.world_script.result (turned_back c.args.desc.now) c.world_script.ensures.value

@@ -1,5 +1,0 @@
-use Rattle.std.proofs.Common.{◌≡◌, [], replicate}
-use Rattle.world_maker.proofs.made.unnamed.Given as goal
-
-abbrev pub invariant-loop : goal.invariant-loop
-invariant-loop l = l.names ≡ replicate l.counter []

@@ -1,6 +1,0 @@
-use Rattle.std.proofs.Common.{◌≡◌, drop}
-use Rattle.world_maker.specs.Source.{first_sensor}
-use Rattle.world_maker.proofs.source.first_sensor.Given as goal
-
-abbrev pub invariant-loop-function : goal.invariant-loop-function
-invariant-loop-function l = first_sensor (drop l.function-index l.desc.functions.items) ≡ first_sensor l.desc.functions.items

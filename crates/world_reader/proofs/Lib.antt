@@ -1,4 +1,0 @@
-pub mod SeriesLemmas
-pub mod KeepsLemmas
-pub mod LineEnd
-pub mod ValueLemmas

@@ -1,4 +1,0 @@
-pub mod WorldScript
-pub mod WorldWords
-pub mod WorldLines
-pub mod Draft

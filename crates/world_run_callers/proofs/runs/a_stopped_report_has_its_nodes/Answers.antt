@@ -1,5 +1,0 @@
-use Rattle.world_run_callers.proofs.RunLemmas.{keeps_nodes}
-use Rattle.world_run_callers.proofs.runs.a_stopped_report_has_its_nodes.Goals as goal
-
-pub returns : goal.returns
-returns g c = keeps_nodes c.args.desc.now c.args.world.now c.args.programs.now _ _ _ _ c.run_into.result c.run_into.ensures.gives

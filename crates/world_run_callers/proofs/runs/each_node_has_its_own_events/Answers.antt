@@ -1,5 +1,0 @@
-use Rattle.world_run_callers.proofs.RunLemmas.{own_events}
-use Rattle.world_run_callers.proofs.runs.each_node_has_its_own_events.Goals as goal
-
-pub returns : goal.returns
-returns c = own_events c.args.desc.now c.args.world.now c.args.programs.now c.run.result c.run.ensures

@@ -1,5 +1,0 @@
-use Rattle.world_run_callers.proofs.RunLemmas.{came_with_room}
-use Rattle.world_run_callers.proofs.runs.the_last_event_had_room.Goals as goal
-
-pub returns : goal.returns
-returns c = came_with_room c.args.desc.now c.args.world.now c.args.programs.now c.run.result c.run.ensures
