@@ -348,6 +348,8 @@ ${kept##*/}
 "*) continue ;; esac
         [ -z "$(find "$kept" -maxdepth 0 -mmin "+$(($1 * 1440))")" ] || rm -rf "$kept"
     done 2>/dev/null
+    # (what a stopped scripts/prove left)
+    find "$cache" -mindepth 1 -maxdepth 1 -name 'prove.*' -mmin +1440 -exec rm -rf {} + 2>/dev/null
     return 0
 }
 
