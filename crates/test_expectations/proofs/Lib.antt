@@ -1,0 +1,2 @@
+pub mod SightingLemmas
+pub mod StepLemmas

@@ -1,0 +1,4 @@
+pub mod Facts
+pub mod Patterns
+pub mod Shown
+pub mod Sightings
