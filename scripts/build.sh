@@ -320,23 +320,30 @@ strip_program() {
     return "$1"
 }
 
-# Takes the lock of the cache, once nothing in it is a link or another's.
+# Takes the lock of the cache, and then refuses what in it is a link or another's.
 lock_cache() {
     command -v flock >/dev/null || { say "the command flock isn't on the PATH"; return 125; }
-        odd=$(find "$cache" \( -type l -o ! -uid "$uid" -o -perm /022 \) -print -quit 2>/dev/null)
-    [ -z "$odd" ] || { say "$odd is a link, or another user's, or others can write to it: remove it"; return 125; }
+    odd=
+    [ ! -h "$cache/lock" ] || odd=$cache/lock
     # (in a shell of its own, since one that can't be opened ends a shell)
-    (: >>"$cache/lock") 2>/dev/null || { say "the folder $cache can't be written"; return 125; }
-    exec 9>>"$cache/lock"
-    flock 9 || { say "the lock $cache/lock can't be had"; return 125; }
+    [ -n "$odd" ] || (: >>"$cache/lock") 2>/dev/null || { say "the folder $cache can't be written"; return 125; }
+    if [ -z "$odd" ]; then
+        exec 9>>"$cache/lock"
+        flock 9 || { say "the lock $cache/lock can't be had"; return 125; }
+        # (nobody else's run changes these now; in checkouts/ they do)
+        odd=$(find "$cache" -path "$cache/checkouts" -prune -o -name 'prove.*' -prune -o \( -type l -o ! -uid "$uid" -o -perm /022 \) -print -quit 2>/dev/null)
+    fi
+    [ -z "$odd" ] || { say "$odd is a link, or another user's, or others can write to it: remove it"; return 125; }
 }
 
 # Removes what is so many days old, but what a checkout that still exists has used last; $cache/lock is held.
 clean_cache() {
     used="
 "
-    for noted in "$cache"/checkouts/*; do
-        { IFS= read -r _ && read -r _ && read -r _ && IFS= read -r used_program; } <"$noted/look" && [ -x "$used_program" ] && read -r top_of <"$noted/top" && [ -x "$top_of/mate" ] || { rm -rf "$noted"; continue; }
+    for noted in "$cache"/checkouts/*/look; do
+        { read -r _ && read -r _ && read -r _ && IFS= read -r used_program; } <"$noted" && IFS= read -r top_of <"${noted%/look}/top" || continue
+        # (a checkout that is gone, and what an older one noted)
+        [ -x "$top_of/mate" ] && [ -x "$used_program" ] || { rm -rf "${noted%/look}"; continue; }
         used_program=${used_program%/*}
         used="$used${used_program##*/}
 $(cat "$used_program/libraries")
