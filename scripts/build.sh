@@ -213,6 +213,7 @@ have_cache() {
     [ -n "$cache" ] || { say "HOME isn't set, so there is no folder for programs: set it, or MATE_CACHE"; return 125; }
     near=$cache
     while [ -n "$near" ] && [ ! -e "$near" ] && [ ! -h "$near" ]; do near=${near%/*}; done
+    [ -d "${near:-/}" ] || { say "the folder $cache can't be made: $near is no folder"; return 125; }
     if [ "$near" = "$cache" ]; then set -- "$cache/."; else set --; fi
     is_own "${near:-/}" "$@" || {
         say "the folder $cache, or one on the way to it, is another user's, or others can write to it: set MATE_CACHE to a folder of your own, or take their right to write away"
