@@ -213,6 +213,7 @@ have_cache() {
     [ -n "$cache" ] || { say "HOME isn't set, so there is no folder for programs: set it, or MATE_CACHE"; return 125; }
     near=$cache
     while [ -n "$near" ] && [ ! -e "$near" ] && [ ! -h "$near" ]; do near=${near%/*}; done
+    [ -d "${near:-/}" ] || { say "the folder $cache can't be made: $near is no folder"; return 125; }
     if [ "$near" = "$cache" ]; then set -- "$cache/."; else set --; fi
     is_own "${near:-/}" "$@" || {
         say "the folder $cache, or one on the way to it, is another user's, or others can write to it: set MATE_CACHE to a folder of your own, or take their right to write away"
@@ -320,23 +321,30 @@ strip_program() {
     return "$1"
 }
 
-# Takes the lock of the cache, once nothing in it is a link or another's.
+# Takes the lock of the cache, and then refuses what in it is a link or another's.
 lock_cache() {
     command -v flock >/dev/null || { say "the command flock isn't on the PATH"; return 125; }
-        odd=$(find "$cache" \( -type l -o ! -uid "$uid" -o -perm /022 \) -print -quit 2>/dev/null)
-    [ -z "$odd" ] || { say "$odd is a link, or another user's, or others can write to it: remove it"; return 125; }
+    odd=
+    [ ! -h "$cache/lock" ] || odd=$cache/lock
     # (in a shell of its own, since one that can't be opened ends a shell)
-    (: >>"$cache/lock") 2>/dev/null || { say "the folder $cache can't be written"; return 125; }
-    exec 9>>"$cache/lock"
-    flock 9 || { say "the lock $cache/lock can't be had"; return 125; }
+    [ -n "$odd" ] || (: >>"$cache/lock") 2>/dev/null || { say "the folder $cache can't be written"; return 125; }
+    if [ -z "$odd" ]; then
+        exec 9>>"$cache/lock"
+        flock 9 || { say "the lock $cache/lock can't be had"; return 125; }
+        # (nobody else's run changes these now; in checkouts/ they do)
+        odd=$(find "$cache" -path "$cache/checkouts" -prune -o -name 'prove.*' -prune -o \( -type l -o ! -uid "$uid" -o -perm /022 \) -print -quit 2>/dev/null)
+    fi
+    [ -z "$odd" ] || { say "$odd is a link, or another user's, or others can write to it: remove it"; return 125; }
 }
 
 # Removes what is so many days old, but what a checkout that still exists has used last; $cache/lock is held.
 clean_cache() {
     used="
 "
-    for noted in "$cache"/checkouts/*; do
-        { IFS= read -r _ && read -r _ && read -r _ && IFS= read -r used_program; } <"$noted/look" && [ -x "$used_program" ] && read -r top_of <"$noted/top" && [ -x "$top_of/mate" ] || { rm -rf "$noted"; continue; }
+    for noted in "$cache"/checkouts/*/look; do
+        { read -r _ && read -r _ && read -r _ && IFS= read -r used_program; } <"$noted" && IFS= read -r top_of <"${noted%/look}/top" || continue
+        # (a checkout that is gone, and what an older one noted)
+        [ -x "$top_of/mate" ] && [ -x "$used_program" ] || { rm -rf "${noted%/look}"; continue; }
         used_program=${used_program%/*}
         used="$used${used_program##*/}
 $(cat "$used_program/libraries")
