@@ -66,7 +66,8 @@ impl Density {
     }
 
     fn count(&mut self, seen: &Seen, mark: &Mark) {
-        let place = usize::from(mark.node) * COLUMNS + column_of(seen.tenths(mark.from));
+        let lane = usize::from(mark.node) * COLUMNS;
+        let place = lane.saturating_add(column_of(seen.tenths(mark.from)));
         if place >= self.columns.len() {
             return;
         }

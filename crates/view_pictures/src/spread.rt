@@ -56,14 +56,31 @@ pub fn draw_spread<R: Read, S: Sink>(
             None => None,
         };
         let part = Part::of(window, installs.full, installs.last, &last);
-        let picture = Picture {
+        draw_part(
+            desc,
             part,
-            installs: installs.installs.as_slice(),
-            bounds: bounds.as_ref(),
-        };
-        draw(desc, &picture, ink);
+            installs.installs.as_slice(),
+            bounds.as_ref(),
+            ink,
+        );
     }
     ink.check()
+}
+
+/// Draws a part of a report with these installs and bounds.
+fn draw_part<'a, S: Sink>(
+    desc: &Description,
+    part: Part,
+    installs: &'a [Install],
+    bounds: Option<&'a Bounds>,
+    ink: &mut Ink<S>,
+) {
+    let picture = Picture {
+        part,
+        installs,
+        bounds,
+    };
+    draw(desc, &picture, ink);
 }
 
 /// What is drawn.
