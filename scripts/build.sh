@@ -141,11 +141,11 @@ find_kit() {
     fi
 }
 
-# HALF: all files and folders of every second crate whose change may change the sum, as paths from crates/ or whole ones, ended by NUL.
+# PART: all files and folders of this part of the crates whose change may change the sum, as paths from crates/ or whole ones, ended by NUL.
 places_of() {
     # shellcheck disable=SC2046
-    set -- "$1" $(needed_crates "$top" | awk -v half="$1" 'NR % 2 == half % 2')
-    [ "$1" = 2 ] || printf '%s\0' ../HANDLES ../crates.txt ../scripts/programs
+    set -- "$1" $(needed_crates "$top" | awk -v part="$1" -v parts="$parts" 'NR % parts == part % parts')
+    [ "$1" != 1 ] || printf '%s\0' ../HANDLES ../crates.txt ../scripts/programs
     shift
     [ $# -eq 0 ] || printf '%s\0' "$@"
     (cd "$top/crates" && parts_of "$top" "$@" | xargs -0 -r sh -c 'find "$@" -print0' sh)
@@ -159,18 +159,21 @@ begin_look() {
     look=$( (umask 022; mkdir -p "$seen" && is_own "$cache" "$cache/." "$cache/checkouts" "$seen" && mktemp -d "$seen/XXXXXX") 2>/dev/null) || { look=; return 0; }
     by=find
     printf '/\0' | find -files0-from - -maxdepth 0 >/dev/null 2>&1 || by=stat
+    parts=$(nproc)
+    [ "$parts" -ge 2 ] || parts=2
+    [ "$parts" -le 4 ] || parts=4
     (
         umask 022
         chmod 755 "$look"
-        for half in 1 2; do
-            places_of $half >"$look/places.$half" && states_of "$look/places.$half" >"$look/states.$half" || exit
+        for part in $(seq "$parts"); do
+            places_of "$part" >"$look/places.$part" && states_of "$look/places.$part" >"$look/states.$part" || exit
         done
         # A text that is changed once it was read must get another time than it has now. So the clock of the file system, whose ticks are 10 ms at most, has to be
         # past all times that are there; one that has whole seconds alone needs two of them.
         awk -v now="$(date +%s.%N)" '
             $3 > newest { newest = $3 }
             $3 !~ /[.]0*$/ { is_fine = 1 }
-            END { age = now - newest; exit age > (is_fine ? 0.05 : 2.1) ? 0 : is_fine && age > -0.05 ? 1 : 2 }' "$look/states.1" "$look/states.2"
+            END { age = now - newest; exit age > (is_fine ? 0.05 : 2.1) ? 0 : is_fine && age > -0.05 ? 1 : 2 }' "$look"/states.*
         case $? in
         0) ;;
         1) sleep 0.1 ;;
@@ -194,13 +197,13 @@ note_look() {
     [ -n "$look" ] || return 0
     (
         umask 022
-        for half in 1 2; do
-            states_of "$look/places.$half" | cmp -s - "$look/states.$half" || exit
+        for part in $(seq "$parts"); do
+            states_of "$look/places.$part" | cmp -s - "$look/states.$part" || exit
         done
         printf '%s\0' "$program" ${rt:+"$rt"} ${kit_file:+"$kit_file"} >"$look/more"
         states_of "$look/more" >"$look/state" && [ "${state:-$(head -n 1 "$look/state")}" = "$(head -n 1 "$look/state")" ] &&
-            cat "$look/more" >>"$look/places.2" && cat "$look/state" >>"$look/states.2" && rm "$look/more" "$look/state" &&
-            printf '%s\n' "$top" >"$seen/top" && printf '%s\n' "${look##*/}" "$by" "$sum" "$program" "$rt" "$kit" >"$look.new" && mv "$look.new" "$seen/look" || exit
+            cat "$look/more" >>"$look/places.1" && cat "$look/state" >>"$look/states.1" && rm "$look/more" "$look/state" &&
+            printf '%s\n' "$top" >"$seen/top" && printf '%s\n' "${look##*/}" "$by $parts" "$sum" "$program" "$rt" "$kit" >"$look.new" && mv "$look.new" "$seen/look" || exit
         for old in "$seen"/??????; do
             [ "$old" = "$look" ] || rm -rf "$old"
         done

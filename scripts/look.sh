@@ -101,7 +101,7 @@ tell_states() {
 is_as_seen() {
     kit='' rt=''
     [ -f "$seen/look" ] || return 1
-    { IFS= read -r look && IFS= read -r by && IFS= read -r sum && IFS= read -r program && IFS= read -r rt && IFS= read -r kit; } <"$seen/look" || { kit=''; return 1; }
+    { IFS= read -r look && read -r by parts && IFS= read -r sum && IFS= read -r program && IFS= read -r rt && IFS= read -r kit; } <"$seen/look" || { kit=''; return 1; }
     look=$seen/$look
     [ -x "$program" ] || return 1
     case $program in
@@ -112,12 +112,16 @@ is_as_seen() {
     *) is_own "$cache" "$cache/." "$cache/checkouts" "$seen" "$seen/look" "$look" & ;;
     esac
     own=$!
-    # (two halves, since two processors need half the time)
-    tell_states "$look/places.1" | cmp -s - "$look/states.1" &
-    half=$!
-    tell_states "$look/places.2" | cmp -s - "$look/states.2"
-    other=$?
-    wait $half && wait $own && [ $other -eq 0 ]
+    # (a part for each processor)
+    part=1 looks=
+    while [ $part -lt "$parts" ]; do
+        tell_states "$look/places.$part" | cmp -s - "$look/states.$part" &
+        looks="$looks $!" part=$((part + 1))
+    done
+    tell_states "$look/places.$part" | cmp -s - "$look/states.$part" || return 1
+    for part in $looks $own; do
+        wait "$part" || return 1
+    done
 }
 
 find_program() {
