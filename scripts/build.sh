@@ -70,10 +70,19 @@ texts_of() {
     # shellcheck disable=SC2046
     set -- $(needed_crates "$1")
     (
+        apart=$(mktemp -d 2>/dev/null)
+        trap 'rm -rf ${apart:+"$apart"}' EXIT
+        trap 'exit 130' INT TERM HUP QUIT
         cd "$from/crates" && cat ../HANDLES 2>/dev/null
         lines_of "$from" "$@"
         parts_of "$from" "$@" | xargs -0 -r sh -c 'find "$@" -type f \( -name "*.rt" -o -name "*.antt" -o -path "*/data/*" \) -print0' sh |
-            LC_ALL=C sort -z | xargs -0 -r sha256sum
+            if [ -n "$apart" ]; then
+                # (each processor sums up some of them, into a file of its own)
+                xargs -0 -r -n 600 -P "$(nproc)" sh -c 'exec sha256sum "$@" >"$0/$$"' "$apart"
+                cat "$apart"/*
+            else
+                xargs -0 -r sha256sum
+            fi | LC_ALL=C sort -k 2
     )
 }
 
@@ -166,8 +175,10 @@ begin_look() {
         umask 022
         chmod 755 "$look"
         for part in $(seq "$parts"); do
-            places_of "$part" >"$look/places.$part" && states_of "$look/places.$part" >"$look/states.$part" || exit
+            { places_of "$part" >"$look/places.$part" && states_of "$look/places.$part" >"$look/states.$part" || : >"$look/failed"; } &
         done
+        wait
+        [ ! -e "$look/failed" ] || exit
         # A text that is changed once it was read must get another time than it has now. So the clock of the file system, whose ticks are 10 ms at most, has to be
         # past all times that are there; one that has whole seconds alone needs two of them.
         awk -v now="$(date +%s.%N)" '
@@ -198,8 +209,10 @@ note_look() {
     (
         umask 022
         for part in $(seq "$parts"); do
-            states_of "$look/places.$part" | cmp -s - "$look/states.$part" || exit
+            { states_of "$look/places.$part" | cmp -s - "$look/states.$part" || : >"$look/failed"; } &
         done
+        wait
+        [ ! -e "$look/failed" ] || exit
         printf '%s\0' "$program" ${rt:+"$rt"} ${kit_file:+"$kit_file"} >"$look/more"
         states_of "$look/more" >"$look/state" && [ "${state:-$(head -n 1 "$look/state")}" = "$(head -n 1 "$look/state")" ] &&
             cat "$look/more" >>"$look/places.1" && cat "$look/state" >>"$look/states.1" && rm "$look/more" "$look/state" &&

@@ -103,6 +103,8 @@ is_as_seen() {
     [ -f "$seen/look" ] || return 1
     { IFS= read -r look && read -r by parts && IFS= read -r sum && IFS= read -r program && IFS= read -r rt && IFS= read -r kit; } <"$seen/look" || { kit=''; return 1; }
     look=$seen/$look
+    # (an earlier version noted other lines)
+    case $parts in [2-4]) ;; *) return 1 ;; esac
     [ -x "$program" ] || return 1
     case $program in
     "$cache"/*)
