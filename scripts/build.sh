@@ -146,7 +146,8 @@ find_kit() {
         if [ -r "$kit_file" ]; then IFS= read -r kit <"$kit_file"; else kit_file='' kit=$(rt version | head -n 1); fi
     else
         rt=
-        [ ! -f "$cache/kit" ] || IFS= read -r kit <"$cache/kit"
+        # (scripts/install with programs of its own looks for no cache)
+        [ -z "${cache-}" ] || [ ! -f "$cache/kit" ] || IFS= read -r kit <"$cache/kit"
     fi
 }
 
