@@ -8,7 +8,7 @@ know_machine() {
     base_rows=$("$program" table builtin 2>/dev/null | wc -l)
     handlers=() functions=() senders=() shared=() buffers=()
     mapfile -t handlers < <("$program" node --brief -- "$1" /dev/null 2>/dev/null | sed -n 's/^newest \([^ ]*\) .*/\1/p')
-    for word in $("$program" node -- "$1" /dev/null 2>/dev/null | sed -n 's/^.* seen//p'); do
+    for word in $("$program" node -- "$1" /dev/null 2>/dev/null | sed -n 's/^[0-9]* [0-9]* [0-9]* seen//p'); do
         case $word in *=[[]*) buffers+=("${word%%=*}") ;; *) shared+=("${word%%=*}") ;; esac
     done
     # behind the machine's own instructions stand its functions; those that send take a buffer
