@@ -14,6 +14,8 @@ pub mod Journals
 pub mod Lines
 pub mod Reached
 pub mod Bound
+pub mod Shown
+pub mod Windows
 pub mod Stamps
 pub mod AirRecords
 pub mod AirOrder
