@@ -90,6 +90,7 @@ pub fn a_report(alloc: Global, log: NodeLog) -> Result<(usize, usize, u64, bool)
         node: 0,
         air: Air::Keep,
     })?;
+    air.cut(1);
     let report = Report::new(logs, air, 1, true);
     let nodes: &[NodeLog] = report.nodes();
     let air: &[Aired] = report.air();
