@@ -10,8 +10,8 @@ use capsule_codec::decode;
 use code_verifier::{Verified, verify};
 use lock_inference::locks;
 use mate_code::Table;
-use mate_journal::{ImageRef, Program};
-use mate_num::{LockSet, NoMemory, Outcome, Payload, Resource, Store};
+use mate_journal::Program;
+use mate_num::{Image, LockSet, NoMemory, Outcome, Payload, Resource, Store};
 use std::alloc::Global;
 use vm_shape::{Description, shape};
 
@@ -70,7 +70,7 @@ impl<'a> ReadyProgram<'a> {
     }
 
     /// Whether this is the program's image.
-    pub fn has_image(&self, image: &ImageRef) -> bool
+    pub fn has_image(&self, image: &Image) -> bool
         ensures { IsTrue result → self.now.program.now.image ≡ image.now }
     {
         self.program.image.as_slice() == image.as_slice()

@@ -28,10 +28,8 @@ fn program_named<'a>(
     ensures right { IsRightProgram trial.now.desc.now result.now }
     ensures image { result.now.image ≡ (named_program trial.now.log.now handler version image).image }
 {
-    let Some(bytes) = trial.log.images().get(image as usize) else {
-        unreachable!()
-    };
-    let Some(found) = find_program(trial.programs, *place, handler, version, &bytes) else {
+    let bytes = &trial.log.images()[image as usize];
+    let Some(found) = find_program(trial.programs, *place, handler, version, bytes) else {
         unreachable!()
     };
     *place = found;
@@ -117,11 +115,9 @@ impl<'a> ReadyRoll<'a> {
         ensures { IsTrue result → IsSomeAnd (ready_at (installed_programs self.now.ready) handler)
             (λ r. r.program.now.image ≡ slice_index_or trial.now.log.now.images image no_image) }
     {
-        let Some(bytes) = trial.log.images().get(image as usize) else {
-            unreachable!()
-        };
+        let bytes = &trial.log.images()[image as usize];
         match self.ready.get(handler) {
-            Some(program) => program.has_image(&bytes),
+            Some(program) => program.has_image(bytes),
             None => false,
         }
     }

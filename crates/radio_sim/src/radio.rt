@@ -192,7 +192,7 @@ impl Radio {
             &mut self.air,
         );
         if result.is_err() {
-            self.air.truncate(before);
+            self.air.cut(before);
             return Err(NoMemory);
         }
         wires.turn();
@@ -270,7 +270,7 @@ impl Radio {
     {
         self.gone += self.air.len();
         self.past = PastAir::with(&self.past, &self.air);
-        self.air.truncate(0);
+        self.air.cut(0);
     }
 
     /// Notes what happened on the air. `NoMemory` leaves the radio as it was. It is inlined, so that the record is written in its place

@@ -13,8 +13,8 @@ ghost use Rattle.audit_rules.specs.Views.{HasHandlerBelow};
 ghost use Rattle.report_audit.specs.Versions.{HasVersions};
 
 use audit_programs::find_program;
-use mate_journal::{Entry, ImageRef, NodeLog, Programs};
-use mate_num::{HANDLERS_MAX, HandlerId};
+use mate_journal::{Entry, NodeLog, Programs};
+use mate_num::{HANDLERS_MAX, HandlerId, Image};
 use vm_shape::Description;
 
 /// Whether one of the programs has this handler, version and image. The search begins at `place`, which then is the position of the
@@ -24,7 +24,7 @@ fn is_one_of(
     place: &mut usize,
     handler: HandlerId,
     version: u32,
-    image: &ImageRef,
+    image: &Image,
 ) -> bool
     ensures { result ≡ list_any (is_held_as record { handler = handler; version = version; image = image.now }) programs.now }
 {
@@ -59,12 +59,10 @@ fn installs_right(
     else {
         return true;
     };
-    let Some(bytes) = log.images().get(*image as usize) else {
-        unreachable!()
-    };
+    let bytes = &log.images()[*image as usize];
     let before = held[usize::from(handler.0)];
     held[usize::from(handler.0)] = *version;
-    is_one_of(programs, place, *handler, *version, &bytes) && before < *version
+    is_one_of(programs, place, *handler, *version, bytes) && before < *version
 }
 
 /// Whether each install is of one of the programs, and newer than what was installed for its handler.

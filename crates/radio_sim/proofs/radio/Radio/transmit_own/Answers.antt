@@ -55,7 +55,7 @@ invariant_of-self c =
       ahead = c.send-result.ensures.ahead right.ahead;
       gone_is = right.gone_is;
       gone_few = right.gone_few;
-      counted = let kept = ap length c.send-result.ensures.kept.is in omega (arith, right.counted, kept, ap length c.truncate.ensures, c.len-before.ensures, length-append {A = Aired}, length-take {A = Aired});
+      counted = let kept = ap length c.send-result.ensures.kept.is in omega (arith, right.counted, kept, ap length c.cut.ensures, c.len-before.ensures, length-append {A = Aired}, length-take {A = Aired});
       near = right.near;
       nodes = search rules;
     }
