@@ -13,8 +13,8 @@ pub mod past;
 mod pieces;
 pub mod program;
 pub mod report;
-pub mod shared_script;
 pub mod stored_image;
+pub mod stored_program;
 pub mod stores;
 
 pub use air::{Air, Aired, Airs};
@@ -27,6 +27,6 @@ pub use open_log::OpenLog;
 pub use past::Past;
 pub use program::{Program, Programs};
 pub use report::{ENTRIES_MAX, IntoFault, NodeLogs, RECORDS_MAX, Report, RunFault};
-pub use shared_script::SharedScript;
 pub use stored_image::StoredImage;
+pub use stored_program::{StoredProgram, StoredPrograms, stored};
 pub use stores::{StoreRef, Stores};
