@@ -10,7 +10,7 @@ use capsule_codec::decode;
 use code_verifier::{Verified, verify};
 use lock_inference::locks;
 use mate_code::Table;
-use mate_journal::Program;
+use mate_journal::StoredProgram;
 use mate_num::{Image, LockSet, NoMemory, Outcome, Payload, Resource, Store};
 use std::alloc::Global;
 use vm_shape::{Description, shape};
@@ -18,14 +18,14 @@ use vm_shape::{Description, shape};
 /// A program with the verified code of its image and the locks that the code takes.
 #[derive(Drop)]
 pub struct ReadyProgram<'a> {
-    program: &'a Program,
+    program: &'a StoredProgram,
     code: Verified,
     locks: LockSet,
     ghost locks_are: { AreLocksOf code.shape code.code locks },
 }
 
 /// The code of the program's image.
-fn code_of(desc: &Description, program: &Program) -> Verified
+fn code_of(desc: &Description, program: &StoredProgram) -> Verified
     requires { IsRightProgram desc.now program.now }
     ensures { IsImageCode desc.now program.now.image result }
 {
@@ -56,7 +56,7 @@ impl<'a> ReadyProgram<'a> {
     ghost use Rattle.audit_programs.specs.Ready.{IsReadyAs};
 
     /// The right program, made ready.
-    pub fn of(desc: &Description, program: &'a Program) -> ReadyProgram<'a>
+    pub fn of(desc: &Description, program: &'a StoredProgram) -> ReadyProgram<'a>
         requires { IsRightProgram desc.now program.now }
         ensures ready { IsReadyAs desc.now (held_as program.now) result }
         ensures program { result.program.now ≡ program.now }
@@ -73,7 +73,8 @@ impl<'a> ReadyProgram<'a> {
     pub fn has_image(&self, image: &Image) -> bool
         ensures { IsTrue result → self.now.program.now.image ≡ image.now }
     {
-        self.program.image.as_slice() == image.as_slice()
+        let program = self.program;
+        program.image.as_slice() == image.as_slice()
     }
 
     /// Whether one of the two writes what the other reads or writes.

@@ -10,7 +10,7 @@ use crate::finding::find_program;
 use crate::trial::Trial;
 use crate::{ReadyProgram, ReadyPrograms};
 use audit_rules::{Roll, Seat};
-use mate_journal::{Entry, Program};
+use mate_journal::{Entry, StoredProgram};
 use mate_num::{Call, HandlerId, NoMemory, Outcome, Resource, Store};
 use std::alloc::Global;
 
@@ -21,7 +21,7 @@ fn program_named<'a>(
     handler: HandlerId,
     version: u32,
     image: u32,
-) -> &'a Program
+) -> &'a StoredProgram
     requires known { image < length trial.now.log.now.images }
     requires right { AreRightPrograms trial.now.desc.now trial.now.programs.now }
     requires given { IsOneOf trial.now.programs.now (named_program trial.now.log.now handler version image) }

@@ -20,7 +20,7 @@ ghost use Rattle.world_run_laws.specs.Coming.{code_world, MayComeTo};
 ghost use Rattle.world_state.specs.Standing.{IsMoteOf};
 ghost use Rattle.world_event.specs.Handling.{IsOpenExchange, IsPaced};
 
-use mate_journal::Programs;
+use mate_journal::StoredPrograms;
 use mate_num::{NoMemory, Stamp};
 use radio_sim::{Event, SharedPacket};
 use script_steps::World;
@@ -33,7 +33,7 @@ pub fn an_injection_has_its_own_version(
     mote: &mut Mote,
     desc: &Description,
     world: &World,
-    programs: &Programs,
+    programs: &StoredPrograms,
     at: Stamp,
 ) -> Result<Effect, NoMemory>
     requires machine { mote.old.node.description ≡ desc.now }
@@ -66,7 +66,7 @@ pub fn a_packet_is_got_from_its_sender(
     mote: &mut Mote,
     desc: &Description,
     world: &World,
-    programs: &Programs,
+    programs: &StoredPrograms,
     number: u32,
     bytes: SharedPacket,
     at: Stamp,

@@ -9,8 +9,8 @@ pub mod open_log;
 pub mod past;
 pub mod program;
 pub mod report;
-pub mod shared_script;
 pub mod stored_image;
+pub mod stored_program;
 
 pub use air::{Air, Aired, Airs};
 pub use entry::{DropCause, Entry, Stamped, VoidCause};
@@ -20,5 +20,5 @@ pub use open_log::OpenLog;
 pub use past::Past;
 pub use program::{Program, Programs};
 pub use report::{ENTRIES_MAX, IntoFault, NodeLogs, RECORDS_MAX, Report, RunFault};
-pub use shared_script::SharedScript;
 pub use stored_image::StoredImage;
+pub use stored_program::{StoredProgram, StoredPrograms, stored};

@@ -11,7 +11,7 @@ ghost use Rattle.world_state.specs.Motes.{plain_effect};
 use crate::finish::finish;
 use crate::handling::handle;
 use crate::turns::{have_turns, is_well_formed};
-use mate_journal::Programs;
+use mate_journal::StoredPrograms;
 use mate_num::{NoMemory, Stamp};
 use radio_sim::{Event, Radio};
 use script_steps::World;
@@ -26,7 +26,7 @@ pub fn perform(
     mote: &mut Mote,
     desc: &Description,
     world: &World,
-    programs: &Programs,
+    programs: &StoredPrograms,
     number: u8,
     event: &Event,
     at: Stamp,

@@ -22,7 +22,7 @@ ghost use Rattle.world_run_laws.specs.Coming.{code_world, MayComeTo};
 ghost use Rattle.world_state.specs.Standing.{IsMoteOf};
 ghost use Rattle.world_event.specs.Handling.{IsFitEvent, IsOpenExchange, IsPaced, Handled, DoesBy, IsFragmentOf, receivers_below};
 
-use mate_journal::Programs;
+use mate_journal::StoredPrograms;
 use mate_num::{HandlerId, Image, NoMemory, Payload, Stamp};
 use packet_codec::{Packet, decode};
 use radio_sim::{Event, SharedPacket};
@@ -36,7 +36,7 @@ pub fn handle(
     mote: &mut Mote,
     desc: &Description,
     world: &World,
-    programs: &Programs,
+    programs: &StoredPrograms,
     event: &Event,
     at: Stamp,
     effect: &mut Effect,
@@ -95,7 +95,7 @@ pub fn handle(
 fn follow(
     mote: &mut Mote,
     what: &What,
-    programs: &Programs,
+    programs: &StoredPrograms,
     at: Stamp,
     effect: &mut Effect,
 ) -> Result<(), NoMemory>

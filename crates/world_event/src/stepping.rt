@@ -12,7 +12,7 @@ ghost use Rattle.world_event.specs.Placing.{NamesPart, named_node};
 
 use crate::event::perform;
 use journal_laws::{LogSize, air_is_in_range_from, log_is_in_range_from};
-use mate_journal::{NodeLog, Programs};
+use mate_journal::{NodeLog, StoredPrograms};
 use mate_num::{NoMemory, Stamp};
 use radio_sim::Event;
 use script_steps::World;
@@ -29,7 +29,7 @@ pub fn step(
     sim: &mut Simulation,
     desc: &Description,
     world: &World,
-    programs: &Programs,
+    programs: &StoredPrograms,
     event: &Event,
     at: Stamp,
     written: Written,

@@ -20,7 +20,7 @@ use crate::record::Record;
 use crate::recording::record_event;
 use journal_laws::stamp_is_in_range;
 use mate_files::Sink;
-use mate_journal::{NodeLog, Programs, RECORDS_MAX};
+use mate_journal::{NodeLog, RECORDS_MAX, StoredPrograms};
 use mate_num::Stamp;
 use radio_sim::Event;
 use report_writer::{Pass, WriteFault, stopped};
@@ -39,7 +39,7 @@ pub fn write_world<S: Sink>(
     alloc: Global,
     desc: &Description,
     world: &World,
-    programs: &Programs,
+    programs: &StoredPrograms,
     out: &mut S,
 ) -> Result<(), WriteFault>
     requires { AreProgramsOfWorld desc.now world.now programs.now }
@@ -62,7 +62,7 @@ pub fn write_run<S: Sink>(
     alloc: Global,
     desc: &Description,
     world: &World,
-    programs: &Programs,
+    programs: &StoredPrograms,
     mut sim: Simulation,
     records: &mut Option<Record>,
     out: &mut S,
@@ -119,7 +119,7 @@ pub fn write_run<S: Sink>(
 fn write_step<S: Sink>(
     desc: &Description,
     world: &World,
-    programs: &Programs,
+    programs: &StoredPrograms,
     sim: &mut Simulation,
     event: &Event,
     at: Stamp,

@@ -23,7 +23,7 @@ ghost use Rattle.world_state.specs.Telling.{LogsAreKept};
 
 use crate::mote::Mote;
 use journal_laws::air_is_in_range_from;
-use mate_journal::{NodeLog, Programs, RECORDS_MAX};
+use mate_journal::{NodeLog, RECORDS_MAX, StoredPrograms};
 use mate_num::NoMemory;
 use node_open::{OpenNode, SharedMachine};
 use packet_codec::Packet;
@@ -56,7 +56,7 @@ impl Simulation {
         alloc: Global,
         desc: &Description,
         world: &World,
-        programs: &Programs,
+        programs: &StoredPrograms,
     ) -> Result<Simulation, NoMemory>
         requires { IsRightWorld desc.now world.now }
         ensures stands { IfOk result (λ sim. (ps : List ProgramOfFile) → StandsAfter (code_world desc.now world.now ps) 0 sim) }

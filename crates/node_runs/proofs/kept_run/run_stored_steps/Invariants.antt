@@ -1,7 +1,7 @@
 use Rattle.std.proofs.Common.{◌≡◌, take, length}
 use Rattle.mate_journal.specs.OpenLog.{nothing_gone}
 use Rattle.node_runs.specs.Running.{HasRun}
-use Rattle.node_runs.proofs.kept_run.run_steps.Given as goal
+use Rattle.node_runs.proofs.kept_run.run_stored_steps.Given as goal
 
 abbrev pub invariant-loop-step : goal.invariant-loop-step
 invariant-loop-step l = record {

@@ -7,7 +7,7 @@ use Rattle.audit_rules.specs.Tests.{failed_by}
 use Rattle.audit_rules.specs.Verdicts.{LogFails}
 use Rattle.audit_rules.proofs.TestLemmas.{failed-told}
 use Rattle.report_audit.proofs.AuditLemmas.{at-node, keeps-more, found-none, found-law}
-use Rattle.report_audit.proofs.auditing.audit.Goals as goal
+use Rattle.report_audit.proofs.auditing.audit_stored.Goals as goal
 
 pub loop-node-init : goal.loop-node-init
 loop-node-init c = record { nodes = λ k below. absurd (omega (arith, below)); kept = c.in_ok-roll.ensures c.args.desc.now }

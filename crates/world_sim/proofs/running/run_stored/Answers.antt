@@ -6,7 +6,7 @@ use Rattle.world_state.proofs.KeepingLemmas.{whole-still, whole-shown}
 use Rattle.world_state.proofs.RunLemmas.{behind, is-done}
 use Rattle.world_state.proofs.WorldLemmas.{all-timely, of-machine, shown-machine, full-report, whole-report}
 use Rattle.world_state.specs.Keeping.{IsWhole}
-use Rattle.world_sim.proofs.running.run.Goals as goal
+use Rattle.world_sim.proofs.running.run_stored.Goals as goal
 
 pub see_stores-requires : goal.see_stores-requires
 see_stores-requires c =

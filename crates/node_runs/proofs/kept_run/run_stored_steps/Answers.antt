@@ -6,7 +6,7 @@ use Rattle.mate_journal.specs.declared.entry.Stamped.{Stamped}
 use Rattle.mate_journal.specs.declared.report.TheConstants.{RECORDS_MAX}
 use Rattle.node_programs.specs.Right.{AreRightPrograms}
 use Rattle.node_runs.proofs.RunLemmas.{HasRun-new, HasRun-same, HasRun-step, timely-next, few-entries, few-events, run-whole, run-full, reported, right-step, few-contexts}
-use Rattle.node_runs.proofs.kept_run.run_steps.Goals as goal
+use Rattle.node_runs.proofs.kept_run.run_stored_steps.Goals as goal
 
 pub loop-step-init : goal.loop-step-init
 loop-step-init c =

@@ -4,7 +4,7 @@ use Rattle.world_run_laws.specs.Coming.{code_world}
 use Rattle.world_state.specs.Motes.{plain_effect}
 use Rattle.world_state.specs.Keeping.{IsWhole}
 use Rattle.world_state.specs.Running.{StandsAfter}
-use Rattle.world_sim.proofs.running.run.Given as goal
+use Rattle.world_sim.proofs.running.run_stored.Given as goal
 
 abbrev pub invariant-loop-events : goal.invariant-loop-events
 invariant-loop-events l = record {
