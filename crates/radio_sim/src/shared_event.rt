@@ -119,7 +119,8 @@ impl SharedEvent {
             SharedEvent::Fire { node } | SharedEvent::Expire { node } => Some(Cancel::Timer(*node)),
             SharedEvent::Pump { node } => Some(Cancel::Pump(*node)),
             SharedEvent::Due { node, .. } => Some(Cancel::Answers(*node)),
-            SharedEvent::Planned(_) | SharedEvent::Period { .. } | SharedEvent::Deliver { .. } => None,
+            SharedEvent::Planned(_) | SharedEvent::Period { .. } | SharedEvent::Deliver { .. } =>
+                None,
         }
     }
 }
