@@ -22,7 +22,7 @@ ghost use Rattle.world_event.specs.Handling.{IsOpenExchange, IsPaced};
 
 use mate_journal::StoredPrograms;
 use mate_num::{NoMemory, Stamp};
-use radio_sim::{Event, SharedPacket};
+use radio_sim::{SharedEvent, SharedPacket};
 use script_steps::World;
 use vm_shape::Description;
 use world_event::handle;
@@ -56,7 +56,7 @@ pub fn an_injection_has_its_own_version(
         (Installs p.handler.0 p.version p.image.items ∷ n.exchange)) }
 {
     let mut effect = Effect::none();
-    let event = Event::Planned(0);
+    let event = SharedEvent::Planned(0);
     handle(mote, desc, world, programs, &event, at, &mut effect)?;
     Ok(effect)
 }
@@ -89,7 +89,7 @@ pub fn a_packet_is_got_from_its_sender(
         → sent_bytes (code_world desc.now world.now programs.now) packet ≡ bytes → slice_get world.now.links 0 ≡ Some link
         → option_to_list effect.first ≡ Got number link.from ∷ []) }
 {
-    let event = Event::Deliver {
+    let event = SharedEvent::Deliver {
         link: 0,
         number,
         bytes,

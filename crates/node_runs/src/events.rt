@@ -12,10 +12,10 @@ ghost use Rattle.node_programs.specs.ScriptSteps.{step_of, IsProgramOf, program_
 ghost use Rattle.node_runs.specs.Running.{IsReadyFor, MakesOn};
 
 use mate_journal::{StoredProgram, StoredPrograms, VoidCause};
-use mate_num::{ContextId, HandlerId, Stamp};
+use mate_num::{ContextId, HandlerId, Payload, Stamp};
 use node_calls::InstallFault;
 use node_open::OpenNode;
-use script_steps::{Message, Step};
+use script_steps::Step;
 
 /// Installs the program, or records that the node holds a version that isn't older.
 fn install(node: &mut OpenNode, program: &StoredProgram, at: Stamp)
@@ -34,12 +34,12 @@ fn install(node: &mut OpenNode, program: &StoredProgram, at: Stamp)
 
 /// Posts the payload for the handler. It isn't inlined, so that other steps make no room for a payload.
 #[inline(never)]
-fn post(node: &mut OpenNode, handler: HandlerId, payload: &Message, at: Stamp)
+fn post(node: &mut OpenNode, handler: HandlerId, payload: &Payload, at: Stamp)
     requires ready { IsReadyFor node.old at }
     requires handler { handler.0 < length node.old.description.handlers.items }
     ensures { Tells node.old node.new at (MakesOn node.old (PostStep handler payload.now)) }
 {
-    let _ = node.post(handler, &payload.payload(), at);
+    let _ = node.post(handler, payload, at);
 }
 
 /// Gives the context one turn, or records that no invocation is ready there.

@@ -13,7 +13,7 @@ use crate::handling::handle;
 use crate::turns::{have_turns, is_well_formed};
 use mate_journal::StoredPrograms;
 use mate_num::{NoMemory, Stamp};
-use radio_sim::{Event, Radio};
+use radio_sim::{Radio, SharedEvent};
 use script_steps::World;
 use vm_shape::Description;
 use world_run_laws::states_are_sound;
@@ -28,7 +28,7 @@ pub fn perform(
     world: &World,
     programs: &StoredPrograms,
     number: u8,
-    event: &Event,
+    event: &SharedEvent,
     at: Stamp,
     effect: &mut Effect,
 ) -> Result<(), NoMemory>

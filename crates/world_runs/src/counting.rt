@@ -19,7 +19,7 @@ ghost use Rattle.world_runs.specs.Writing.{StandsAtEnd};
 use crate::pieces::logs_are_kept;
 use mate_journal::{NodeLog, RECORDS_MAX, StoredPrograms};
 use mate_num::{NoMemory, Stamp};
-use radio_sim::Event;
+use radio_sim::SharedEvent;
 use report_writer::{LogTally, RunTally, Summary};
 use script_steps::World;
 use std::alloc::Global;
@@ -67,7 +67,7 @@ fn sum_started(
     states_are_sound();
     let mut room = NodeLog::new(alloc);
     let mut effect = Effect::none();
-    let mut event = Event::Planned(0);
+    let mut event = SharedEvent::Planned(0);
     for events in 0..u64::MAX {
         let Some(time) = sim.radio.next_into(&mut event) else {
             return sum_ending(desc, world, programs, sim, events, tally);
@@ -102,7 +102,7 @@ fn count_step(
     world: &World,
     programs: &StoredPrograms,
     sim: &mut Simulation,
-    event: &Event,
+    event: &SharedEvent,
     at: Stamp,
     room: &mut NodeLog,
     effect: &mut Effect,
