@@ -1,8 +1,7 @@
 -- A report keeps the windows: what it shows of a window makes it open in the run.
-use Rattle.std.proofs.Common.{◌≡◌, ◌<◌, ◌≤◌, ℕ, ◌+◌, ◌*◌, ◌^◌, Bool, true, false, cond, List, [], ◌∷◌, ◌++◌, map, refl, sym, ◌∙◌, ap, subst, arith, inl, inr, ◌⊎◌, append_assoc}
-use Rattle.std.specs.Prelude.{Contains, Option, Some, nat_lt, slice_index, slice_index_or, ◌==◌, if◌then◌else◌}
-use Rattle.std.specs.List.{filter, range_with_len}
-use Rattle.std.specs.Option.{option_map_or}
+use Rattle.std.proofs.Common.{◌≡◌, ◌<◌, ◌≤◌, ℕ, ◌+◌, ◌*◌, ◌^◌, Bool, true, false, List, [], ◌∷◌, ◌++◌, map, refl, sym, ◌∙◌, ap, subst, arith, inl, inr, ◌⊎◌, append_assoc}
+use Rattle.std.specs.Prelude.{Contains, Some, slice_index, slice_index_or, ◌==◌, if◌then◌else◌}
+use Rattle.std.specs.List.{range_with_len}
 use Rattle.std.proofs.lemmas.Bool.Decides.{eqb_tells}
 use Rattle.mate_num.specs.Lists.{Among, Each}
 use Rattle.mate_num.specs.declared.call.Stamp.{Stamp}
@@ -19,23 +18,23 @@ use Rattle.packet_codec.specs.declared.packet.Packet.{Packet}
 use Rattle.packet_codec.specs.declared.packet.Packet.TheVariants.{Vector, Fragment}
 use Rattle.trickle_timer.specs.Intervals as trickle
 use Rattle.trickle_timer.specs.declared.timer.Fire.TheVariants as fire
-use Rattle.capsule_exchange.specs.Happenings.{Happening, Hears, Installs, Forgets, heard_since, held_version, held_versions, version_in, greatest}
+use Rattle.capsule_exchange.specs.Happenings.{heard_since, held_version, held_versions, version_in}
+use Rattle.mate_journal.specs.Machine.{HeldProgram}
 use Rattle.script_steps.specs.declared.world.Link.{Link}
 use Rattle.script_steps.specs.declared.world.World.{World as Script}
 use Rattle.world_rules.specs.Cause.{Cause}
 use Rattle.world_rules.specs.Cause as event
-use Rattle.world_rules.specs.World.{World, PlannedLine, Want, handlers, links_from, receiver}
-use Rattle.world_rules.specs.Effect.{Node, NodeEffect, Resetting, event_node, no_effect, node_effect, of_line, resets}
-use Rattle.world_rules.specs.State.{Moment, Sending, air_made, effect_at, is_lost, node_at, state}
+use Rattle.world_rules.specs.World.{World, handlers, line_planned, links_from, receiver}
+use Rattle.world_rules.specs.Effect.{Node, Resetting, event_node, resets}
+use Rattle.world_rules.specs.State.{Moment, Sending, air_made, effect_at, is_lost, state}
 use Rattle.world_rules.specs.Run.{HaveCome, IsDone, airs, stamp_of}
 use Rattle.world_rules.specs.Report.{IsWorldReport}
 use Rattle.world_laws.specs.Arrivals.{sent_by}
 use Rattle.world_laws.specs.Passing.{Hop, IsHop, LetsPass, up_to, version_at, IsBetween, IsHeardBetween, IsOpenWindow, IsRightNetwork}
 use Rattle.world_laws.specs.TimerRecords.{PointDone, point_of, points_of, point_told}
 use Rattle.world_laws.proofs.AirPoints.{points_are_told}
-use Rattle.world_laws.proofs.Happens.{Happens, nothing, injected, heard, completed, forgot, sent, happens}
 use Rattle.world_laws.proofs.Hop.{link-at}
-use Rattle.world_laws.proofs.HopBound.{head-is, tail-is, times-rise}
+use Rattle.world_laws.proofs.HopBound.{times-rise}
 use Rattle.world_laws.specs.Hops.{HasLink}
 use Rattle.world_laws.specs.Times.{last_time}
 use Rattle.world_laws.proofs.Passing.{windows_pass}
@@ -45,21 +44,22 @@ use Rattle.world_laws.proofs.Injected.{IsOfInjected}
 use Rattle.world_laws.proofs.Periods.{among-in_filter_map}
 use Rattle.world_laws.proofs.Silence.{vectors_come_from_holders}
 use Rattle.world_laws.proofs.Versions.{run-injected}
-use Rattle.world_laws.proofs.Points.{among-next, earlier-come, nodes-here, nodes-other}
+use Rattle.world_laws.proofs.Points.{among-next, earlier-come}
 use Rattle.world_laws.proofs.Runs.{Stands, in_back, in_front, behind, come-up-to, each-middle, held-rises, stands, up-to-last}
 use Rattle.script_steps.specs.World.{IsRightLink}
 use Rattle.node_programs.specs.ScriptSteps.{program_at}
 use Rattle.std.proofs.lemmas.List.Elements.{All-contains, All-map}
-use Rattle.world_laws.specs.Premises.{IsRightScript}
+use Rattle.world_laws.specs.Premises.{IsRightScript, AreInjectedPrograms}
+use Rattle.world_run_laws.proofs.Promised.{promised-low, promised-ahead, promised-passes}
 use Rattle.world_laws.proofs.Arrive.{reached_is_done}
 use Rattle.world_laws.proofs.Premises.{scripts_are_networks}
 use Rattle.world_run_laws.specs.SourceWorld.{source_world}
-use Rattle.world_run_laws.specs.Windows.{HasTold, HasAired, FallsBetween, HasInstalled, HearsOf, Speaks, ShowsWindow, PassesTo, at_home, over_hop, ReportsKeepTheWindows}
+use Rattle.world_run_laws.specs.Windows.{HasTold, HasAired, FallsBetween, HasInstalled, HearsOf, Speaks, ShowsWindow, PromisesWindow, PassesTo, at_home, over_hop, ReportsKeepTheWindows}
 use Rattle.world_run_laws.proofs.Fit.{held-fits}
 use Rattle.world_run_laws.proofs.Heard.{AreProgramsFit, index-fits}
 use Rattle.world_run_laws.proofs.Programs.{programs-fit, right-script}
 use Rattle.world_run_laws.proofs.Reached.{shown_is_reached}
-use Rattle.world_run_laws.proofs.Lines.{resets-by}
+use Rattle.world_run_laws.proofs.Since.{WasHeard, was-heard, aims-low}
 use Rattle.world_run_laws.proofs.Shown.{WasTold, told-by-event, event-tells, reset-told, told-resets, install-told, HoldsSome, installed-holds, holds-installed_by, event-airs, lost-aired, got-shown}
 
 -- ---- a point that sends
@@ -105,118 +105,6 @@ speaks-point w how r of k start by is = had-point w of.moments k point (subst (�
       tells : point_told k record_is ≡ Some point
       tells = elim (eqb_tells k k) [ inl same ↦ rw same.0 refl | inr other ↦ absurd (other.1 refl) ]
 
--- ---- what a node heard since its last reset
-
--- one of these events brought the packet to the node, and none after it resets the node
-record WasHeard (w : World) (ms : List Moment) (k : ℕ) (p : Packet) : Type 0 where
-  newer : List Moment
-  moment : Moment
-  older : List Moment
-  split : ms ≡ newer ++ moment ∷ older
-  link : ℕ
-  number : ℕ
-  cause : moment.cause ≡ event.Deliver link number p
-  to : receiver w link ≡ k
-  kept : (x : Moment) (front rest : List Moment) → newer ≡ front ++ x ∷ rest → event_node w x.cause ≡ k → (effect_at w (state w (rest ++ moment ∷ older)) x).deed ≡ Resetting → ⊥
-
-none-in : (front rest : List Moment) (x : Moment) → [] ≡ front ++ x ∷ rest → ⊥
-none-in [] rest x is = cc
-none-in (y ∷ front) rest x is = cc
-
-heard-before : (w : World) (m : Moment) (before : List Moment) (k : ℕ) (p : Packet) → (event_node w m.cause ≡ k → (effect_at w (state w before) m).deed ≡ Resetting → ⊥) → WasHeard w before k p → WasHeard w (m ∷ before) k p
-heard-before w m before k p calm was = record {
-  newer = m ∷ was.newer;
-  moment = was.moment;
-  older = was.older;
-  split = ap (λ (ms : List Moment). m ∷ ms) was.split;
-  link = was.link;
-  number = was.number;
-  cause = was.cause;
-  to = was.to;
-  kept = kept;
-} where
-  kept : (x : Moment) (front rest : List Moment) → m ∷ was.newer ≡ front ++ x ∷ rest → event_node w x.cause ≡ k → (effect_at w (state w (rest ++ was.moment ∷ was.older)) x).deed ≡ Resetting → ⊥
-  kept x [] rest is node deed =
-      let same : m ≡ x = head-is m x was.newer rest is in
-      let whole : before ≡ rest ++ was.moment ∷ was.older = was.split ∙ ap (λ (ms : List Moment). ms ++ was.moment ∷ was.older) (tail-is m x was.newer rest is) in
-      calm (ap (λ (y : Moment). event_node w y.cause) same ∙ node)
-      (ap (λ (y : Moment). (effect_at w (state w before) y).deed) same ∙ ap (λ (ms : List Moment). (effect_at w (state w ms) x).deed) whole ∙ deed)
-  kept x (y ∷ front) rest is node deed = was.kept x front rest (tail-is m y was.newer (front ++ x ∷ rest) is) node deed
-
--- a reset forgets
-forgets : (w : World) (n : Node) (c : Cause) → (node_effect w n c).deed ≡ Resetting → (node_effect w n c).happened ≡ Forgets ∷ []
-forgets w n c is = elim (resets-by w n c) [
-  | inl calm ↦ (let clash : true ≡ false = sym (ap resets is) ∙ calm in cc)
-  | inr found ↦ ap (λ (x : Cause). (node_effect w n x).happened) found.cause
-      ∙ ap (λ (o : Option PlannedLine). (option_map_or (λ (l : PlannedLine). of_line l.what) o no_effect).happened) found.stands
-      ∙ ap (λ (x : Want). (of_line x).happened) found.says
-]
-
-installs-since : (h g version : ℕ) (image : List ℕ) (hs : List Happening) (p : Packet) → Among p (heard_since h (Installs g version image ∷ hs)) → Among p (heard_since h hs)
-installs-since h g version image hs p a = by (g == h) a where
-  by : (b : Bool) → Among p (if b then [] else heard_since h hs) → Among p (heard_since h hs)
-  by true none = absurd none
-  by false had = had
-
--- a packet of the list was there before, or the event brought it
-heard-now : (w : World) (h : ℕ) (hs : List Happening) (c : Cause) (e : NodeEffect) (p : Packet) → Happens w hs c e → Among p (heard_since h (e.happened ++ hs))
-    → Among p (heard_since h hs) ⊎ ((link : ℕ) × (number : ℕ) × (c ≡ event.Deliver link number p))
-heard-now w h hs c e p how a = by how where
-  Had : List Happening → Type 0
-  Had new = Among p (heard_since h (new ++ hs))
-
-  last : (j number : ℕ) (packet : Packet) → c ≡ event.Deliver j number packet → Among p (heard_since h hs ++ packet ∷ []) → Among p (heard_since h hs) ⊎ ((link : ℕ) × (number : ℕ) × (c ≡ event.Deliver link number p))
-  last j number packet cause b = elim (among-append p (heard_since h hs) (packet ∷ []) b) [
-    | inl old ↦ inl old
-    | inr (inl e) ↦ inr (j, number, cause ∙ ap (λ (q : Packet). event.Deliver j number q) e)
-    | inr (inr none) ↦ absurd none
-  ]
-
-  by : Happens w hs c e → Among p (heard_since h hs) ⊎ ((link : ℕ) × (number : ℕ) × (c ≡ event.Deliver link number p))
-  by (nothing is) = inl (subst Had is a)
-  by (injected x q cause is deed) = inl (installs-since h q.handler.0 q.version q.image.items hs p (subst Had is a))
-  by (heard j number packet cause is none) = last j number packet cause (subst Had is a)
-  by (completed j number packet q cause is deed complete same) = last j number packet cause (installs-since h q.handler.0 q.version q.image.items (Hears packet ∷ hs) p (subst Had is a))
-  by (forgot is deed) = absurd (subst Had is a)
-  by (sent k slot cause is next) = inl (subst Had is a)
-
-was-heard : (w : World) (k h : ℕ) (ms : List Moment) (p : Packet) → Among p (heard_since h ((state w ms).nodes k).exchange) → WasHeard w ms k p
-was-heard w k h [] p a = absurd a
-was-heard w k h (m ∷ before) p a = elim (eqb_tells k (event_node w m.cause)) [
-  | inr other ↦ heard-before w m before k p (λ node deed. absurd (other.1 (sym node)))
-      (was-heard w k h before p (subst (λ (n : Node). Among p (heard_since h n.exchange)) (nodes-other w (state w before) m k other.1) a))
-  | inl same ↦ here same.1 (λ b. was-heard w k h before p b)
-] where
-  here : k ≡ event_node w m.cause → (Among p (heard_since h ((state w before).nodes k).exchange) → WasHeard w before k p) → WasHeard w (m ∷ before) k p
-  here same earlier = elim (heard-now w h (node_at w (state w before) m).exchange m.cause (effect_at w (state w before) m) p (happens w (node_at w (state w before) m) m.cause) now) [
-    | inl old ↦ heard-before w m before k p calm (earlier (subst (λ (j : ℕ). Among p (heard_since h ((state w before).nodes j).exchange)) (sym same) old))
-    | inr new ↦ record {
-      newer = [];
-      moment = m;
-      older = before;
-      split = refl;
-      link = new.0;
-      number = new.1;
-      cause = new.2;
-      to = sym (same ∙ ap (event_node w) new.2);
-      kept = λ x front rest is node deed. none-in front rest x is;
-    }
-  ] where
-    now : Among p (heard_since h ((effect_at w (state w before) m).happened ++ (node_at w (state w before) m).exchange))
-    now = subst (λ (n : Node). Among p (heard_since h n.exchange)) (nodes-here w (state w before) m) (subst (λ (j : ℕ). Among p (heard_since h ((state w (m ∷ before)).nodes j).exchange)) same a)
-
-    calm : event_node w m.cause ≡ k → (effect_at w (state w before) m).deed ≡ Resetting → ⊥
-    calm node deed = subst (λ (new : List Happening). Among p (heard_since h (new ++ (node_at w (state w before) m).exchange))) (forgets w (node_at w (state w before) m) m.cause deed) now
-
--- if nothing newer was heard, the node aims at nothing newer
-aims-low : (h limit most : ℕ) (ps : List Packet) → ((p : Packet) → Among p ps → version_in h p ≤ most) → greatest (filter (nat_lt limit) (map (version_in h) ps)) ≤ most
-aims-low h limit most [] low = omega arith
-aims-low h limit most (p ∷ ps) low = by (nat_lt limit (version_in h p)) (low p (inl refl)) (aims-low h limit most ps (λ q a. low q (inr a))) where
-  by : (b : Bool) → version_in h p ≤ most → greatest (filter (nat_lt limit) (map (version_in h) ps)) ≤ most
-      → greatest (cond b (version_in h p ∷ filter (nat_lt limit) (map (version_in h) ps)) (filter (nat_lt limit) (map (version_in h) ps))) ≤ most
-  by true one rest = omega (arith, one, rest)
-  by false one rest = rest
-
 -- ---- versions that are named have 32 bits
 
 small-version : (w : World) (before : List Moment) (m : Moment) (j number h : ℕ) (p : Packet) → IsOneImage w → AreProgramsFit w → HaveCome w (m ∷ before) → m.cause ≡ event.Deliver j number p → version_in h p < 2 ^ 32
@@ -243,7 +131,8 @@ small-version w before m j number h _ one fit come cause = omega arith
 -- ---- a window that a report shows is open
 
 module _ (w : World) (script : Script) (how : RunEnd) (r : Report) (of : IsWorldReport w how r) (suppress : script.suppress ≡ w.suppress) (links : script.links ≡ w.links)
-    (ends : (l : Link) → Contains w.links l → (l.from < w.nodes) × (l.to < w.nodes)) (net : IsRightNetwork w) (fit : AreProgramsFit w) where
+    (ends : (l : Link) → Contains w.links l → (l.from < w.nodes) × (l.to < w.nodes)) (net : IsRightNetwork w) (fit : AreProgramsFit w)
+    (programs : ℕ → HeldProgram) (plan : w.plan ≡ map (line_planned programs) script.events) (programs_are : AreInjectedPrograms script programs) where
   come-then : (newer older : List Moment) (m : Moment) → of.moments ≡ newer ++ m ∷ older → HaveCome w (m ∷ older)
   come-then newer older m split = earlier-come w (m ∷ older) newer (subst (λ (ms : List Moment). HaveCome w ms) split of.come)
 
@@ -391,23 +280,34 @@ module _ (w : World) (script : Script) (how : RunEnd) (r : Report) (of : IsWorld
 
   -- ---- a path
 
+  -- a hop with a window of either kind
+  over : (h : HandlerId) (a b start closes : ℕ) → ShowsWindow w.description script r h a b start closes ⊎ PromisesWindow w.description script r h a b start closes
+      → (b < w.nodes) × (start ≤ closes) × (IsDone (state w of.moments) closes → version_at w of.moments a h.0 start ≤ version_at w of.moments b h.0 closes)
+  over h a b start closes (inl shows) = (b-low h a b start closes shows, forward h a b start closes shows, passes h a b start closes shows)
+  over h a b start closes (inr promises) = (
+    promised-low w script programs how r of plan suppress links ends net programs_are h a b start closes promises,
+    promised-ahead w script programs how r of plan suppress links ends net programs_are h a b start closes promises,
+    promised-passes w script programs how r of plan suppress links ends net programs_are h a b start closes promises,
+  )
+
   pub reaches : (h : HandlerId) (version : ℕ) {k t : ℕ} → PassesTo w.description script r h version k t → IsDone (state w of.moments) t → (k < w.nodes) × HoldsSome w of.moments k h.0 version t
   reaches h version {k} {t} (at_home has) done = installed-holds w how r of k h version t has
   reaches h version (over_hop {a} {b} {t} {start} {by} before early window) done =
-      let ahead : start ≤ by = forward h a b start by window in
+      let one = over h a b start by window in
+      let ahead : start ≤ by = one.1 in
       let first = reaches h version before (λ u less. done u (omega (arith, less, early, ahead))) in
       let rises : version_at w of.moments a h.0 t ≤ version_at w of.moments a h.0 start = held-rises w of.moments a h.0 t start of.come early in
-      let passed : version_at w of.moments a h.0 start ≤ version_at w of.moments b h.0 by = passes h a b start by window done in
+      let passed : version_at w of.moments a h.0 start ≤ version_at w of.moments b h.0 by = one.2 done in
       let some : 1 ≤ version_at w of.moments a h.0 t = first.1.some in
       let least : version ≤ version_at w of.moments a h.0 t = first.1.least in
-      (b-low h a b start by window, record { some = omega (arith, some, rises, passed); least = omega (arith, least, rises, passed) })
+      (one.0, record { some = omega (arith, some, rises, passed); least = omega (arith, least, rises, passed) })
 
   pub reaches-installed : (h : HandlerId) (version k t : ℕ) → PassesTo w.description script r h version k t → IsDone (state w of.moments) t → HasInstalled r k h version t
   reaches-installed h version k t way done = let there = reaches h version way done in holds-installed_by w how r of k h version t there.0 there.1
 
 pub reports_keep_the_windows : ReportsKeepTheWindows
 reports_keep_the_windows d script ps how r programs of h version k t way shows =
-    reaches-installed (source_world d script ps) script how r of refl refl ends (scripts_are_networks d _ script (program_at ps) right) fit h version k t way
+    reaches-installed (source_world d script ps) script how r of refl refl ends (scripts_are_networks d _ script (program_at ps) right) fit (program_at ps) refl right.programs_are h version k t way
     (reached_is_done (source_world d script ps) how of.moments t of.come of.at_end (shown_is_reached d script ps how r t of shows)) where
       right : IsRightScript d script (program_at ps)
       right = right-script d script ps programs

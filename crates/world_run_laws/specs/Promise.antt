@@ -19,9 +19,9 @@ use Rattle.world_run_laws.specs.SourceWorld.{source_world}
 use Rattle.world_run_laws.specs.Windows.{KeepsTheWindows}
 
 -- It is a report of a run, that ends so, of the world whose programs, which are right, mean their sources. It is tidy, and
--- its numbers are in the ranges of their types: so its text is read back. Over each path of windows that it shows, whatever is
--- lost or suppressed, a version passes in time. In each node's journal, wherever no start follows, some invocation is ready, or
--- one waits for the outside, or none is live; and conflicting invocations end in the order of their posts.
+-- its numbers are in the ranges of their types: so its text is read back. Over each path of windows that it shows or its script
+-- promises, whatever else is lost or suppressed, a version passes in time. In each node's journal, wherever no start follows, some
+-- invocation is ready, or one waits for the outside, or none is live; and conflicting invocations end in the order of their posts.
 pub record IsReportOfWorld (d : Description) (script : Script) (ps : List Program) (how : RunEnd) (r : Report) : Type 0 where
   pub right : AreProgramsOfWorld d script ps
   pub run : IsWorldReport (source_world d script ps) how r
