@@ -62,14 +62,18 @@ line_without() {
     place=${found[-1]}
 }
 
-# WORD N: of a description with N lines the first table `[[WORD]]` up to whose end it is refused in the same way, into $place.
+# WORD N KEY: of a description with N lines the first table `[[WORD]]` up to whose end it is refused in the same way: its line that gives
+# the key a value, or else its first line, into $place.
 line_of_table() {
     local starts=() at end
     mapfile -t starts < <(grep -nE '^[[:blank:]]*\[' "$path" | cut -d: -f1 | head -n 40)
     for ((at = 0; at < ${#starts[@]}; at++)); do
         end=$((${starts[at + 1]:-$(($2 + 1))} - 1))
         [[ $(sed -n "${starts[at]}p" "$path") =~ ^[[:blank:]]*'[['[[:blank:]]*$1[[:blank:]]*']]' ]] || continue
-        [ "$(refusal_of_first "$end")" != "$line" ] || { place=${starts[at]}; return; }
+        [ "$(refusal_of_first "$end")" = "$line" ] || continue
+        place=$(sed -n "${starts[at]},${end}p" "$path" | grep -nE -m 1 -- "^[[:blank:]]*[\"']?$3[\"']?[[:blank:]]*=" | cut -d: -f1)
+        place=$((starts[at] + ${place:-1} - 1))
+        return
     done
     return 1
 }
@@ -116,7 +120,7 @@ explain_description() {
     *' field unknown') line_of_unknown "$count" ;;
     *' field '* | *' limit '*)
         key=${line##* }
-        line_without "${key##*.}" || [[ $key != *.* ]] || line_of_table "${key%%.*}" "$count" ;;
+        line_without "${key##*.}" || [[ $key != *.* ]] || line_of_table "${key%%.*}" "$count" "${key##*.}" ;;
     *' duplicate '*) line_without "${line##* }" last ;;
     esac
     [ -z "$place" ] || show_line "$vm" "$place"
