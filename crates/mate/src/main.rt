@@ -14,9 +14,9 @@ fn main(rt: HostRuntime) -> ExitCode {
     let mut err = OsSink::new(rt.stderr());
     let status = match words(&rt) {
         Ok(words) => match BufWriter::with_capacity(rt.alloc(), OUT_BLOCK, io::writer(&rt)) {
-            Ok(mut out) => {
+            Ok(out) => {
                 let mut files = OsFiles::new(rt.alloc(), &rt);
-                mate_buffered(rt.alloc(), &words, &mut files, &mut out, &mut err)
+                mate_buffered(rt.alloc(), &words, &mut files, out, &mut err).0
             }
             Err(_) => Refusal::NoMemory.refuse(&mut err),
         },

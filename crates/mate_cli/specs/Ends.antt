@@ -1,6 +1,6 @@
 -- What a call of the program owes, and how it ends.
-use Rattle.std.specs.Prelude.{◌≡◌, ℕ, Bool, true, false, List, Option, None, Some, Result, Ok, Err, ⊤, ⊥, ◌⊎◌}
-use Rattle.std.specs.Io.KnownBytes.{append_known}
+use Rattle.std.specs.Prelude.{◌≡◌, ℕ, Bool, true, false, List, Option, None, Some, Result, Ok, Err, ⊤, ◌⊎◌}
+use Rattle.std.specs.Io.KnownBytes.{Keeps, append_known}
 use Rattle.mate_files.specs.Counts.{Rose}
 use Rattle.mate_files.specs.Sink.{Sent, SentPart, SentShort}
 use Rattle.command_line.specs.Commands.{Task, Node, Sim, Gen, Table, Compile, Check, Expand, Feed, Audit, Says, SaysNothing}
@@ -125,9 +125,9 @@ IsWhole ending = (ending ≡ None) ⊎ (ending ≡ Some LogFull)
 -- What the writer has got of the bytes that were put: all, or a prefix of them. If all that is owed was put, and the writer may lack some
 -- of it, that is refused.
 pub data IsHandedOn (came : Option Refusal) (put got : Option (List ℕ)) (ending : Option Refusal) : Type 0 where
-  all : got ≡ put → ending ≡ came → IsHandedOn came put got ending
-  lost : (rest : List ℕ) → append_known got rest ≡ put → IsWhole came → ending ≡ Some SinkFault → IsHandedOn came put got ending
-  part : (rest : List ℕ) → append_known got rest ≡ put → (IsWhole came → ⊥) → ending ≡ came → IsHandedOn came put got ending
+  all_came : Keeps put got → ending ≡ came → IsHandedOn came put got ending
+  lost : (rest : List ℕ) → Keeps put (append_known got rest) → IsWhole came → ending ≡ Some SinkFault → IsHandedOn came put got ending
+  part_came : (rest : List ℕ) → Keeps put (append_known got rest) → (IsWhole came → ⊥) → ending ≡ came → IsHandedOn came put got ending
 
 -- How a call ends that puts its output to a buffer: `out` has what the buffer and the writer held before, and `got` what the writer has at
 -- the end.
@@ -157,3 +157,10 @@ ending_of (Err why) = Some (run_refusal why)
 abbrev pub refusal_in : Result (Unit {0}) Refusal → Option Refusal
 refusal_in (Ok all) = None
 refusal_in (Err r) = Some r
+
+-- what a call came to, after the buffer was flushed or could not be
+abbrev pub after_flush : Bool → Result (Unit {0}) Refusal → Result (Unit {0}) Refusal
+after_flush true came = came
+after_flush false (Ok _) = Err SinkFault
+after_flush false (Err LogFull) = Err SinkFault
+after_flush false (Err r) = Err r

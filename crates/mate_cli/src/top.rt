@@ -2,8 +2,8 @@
 
 ghost use Rattle.std.specs.Prelude.{◌≡◌, map, string_bytes, IfOk};
 ghost use Rattle.command_line.specs.Commands.{task_held};
-ghost use Rattle.mate_cli.specs.Ends.{CallEnds, WorkEnds, BufferedCallEnds, Owes, command, refusal_in};
-ghost use Rattle.std.specs.Io.Buffered.{writer_inner, writer_contents};
+ghost use Rattle.mate_cli.specs.Ends.{BufferedCallEnds, CallEnds, Owes, WorkEnds, after_flush, command, ending_of, refusal_in};
+ghost use Rattle.std.specs.Io.Buffered.{writer_contents};
 ghost use Rattle.command_documents.specs.Outputs.{CanBeWritten, owed_in};
 ghost use Rattle.command_steps.specs.Parts.{ReadsFiles};
 
@@ -67,29 +67,43 @@ pub fn mate<F: Files, S: Sink, E: Sink>(
     }
 }
 
-/// The same call, whose output goes through a buffer to a writer, as to standard output. All of it has come to the writer
-/// at the statuses `Ok` and `LogFull`: if the buffer's last bytes can't be written or flushed, that is a fault of `out`.
+/// The same call, whose output goes through a buffer to a writer, as to standard output. The writer is given back with the
+/// status. It has got all of the output at the statuses `Ok` and `LogFull`: if the buffer's last bytes can't be written or
+/// flushed, that is a fault of `out`.
 pub fn mate_buffered<F: Files, W: Write + Drop, E: Sink>(
     alloc: Global,
     words: &Vec<String>,
     files: &mut F,
-    out: &mut BufWriter<W>,
+    out: BufWriter<W>,
     err: &mut E,
-) -> Status
+) -> (Status, W)
     ensures { BufferedCallEnds (record { told = F.contents files.old; steady = F.steady files.old })
-        (map string_bytes words.now.items) (F.faults files.old) (F.faults files.new)
-        (writer_contents W.contents out.old) (W.contents (writer_inner out.new))
-        (record { written = E.written err.old; faults = E.faults err.old })
-        (record { written = E.written err.new; faults = E.faults err.new }) result }
+        (map string_bytes words.now.items) (F.faults files.old) (F.faults files.new) (writer_contents W.contents out)
+        (W.contents result.1) (record { written = E.written err.old; faults = E.faults err.old })
+        (record { written = E.written err.new; faults = E.faults err.new }) result.0 }
 {
-    let mut sink = OsSink::new(&mut *out);
-    let ended = work(alloc, words, files, &mut sink);
-    let _ = sink.into_inner();
+    let mut sink = OsSink::new(out);
+    let came = work(alloc, words, files, &mut sink);
+    let mut out = sink.into_inner();
     let flushed = out.flush().is_ok();
-    match ended {
-        Ok(()) | Err(Refusal::LogFull) if !flushed => Refusal::SinkFault.refuse(err),
-        Ok(()) => Status::Ok,
-        Err(refusal) => refusal.refuse(err),
+    let (writer, _) = out.into_parts();
+    match handed_on(came, flushed) {
+        Ok(()) => (Status::Ok, writer),
+        Err(refusal) => (refusal.refuse(err), writer),
+    }
+}
+
+/// What a call comes to once the buffer was flushed, or could not be. If all that is owed was put and may not have come to
+/// the writer, that is a fault of the output.
+fn handed_on(came: Result<(), Refusal>, flushed: bool) -> Result<(), Refusal>
+    ensures { result ≡ after_flush flushed came }
+{
+    if flushed {
+        return came;
+    }
+    match came {
+        Ok(()) | Err(Refusal::LogFull) => Err(Refusal::SinkFault),
+        Err(refusal) => Err(refusal),
     }
 }
 
@@ -105,9 +119,20 @@ fn work<F: Files, S: Sink>(
         (F.faults files.old) (F.faults files.new) (record { written = S.written out.old; faults = S.faults out.old })
         (record { written = S.written out.new; faults = S.faults out.new }) (refusal_in result) }
 {
-    let output = output_of(alloc, files, words)?;
-    let written = write_output(alloc, &output, out);
-    mem::forget(output);
+    match output_of(alloc, files, words) {
+        Ok(output) => {
+            let written = write_output(alloc, &output, out);
+            mem::forget(output);
+            as_refusal(written)
+        }
+        Err(refusal) => Err(refusal),
+    }
+}
+
+/// The refusal for what was not written whole.
+fn as_refusal(written: Result<(), WriteFault>) -> Result<(), Refusal>
+    ensures { refusal_in result ≡ ending_of written }
+{
     match written {
         Ok(()) => Ok(()),
         Err(WriteFault::LogFull) => Err(Refusal::LogFull),
