@@ -1,6 +1,6 @@
 # shellcheck shell=sh
 # Read by scripts/install and scripts/package, behind scripts/look.sh and scripts/build.sh: what a user needs, as a tree of files and links.
-#   bin/NAME                    the programs of scripts/programs; mate-explain (./explain) and mate-sweep (scripts/sweep)
+#   bin/NAME                    the programs of scripts/programs; mate-explain (./explain), mate-sweep (scripts/sweep) and mate-page (scripts/page)
 #   share/mate/                 documents, examples and editors (the files of scripts/installed), with links, so that what they show runs there
 #   share/man, share/bash-completion, share/zsh, share/fish    manual pages, and completion
 set -u
@@ -28,7 +28,7 @@ lay_out() {
         share=$1/share/mate
         mkdir -p "$1/bin" "$share" "$1/share/man/man1" "$1/share/bash-completion/completions" "$1/share/zsh/site-functions" "$1/share/fish/vendor_completions.d" || exit
         (cd "$top" && xargs cp --parents --no-preserve=all -t "$share") <"$top/scripts/installed" || exit
-        chmod 755 "$share/explain" "$share/scripts/sweep" && printf '%s\n%s\n' "$version" "$texts" >"$share/scripts/version" || exit
+        chmod 755 "$share/explain" "$share/scripts/sweep" "$share/scripts/page" && printf '%s\n%s\n' "$version" "$texts" >"$share/scripts/version" || exit
         for name in $(program_names); do
             program=${paths%%
 *} paths=${paths#*
@@ -38,6 +38,7 @@ lay_out() {
         # (a script, unless there is a program of its name)
         [ -e "$1/bin/mate-explain" ] || ln -s ../share/mate/explain "$1/bin/mate-explain" || exit
         [ -e "$1/bin/mate-sweep" ] || ln -s ../share/mate/scripts/sweep "$1/bin/mate-sweep" || exit
+        [ -e "$1/bin/mate-page" ] || ln -s ../share/mate/scripts/page "$1/bin/mate-page" || exit
         cd "$share" || exit
         for page in docs/*.1; do
             mv "$page" ../man/man1/ && ln -s "../../man/man1/${page##*/}" "$page" || exit

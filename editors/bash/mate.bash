@@ -1,4 +1,4 @@
-# Completion for bash of the words of mate, mate-explain, mate-view and mate-sweep: `source editors/bash/mate.bash`.
+# Completion for bash of the words of mate, mate-explain, mate-view, mate-sweep and mate-page: `source editors/bash/mate.bash`.
 # Nothing that a file holds is ever expanded: a line of a file is offered only where it gives a whole name, and
 # names are compared here and not by `compgen -W`, which expands its words.
 
@@ -160,6 +160,30 @@ _mate_sweep() {
         esac
     fi
 }
+
+# mate-page: options, machines, worlds, then files.
+_mate_page() {
+    local LC_ALL=C word=${COMP_WORDS[COMP_CWORD]} i count=0 option=''
+    COMPREPLY=()
+    for ((i = 1; i < COMP_CWORD; i++)); do
+        case $option:${COMP_WORDS[i]} in
+            --vm:?*) option='' ;;
+            :--vm) option=--vm ;;
+            :-?*) ;;
+            *) count=$((count + 1)) ;;
+        esac
+    done
+    if [[ $option ]]; then
+        mapfile -t COMPREPLY < <(_mate_machines "$word")
+    elif [[ $word == -* ]]; then
+        mapfile -t COMPREPLY < <(compgen -W '--vm --help' -- "$word")
+    elif ((count == 0)); then
+        mapfile -t COMPREPLY < <(_mate_scripts "$word" nodes)
+    else
+        mapfile -t COMPREPLY < <(compgen -f -- "$word")
+    fi
+}
+complete -o filenames -F _mate_page mate-page
 complete -o filenames -F _mate_sweep mate-sweep sweep
 complete -o filenames -F _mate_view mate-view ./mate-view
 complete -o filenames -F _mate mate ./mate explain ./explain mate-explain

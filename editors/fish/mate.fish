@@ -1,4 +1,4 @@
-# Completion for fish of the words of mate, mate-explain, mate-view and mate-sweep: a folder of $fish_complete_path has this file, and links to it by the other names.
+# Completion for fish of the words of mate, mate-explain, mate-view, mate-sweep and mate-page: a folder of $fish_complete_path has this file, and links to it by the other names.
 # Nothing that a file holds is ever run or expanded: a line of a file is offered only where it gives a whole name.
 
 # The words before the one that is completed, without the program and the flags of mate.
@@ -126,3 +126,23 @@ complete -c mate-sweep -l percentiles -x -d 'which ones a table has'
 complete -c mate-sweep -l plot -d 'a plot of a column over another'
 complete -c mate-sweep -l distribution -d 'the distribution of a column'
 complete -c mate-sweep -l help -d 'the words'
+
+# How many words of a page come before the one that is completed, without --vm and its machine.
+function __mate_page_words
+    set -l option ''
+    for word in (commandline -opc)[2..-1]
+        if test -n "$option"
+            set option ''
+        else if test "$word" = --vm
+            set option $word
+        else if not string match -q -- '-?*' $word
+            echo -- $word
+        end
+    end
+end
+
+complete -c mate-page -f
+complete -c mate-page -n 'test (count (__mate_page_words)) -eq 0' -a '(__mate_scripts nodes)'
+complete -c mate-page -n 'test (count (__mate_page_words)) -eq 1' -F
+complete -c mate-page -l vm -x -a '(__mate_machines)' -d 'the machine'
+complete -c mate-page -l help -d 'the words'
