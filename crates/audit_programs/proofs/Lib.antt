@@ -3,6 +3,7 @@ pub mod LoopLemmas
 pub mod PhaseLemmas
 pub mod TrialLemmas
 pub mod ReadyLemmas
-pub mod GoingLemmas
+pub mod KeptLemmas
+pub mod SettledLemmas
 pub mod FillingLemmas
 pub mod ReadyRuns

@@ -1,10 +1,9 @@
 -- Live invocations with ready programs: conflicts, and runs.
-use Rattle.std.proofs.Common.{◌≡◌, ℕ, ℤ, Bool, List, None, Result, Ok, Err, sym, ◌∙◌, ap, subst}
-use Rattle.std.specs.Prelude.{Decides, IfOk}
+use Rattle.std.proofs.Common.{◌≡◌, ℕ, Bool, List, None, sym, ◌∙◌, ap, subst}
+use Rattle.std.specs.Prelude.{Decides}
 use Rattle.std.proofs.lemmas.Bool.Decides.{same_from_decides}
 use Rattle.arrayvec.specs.ArrayVec.{ArrayVec}
 use Rattle.mate_num.specs.Uses.{Uses, Conflicts}
-use Rattle.mate_num.specs.declared.outcome.Outcome.{Outcome}
 use Rattle.mate_num.specs.declared.resource.Resource.{Resource}
 use Rattle.mate_num.specs.declared.shape.Shape.{Shape}
 use Rattle.mate_num.specs.declared.store.Store.{Store}
@@ -12,7 +11,7 @@ use Rattle.mate_code.specs.CodeUses.{uses_of}
 use Rattle.mate_code.specs.Run.{Code}
 use Rattle.vm_shape.specs.Shapes.{shape_of}
 use Rattle.vm_shape.specs.declared.description.Description.{Description}
-use Rattle.mate_journal.specs.Journal.{Invocation, NodeState, answers_of}
+use Rattle.mate_journal.specs.Journal.{Invocation, NodeState}
 use Rattle.mate_journal.specs.Machine.{HeldProgram, Meaning}
 use Rattle.mate_journal.specs.declared.program.Program.{Program}
 use Rattle.node_state.specs.Meaning.{image_code}
@@ -40,25 +39,14 @@ conflict-told d p q a b r of_p of_q told =
     same_from_decides r (conflict_of d p q) (subst Q uses_q (subst P uses_p told)) (code-TellsConflicts shape (λ h. image_code shape h.image) p q)
 
 -- a run keeps them
-run_on-lengths : (d : Description) (ps : List Program) (store : Store) (i : Invocation) → AreRightPrograms d ps → HasLengthsOf (machine_by d ps) store → HasLengthsOf (machine_by d ps) (run_on (machine_by d ps) store i).store
+pub run_on-lengths : (d : Description) (ps : List Program) (store : Store) (i : Invocation) → AreRightPrograms d ps → HasLengthsOf (machine_by d ps) store → HasLengthsOf (machine_by d ps) (run_on (machine_by d ps) store i).store
 run_on-lengths d ps store i right long =
     let r : NodeState = record { serial = store; posts = 0; installed = λ _. None; invocations = λ _. i } in
     lengths d ps right r 0 long
 
--- the run of a ready program, with the answers of an invocation
-pub run-told : {E : Type 0} (d : Description) (ps : List Program) (store : Store) (i : Invocation) (answers : List ℤ) (r : Result Outcome E) → answers ≡ answers_of i
-    → IfOk r (λ o. o ≡ (meaning_by d ps).run i.program store i.payload answers d.turns) → IfOk r (λ o. o ≡ run_on (machine_by d ps) store i)
-run-told d ps store i answers (Ok o) same is = is ∙ ap (λ (xs : List ℤ). (meaning_by d ps).run i.program store i.payload xs d.turns) same
-run-told d ps store i answers (Err e) same is = tt
-
-pub run-lengths : {E : Type 0} (d : Description) (ps : List Program) (store : Store) (i : Invocation) (r : Result Outcome E) → AreRightPrograms d ps → HasLengthsOf (machine_by d ps) store
-    → IfOk r (λ o. o ≡ run_on (machine_by d ps) store i) → IfOk r (λ o. HasLengthsOf (machine_by d ps) o.store)
-run-lengths d ps store i (Ok o) right long is = subst (λ (x : Outcome). HasLengthsOf (machine_by d ps) x.store) (sym is) (run_on-lengths d ps store i right long)
-run-lengths d ps store i (Err e) right long is = tt
-
 -- a program is ready for one that is held with the same image
 pub IsReadyAs-image : (d : Description) (h p : HeldProgram) (r : ReadyProgram) → h.image ≡ p.image → IsReadyAs d h r → IsReadyAs d p r
-IsReadyAs-image d h p r same ready = record { code = subst (λ (image : ArrayVec ℕ). IsImageCode d image r.code) same ready.code }
+IsReadyAs-image d h p r same ready = record { code = subst (λ (image : ArrayVec ℕ). IsImageCode d image r.code) same ready.code; own = ready.own }
 
 -- what the code writes is what the held program writes
 pub writes-told : (d : Description) (ps : List Program) (h : HeldProgram) (a : ReadyProgram) (at : Resource) → AreRightPrograms d ps → IsReadyAs d h a → (uses_of a.code.shape a.code.code).writes at ≡ ((meaning_by d ps).uses h).writes at

@@ -2,14 +2,13 @@
 use Rattle.std.proofs.Common.{◌≡◌, ℕ, ℤ, Bool, true, false, List, [], Result, Ok, Err, refl, sym, ◌∙◌, ap, subst}
 use Rattle.std.specs.Result.{result_unwrap_or}
 use Rattle.mate_num.specs.Results.{result_map}
-use Rattle.std.specs.Prelude.{IfOk, MatchResult, MatchBool, Decides, not, drop, length, nat_lt, if◌then◌else◌}
+use Rattle.std.specs.Prelude.{MatchResult, MatchBool, Decides, not, drop, length, nat_lt, if◌then◌else◌}
 use Rattle.std.proofs.lemmas.Bool.{false≢true}
 use Rattle.arrayvec.specs.ArrayVec.{ArrayVec}
 use Rattle.mate_num.specs.Uses.{Uses, Conflicts, IsCompatible, IsSameUses}
 use Rattle.mate_num.specs.Locks.{lock_uses}
 use Rattle.mate_num.specs.declared.bounds.TheConstants.{CODE_MAX}
 use Rattle.mate_num.specs.declared.lock_set.LockSet.{LockSet}
-use Rattle.mate_num.specs.declared.outcome.Outcome.{Outcome}
 use Rattle.mate_num.specs.declared.shape.Shape.{Shape}
 use Rattle.mate_num.specs.declared.store.Store.{Store}
 use Rattle.mate_code.specs.declared.decoding.DecodeFault.{DecodeFault}
@@ -89,10 +88,6 @@ code-means d ps h v store payload answers turns right is =
     ap (λ (shape : Shape). code_run shape v.code store payload answers turns) is.shape
     ∙ ap (λ (code : Code). code_run (shape_of d) code store payload answers turns) is.code
     ∙ ap (λ (m : Meaning). m.run h store payload answers turns) (sym (meaning_by-right d ps right))
-
-pub IfOk-means : {E : Type 0} (r : Result Outcome E) (x y : Outcome) → x ≡ y → IfOk r (λ o. o ≡ x) → IfOk r (λ o. o ≡ y)
-IfOk-means (Ok o) x y same is = is ∙ same
-IfOk-means (Err e) x y same is = tt
 
 -- ---- conflicts
 

@@ -1,5 +1,6 @@
 pub mod Naming
 pub mod Trials
-pub mod Goes
+pub mod Kept
+pub mod Settled
 pub mod Images
 pub mod Ready

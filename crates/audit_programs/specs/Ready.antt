@@ -8,9 +8,10 @@ use Rattle.audit_programs.specs.Images.{IsImageCode}
 use Rattle.audit_programs.specs.declared.ready.ReadyProgram.{ReadyProgram}
 use Rattle.audit_programs.specs.declared.table.ReadyPrograms.{ReadyPrograms}
 
--- its code is that of the held program's image
+-- its code is that of the held program's image, and of its own program's
 pub record IsReadyAs (d : Description) (h : HeldProgram) (r : ReadyProgram) : Type 0 where
   pub code : IsImageCode d h.image r.code
+  pub own : IsImageCode d r.program.now.image r.code
 
 -- the program of each handler
 abbrev pub installed_programs : ReadyPrograms → List (Option ReadyProgram)

@@ -43,7 +43,7 @@ fn put_buffers(heap: &mut Heap, buffers: &[Payload])
 }
 
 /// A buffer gets these values.
-fn put_buffer(heap: &mut Heap, buffer: BufId, values: &[i16])
+pub(crate) fn put_buffer(heap: &mut Heap, buffer: BufId, values: &[i16])
     requires known { buffer.0 < length heap.old.buffers.items }
     requires few { length values.now ≤ PAYLOAD_MAX }
     ensures { heap.new ≡ set_buffer heap.old buffer.0 values.now }
@@ -57,7 +57,7 @@ fn put_buffer(heap: &mut Heap, buffer: BufId, values: &[i16])
 }
 
 /// A shared variable gets the value.
-fn put_value(heap: &mut Heap, variable: VarId, value: &i16)
+pub(crate) fn put_value(heap: &mut Heap, variable: VarId, value: &i16)
     requires { variable.0 < length heap.old.shared.items }
     ensures { heap.new ≡ set_value heap.old variable.0 value.now }
 {

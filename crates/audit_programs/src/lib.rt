@@ -3,16 +3,19 @@
 
 pub mod filling;
 pub mod finding;
-pub mod going;
+pub mod kept;
 pub mod ready;
 pub mod ready_roll;
+pub mod runs;
+pub mod settling;
 pub mod table;
 pub mod trial;
 
 pub use filling::heap_of;
 pub use finding::find_program;
-pub use going::whole_run;
+pub use kept::KeptRun;
 pub use ready::ReadyProgram;
 pub use ready_roll::ReadyRoll;
+pub use runs::KeptRuns;
 pub use table::ReadyPrograms;
 pub use trial::Trial;

@@ -1,7 +1,6 @@
 //! The roll of a journal, with the programs that are installed.
 
-ghost use Rattle.std.specs.Prelude.{◌≡◌, ◌<◌, length, map, IfOk};
-ghost use Rattle.mate_num.specs.declared.call.Call.{Call as Answered};
+ghost use Rattle.std.specs.Prelude.{◌≡◌, ◌<◌, length};
 ghost use Rattle.node_programs.specs.Right.{IsRightProgram, AreRightPrograms};
 ghost use Rattle.audit_rules.specs.Laws.{IsOneOf};
 ghost use Rattle.audit_programs.specs.Naming.{named_program};
@@ -11,7 +10,7 @@ use crate::trial::Trial;
 use crate::{ReadyProgram, ReadyPrograms};
 use audit_rules::{Roll, Seat};
 use mate_journal::{Entry, StoredProgram};
-use mate_num::{Call, HandlerId, NoMemory, Outcome, Resource, Store};
+use mate_num::{HandlerId, NoMemory, Resource};
 use std::alloc::Global;
 
 /// The program that an install names. The search begins at `place`, which then is the position of the program.
@@ -36,17 +35,6 @@ fn program_named<'a>(
     &trial.programs.as_slice()[found]
 }
 
-/// The answers to these calls.
-fn answers_of(alloc: Global, calls: &[Call]) -> Result<Vec<i16>, NoMemory>
-    ensures { IfOk result (λ answers. answers.items ≡ map (λ (call : Answered). call.result) calls.now) }
-{
-    let mut answers = Vec::new(alloc);
-    for call in calls {
-        answers.push(call.result)?;
-    }
-    Ok(answers)
-}
-
 /// The roll of a journal that is being read, and the programs that are installed, made ready.
 #[derive(Drop)]
 pub struct ReadyRoll<'a> {
@@ -64,8 +52,6 @@ impl<'a> ReadyRoll<'a> {
     ghost use Rattle.mate_journal.specs.Entries.{IsEntryInRange};
     ghost use Rattle.journal_laws.specs.Growth.{IsNamedBelow};
     ghost use Rattle.audit_rules.specs.Roll.{nobody, rolled};
-    ghost use Rattle.audit_rules.specs.Rerun.{run_on};
-    ghost use Rattle.audit_rules.specs.Shown.{HasLengthsOf};
     ghost use Rattle.audit_rules.specs.Tests.{conflict_of, installs_right};
     ghost use Rattle.audit_rules.specs.Views.{seat_in, roll_in};
     ghost use Rattle.audit_programs.specs.Ready.{IsReadyAs, installed_programs, ready_at};
@@ -213,30 +199,5 @@ impl<'a> ReadyRoll<'a> {
             result ≡ ((machine_for trial.now).meaning.uses seat.invocation.program).writes at }
     {
         self.program_of(trial, seat).writes(at)
-    }
-
-    /// The whole run of a live invocation on a store, with the answers that it got so far.
-    pub fn run(
-        &self,
-        alloc: Global,
-        trial: &Trial,
-        seat: &Seat,
-        store: &Store,
-    ) -> Result<Outcome, NoMemory>
-        requires tried { IsTried trial.now }
-        requires ready { IsSeatReady trial.now self.now seat.now }
-        requires lengths { HasLengthsOf (machine_for trial.now) store.now }
-        ensures run { let seat = seat_in trial.now.log.now.images seat.now in
-            IfOk result (λ o. o ≡ run_on (machine_for trial.now) store.now seat.invocation) }
-        ensures lengths { IfOk result (λ o. HasLengthsOf (machine_for trial.now) o.store) }
-    {
-        let answers = answers_of(alloc, seat.calls.as_slice())?;
-        self.program_of(trial, seat).run(
-            alloc,
-            store,
-            &seat.payload,
-            answers.as_slice(),
-            trial.desc.turns,
-        )
     }
 }

@@ -11,7 +11,7 @@ use Rattle.mate_num.specs.declared.store.Store.{Store}
 use Rattle.mate_journal.specs.Journal.{is_started, Invocation}
 use Rattle.mate_journal.specs.Machine.{Machine}
 use Rattle.audit_rules.specs.Granting.{ConflictTest}
-use Rattle.audit_rules.specs.Rerun.{run_on, is_so_far, is_undisturbed, ends_right, store_left}
+use Rattle.audit_rules.specs.Rerun.{run_on, is_so_far, is_undisturbed, ends_right, store_left, wants_as}
 use Rattle.audit_rules.specs.Same.{same_end, same_calls}
 use Rattle.audit_rules.specs.Roll as told
 use Rattle.audit_rules.specs.Shown.{HasLengthsOf}
@@ -193,3 +193,13 @@ module _ (m : Machine) (conflict : ConflictTest) (before after : Store) (n : ℕ
       let right : Bool = is_so_far m before s.invocation && is_so_far m after s.invocation in
       ap (λ (b : Bool). either false false (not b) right) together
       ∙ past-queued (s.number == n) (not (is_started s.invocation.phase)) (not (conflict i.program s.invocation.program)) right (other_number s.number n differ) started
+
+-- one that is ready wants no call
+pub and-true : (a b : Bool) → b ≡ true → a ≡ (a && b)
+and-true true b e = sym e
+and-true false b e = refl
+
+pub ready-wants : (p : Phase) (e : End) → true ≡ stands_at stage.Ready p → wants_as (phase_in p) e ≡ true
+ready-wants phase.Queued e at = refl
+ready-wants phase.Ready e at = refl
+ready-wants (phase.Waiting f args) e at = cc

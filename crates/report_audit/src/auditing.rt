@@ -7,10 +7,11 @@ ghost use Rattle.report_writer.specs.Tidy.{IsTidy};
 ghost use Rattle.audit_programs.specs.Trials.{HasKept};
 ghost use Rattle.audit_rules.specs.Tests.{failed_by};
 ghost use Rattle.audit_rules.specs.Verdicts.{IsVerdict};
+ghost use Rattle.audit_programs.specs.Kept.{AreKept};
 
 use crate::images::images_right;
 use crate::runs::first_failed_of;
-use audit_programs::{ReadyRoll, Trial};
+use audit_programs::{KeptRuns, ReadyRoll, Trial};
 use audit_rules::{Law, Verdict, entries_follow};
 use mate_journal::{NodeLog, Programs, Report, StoredPrograms, stored};
 use mate_num::NoMemory;
@@ -24,12 +25,15 @@ fn first_failed<'a>(
     programs: &'a StoredPrograms,
     log: &'a NodeLog,
     roll: &mut ReadyRoll<'a>,
+    runs: &mut KeptRuns<'a>,
 ) -> Result<Option<Law>, NoMemory>
     requires tidy { IsTidyLog desc.now log.now }
     requires right { AreRightPrograms desc.now programs.now }
     requires kept { HasKept desc.now roll.old }
+    requires runs { AreKept desc.now runs.old }
     ensures law { IfOk result (λ law. law ≡ failed_by desc.now programs.now log.now) }
     ensures kept { OnOk result (HasKept desc.now roll.new) }
+    ensures runs { OnOk result (AreKept desc.now runs.new) }
 {
     let _handlers = desc.handlers.len();
     let follow = entries_follow(alloc, desc, log)?;
@@ -45,7 +49,7 @@ fn first_failed<'a>(
         programs,
         log,
     };
-    first_failed_of(alloc, &trial, roll)
+    first_failed_of(alloc, &trial, roll, runs)
 }
 
 /// Whether a report shows serial behaviour of the programs: `Serial` exactly if each node's journal keeps each law, and otherwise the
@@ -79,8 +83,9 @@ pub fn audit_stored(
 {
     let nodes = report.nodes();
     let mut roll = ReadyRoll::new(alloc)?;
+    let mut runs = KeptRuns::new(alloc)?;
     for node in 0..nodes.len() {
-        let failed = first_failed(alloc, desc, programs, &nodes[node], &mut roll)?;
+        let failed = first_failed(alloc, desc, programs, &nodes[node], &mut roll, &mut runs)?;
         if let Some(law) = failed {
             return Ok(Verdict::Refuted {
                 node: node as u8,

@@ -11,19 +11,21 @@ ghost use Rattle.audit_programs.specs.Trials.{IsTried, HasReadUpTo, HasKept, IsS
 ghost use Rattle.audit_rules.specs.Views.{roll_in};
 ghost use Rattle.mate_journal.specs.declared.law.Law.TheVariants as law;
 ghost use Rattle.audit_rules.specs.Tests.{conflict_of, failed_by};
+ghost use Rattle.audit_programs.specs.Kept.{AreKept};
 
 use crate::{all_held_back, all_so_far, is_granted, run_at, shows_right, start_of, zero_store};
-use audit_programs::{ReadyRoll, Trial};
+use audit_programs::{KeptRuns, ReadyRoll, Trial};
 use audit_rules::Law;
 use mate_journal::Entry;
 use mate_num::{NoMemory, Store};
 use std::alloc::Global;
 
 /// Whether each store that was seen so far is right, with that of this entry.
-fn still_shown(
+fn still_shown<'a>(
     alloc: Global,
     trial: &Trial,
-    roll: &ReadyRoll,
+    roll: &ReadyRoll<'a>,
+    runs: &mut KeptRuns<'a>,
     store: &Store,
     so_far: bool,
     entry: &Entry,
@@ -33,14 +35,16 @@ fn still_shown(
     requires lengths { HasLengthsOf (machine_for trial.now) store.now }
     requires named { let l = trial.now.log.now in
         IsNamedBelow (length l.images) (length l.stores) entry.now }
-    ensures { let l = trial.now.log.now in
+    requires runs { AreKept trial.now.desc.now runs.old }
+    ensures shown { let l = trial.now.log.now in
         IfOk result (λ b. b ≡ (so_far
         && seen.shows_right (machine_for trial.now) (roll_in l.images roll.now.roll) store.now (journal_entry l entry.now))) }
+    ensures runs { OnOk result (AreKept trial.now.desc.now runs.new) }
 {
     if !so_far {
         return Ok(false);
     }
-    shows_right(alloc, trial, roll, store, entry)
+    shows_right(alloc, trial, roll, runs, store, entry)
 }
 
 /// Whether each entry so far keeps the grant rule, and this one too.
@@ -66,11 +70,14 @@ pub(crate) fn first_failed_of<'a>(
     alloc: Global,
     trial: &Trial<'a>,
     roll: &mut ReadyRoll<'a>,
+    runs: &mut KeptRuns<'a>,
 ) -> Result<Option<Law>, NoMemory>
     requires tried { IsTried trial.now }
     requires kept { HasKept trial.now.desc.now roll.old }
+    requires runs { AreKept trial.now.desc.now runs.old }
     ensures law { IfOk result (λ law. law ≡ failed_by trial.now.desc.now trial.now.programs.now trial.now.log.now) }
     ensures kept { OnOk result (HasKept trial.now.desc.now roll.new) }
+    ensures runs { OnOk result (AreKept trial.now.desc.now runs.new) }
 {
     roll.begin(alloc, trial);
     let mut store = zero_store(trial.desc);
@@ -80,15 +87,15 @@ pub(crate) fn first_failed_of<'a>(
     let entries = trial.log.entries();
     for place in 0..entries.len() {
         let entry = &entries[place].entry;
-        shown = still_shown(alloc, trial, roll, &store, shown, entry)?;
+        shown = still_shown(alloc, trial, roll, runs, &store, shown, entry)?;
         granted = still_granted(trial, roll, place, last, granted, entry);
-        if !run_at(alloc, trial, roll, place, &mut store, entry)? {
+        if !run_at(alloc, trial, roll, runs, place, &mut store, entry)? {
             return Ok(Some(Law::D8));
         }
         roll.hear(alloc, trial, place)?;
         last = start_of(entry);
     }
-    if !all_so_far(alloc, trial, roll, &store)? {
+    if !all_so_far(alloc, trial, roll, runs, &store)? {
         return Ok(Some(Law::D8));
     }
     let in_order = granted && all_held_back(trial, roll);

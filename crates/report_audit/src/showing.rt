@@ -1,6 +1,6 @@
 //! What a store that is seen shows at one moment.
 
-ghost use Rattle.std.specs.Prelude.{◌≡◌, ◌≤◌, ◌||◌, ℕ, map, IfOk, IsTrue};
+ghost use Rattle.std.specs.Prelude.{◌≡◌, ◌≤◌, ◌||◌, ℕ, map, IfOk, IsTrue, OnOk};
 ghost use Rattle.std.specs.List.{All, list_any, list_all};
 ghost use Rattle.mate_num.specs.declared.bounds.TheConstants.{BUFFERS_MAX, SHARED_MAX};
 ghost use Rattle.mate_num.specs.Locks.{is_resource};
@@ -12,9 +12,10 @@ ghost use Rattle.audit_rules.specs.Shown.{HasLengthsOf, all_below};
 ghost use Rattle.audit_rules.specs.Views.{seat_in, roll_in};
 ghost use Rattle.audit_programs.specs.Trials.{IsTried, IsSeatReady, machine_for};
 ghost use Rattle.report_audit.specs.Waiting.{waiting_store};
+ghost use Rattle.audit_programs.specs.Kept.{AreKept};
 
 use crate::same::same_values;
-use audit_programs::{ReadyRoll, Trial};
+use audit_programs::{KeptRuns, ReadyRoll, Trial};
 use audit_rules::{Seat, Stage};
 use mate_num::{BufId, NoMemory, Resource, Store, VarId};
 use std::alloc::Global;
@@ -49,41 +50,47 @@ fn same_at(seen: &Store, store: &Store, at: Resource) -> bool
 }
 
 /// The store that the run of the invocation leaves up to the call that it waits for; None if it doesn't wait.
-fn left_waiting(
+fn left_waiting<'a>(
     alloc: Global,
     trial: &Trial,
-    roll: &ReadyRoll,
+    roll: &ReadyRoll<'a>,
+    runs: &mut KeptRuns<'a>,
     store: &Store,
     seat: &Seat,
 ) -> Result<Option<Store>, NoMemory>
     requires tried { IsTried trial.now }
     requires ready { IsSeatReady trial.now roll.now seat.now }
     requires lengths { HasLengthsOf (machine_for trial.now) store.now }
-    ensures { IfOk result (λ left. left ≡ waiting_store (machine_for trial.now) store.now (seat_in trial.now.log.now.images seat.now)) }
+    requires runs { AreKept trial.now.desc.now runs.old }
+    ensures left { IfOk result (λ left. left ≡ waiting_store (machine_for trial.now) store.now (seat_in trial.now.log.now.images seat.now)) }
+    ensures runs { OnOk result (AreKept trial.now.desc.now runs.new) }
 {
     if !seat.phase.is(Stage::Waiting) {
         return Ok(None);
     }
-    let outcome = roll.run(alloc, trial, seat, store)?;
-    Ok(Some(outcome.store))
+    let left = runs.store_left(alloc, trial, roll, seat, store)?;
+    Ok(Some(left))
 }
 
 /// That store for each live invocation.
-pub(crate) fn waiting_stores(
+pub(crate) fn waiting_stores<'a>(
     alloc: Global,
     trial: &Trial,
-    roll: &ReadyRoll,
+    roll: &ReadyRoll<'a>,
+    runs: &mut KeptRuns<'a>,
     store: &Store,
 ) -> Result<Vec<Option<Store>>, NoMemory>
     requires tried { IsTried trial.now }
     requires ready { All (IsSeatReady trial.now roll.now) roll.now.roll.seats.items }
     requires lengths { HasLengthsOf (machine_for trial.now) store.now }
-    ensures { let x = roll_in trial.now.log.now.images roll.now.roll in
+    requires runs { AreKept trial.now.desc.now runs.old }
+    ensures stores { let x = roll_in trial.now.log.now.images roll.now.roll in
         IfOk result (λ stores. stores.items ≡ map (waiting_store (machine_for trial.now) store.now) x.seats) }
+    ensures runs { OnOk result (AreKept trial.now.desc.now runs.new) }
 {
     let mut stores = Vec::new(alloc);
     for seat in roll.roll.seats.as_slice() {
-        let left = left_waiting(alloc, trial, roll, store, seat)?;
+        let left = left_waiting(alloc, trial, roll, runs, store, seat)?;
         stores.push(left)?;
     }
     Ok(stores)
@@ -266,20 +273,23 @@ fn all_buffers_shown(
 }
 
 /// Whether the store that is seen shows in all variables and buffers what follows from the journal.
-pub(crate) fn is_store_shown(
+pub(crate) fn is_store_shown<'a>(
     alloc: Global,
     trial: &Trial,
-    roll: &ReadyRoll,
+    roll: &ReadyRoll<'a>,
+    runs: &mut KeptRuns<'a>,
     store: &Store,
     seen: &Store,
 ) -> Result<bool, NoMemory>
     requires tried { IsTried trial.now }
     requires ready { All (IsSeatReady trial.now roll.now) roll.now.roll.seats.items }
     requires lengths { HasLengthsOf (machine_for trial.now) store.now }
-    ensures { let x = roll_in trial.now.log.now.images roll.now.roll in
+    requires runs { AreKept trial.now.desc.now runs.old }
+    ensures shown { let x = roll_in trial.now.log.now.images roll.now.roll in
         IfOk result (λ b. b ≡ told.is_store_shown (machine_for trial.now) x store.now seen.now) }
+    ensures runs { OnOk result (AreKept trial.now.desc.now runs.new) }
 {
-    let stores = waiting_stores(alloc, trial, roll, store)?;
+    let stores = waiting_stores(alloc, trial, roll, runs, store)?;
     let variables = trial.desc.shared.len();
     let buffers = trial.desc.buffers.len();
     if !all_variables_shown(trial, roll, store, stores.as_slice(), seen, variables) {

@@ -10,7 +10,7 @@ use Rattle.report_audit.proofs.AuditLemmas.{at-node, keeps-more, found-none, fou
 use Rattle.report_audit.proofs.auditing.audit_stored.Goals as goal
 
 pub loop-node-init : goal.loop-node-init
-loop-node-init c = record { nodes = λ k below. absurd (omega (arith, below)); kept = c.in_ok-roll.ensures c.args.desc.now }
+loop-node-init c = record { nodes = λ k below. absurd (omega (arith, below)); kept = c.in_ok-roll.ensures c.args.desc.now; runs = c.in_ok-runs.ensures c.args.desc.now }
 
 pub first_failed-requires-clause-tidy : goal.first_failed-requires-clause-tidy
 first_failed-requires-clause-tidy c =
@@ -49,6 +49,7 @@ loop-node-preserved c =
       nodes = keeps-more d ps c.args.report.now k l c.loop-node.invariant.nodes at
           (found-none d ps l (failed_by d ps l) c.in_ok-failed.failed c.in_ok-failed.ensures.law c.in_default.is (failed-told d ps l c.requires.right tidy));
       kept = c.in_ok-failed.ensures.kept;
+      runs = c.in_ok-failed.ensures.runs;
     }
 
 pub first_failed-requires-clause-right : goal.first_failed-requires-clause-right

@@ -9,8 +9,8 @@ use Rattle.report_audit.proofs.EndLemmas.{queued-as, undisturbed-own, undisturbe
 use Rattle.report_audit.proofs.ending.is_undisturbed.Goals as goal
 use Rattle.report_audit.proofs.ending.is_undisturbed.Goals.{then-seat-ended-via-then-seat-ended, then-seat-ended-via-else-seat-ended+then-is}
 
-pub returns-then-seat-ended : goal.returns-then-seat-ended
-returns-then-seat-ended c =
+pub returns-then-seat-ended-clause-right : goal.returns-then-seat-ended-clause-right
+returns-then-seat-ended-clause-right c =
     let t = c.args.trial.now in
     let images = t.log.now.images in
     elim c.then-seat-ended.branch [
@@ -18,26 +18,26 @@ returns-then-seat-ended c =
       | then-seat-ended-via-else-seat-ended+then-is w ↦ undisturbed-queued (machine_for t) (conflict_of t.desc.now) c.args.stores.now.before.now c.args.stores.now.after.now c.args.ended.now.number (seat_in images c.args.ended.now).invocation (seat_in images c.args.seat.now) w.if-seat-ended.false (w.if-is.ensures ∙ queued-as c.args.seat.now.phase)
     ]
 
-pub returns-then-not-conflict : goal.returns-then-not-conflict
-returns-then-not-conflict c =
+pub returns-then-not-conflict-clause-right : goal.returns-then-not-conflict-clause-right
+returns-then-not-conflict-clause-right c =
     let t = c.args.trial.now in
     let images = t.log.now.images in
     undisturbed-apart (machine_for t) (conflict_of t.desc.now) c.args.stores.now.before.now c.args.stores.now.after.now c.args.ended.now.number (seat_in images c.args.ended.now).invocation (seat_in images c.args.seat.now) c.if-seat-ended.false (c.if-is.ensures ∙ queued-as c.args.seat.now.phase) c.if-not-conflict.ensures
 
-pub returns-then-not-branch : goal.returns-then-not-branch
-returns-then-not-branch c =
+pub returns-then-not-branch-clause-right : goal.returns-then-not-branch-clause-right
+returns-then-not-branch-clause-right c =
     let t = c.args.trial.now in
     let images = t.log.now.images in
     let i : Invocation = (seat_in images c.args.seat.now).invocation in
-    ap (λ (b : Bool). b && is_so_far (machine_for t) c.args.stores.now.after.now i) (sym c.if-not-branch.true ∙ c.in_ok-is_so_far.ensures)
+    ap (λ (b : Bool). b && is_so_far (machine_for t) c.args.stores.now.after.now i) (sym c.if-not-branch.true ∙ c.in_ok-is_so_far.ensures.right)
     ∙ undisturbed-runs (machine_for t) (conflict_of t.desc.now) c.args.stores.now.before.now c.args.stores.now.after.now c.args.ended.now.number (seat_in images c.args.ended.now).invocation (seat_in images c.args.seat.now) c.if-seat-ended.false (c.if-is.ensures ∙ queued-as c.args.seat.now.phase) c.if-not-conflict.ensures
 
-pub returns : goal.returns
-returns c =
+pub returns-clause-right : goal.returns-clause-right
+returns-clause-right c =
     let t = c.args.trial.now in
     let images = t.log.now.images in
     let i : Invocation = (seat_in images c.args.seat.now).invocation in
     subst (λ (told : Bool). IfOk c.is_so_far-2.result (λ b. b ≡ told))
-    (ap (λ (b : Bool). b && is_so_far (machine_for t) c.args.stores.now.after.now i) (sym c.if-not-branch.false ∙ c.in_ok-is_so_far.ensures)
+    (ap (λ (b : Bool). b && is_so_far (machine_for t) c.args.stores.now.after.now i) (sym c.if-not-branch.false ∙ c.in_ok-is_so_far.ensures.right)
     ∙ undisturbed-runs (machine_for t) (conflict_of t.desc.now) c.args.stores.now.before.now c.args.stores.now.after.now c.args.ended.now.number (seat_in images c.args.ended.now).invocation (seat_in images c.args.seat.now) c.if-seat-ended.false (c.if-is.ensures ∙ queued-as c.args.seat.now.phase) c.if-not-conflict.ensures)
-    c.is_so_far-2.ensures
+    c.is_so_far-2.ensures.right

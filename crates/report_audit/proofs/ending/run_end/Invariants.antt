@@ -5,6 +5,7 @@ use Rattle.audit_rules.specs.Rerun.{ends_right, store_left}
 use Rattle.audit_rules.specs.Shown.{HasLengthsOf}
 use Rattle.audit_rules.specs.Tests.{conflict_of}
 use Rattle.audit_rules.specs.Views.{seat_in, roll_in}
+use Rattle.audit_programs.specs.Kept.{AreKept}
 use Rattle.audit_programs.specs.Trials.{machine_for}
 use Rattle.report_audit.proofs.ending.run_end.Given as goal
 
@@ -15,4 +16,5 @@ invariant-loop-seat l = record {
   left : store_left (machine_for l.trial) l.store l.number (map (seat_in l.trial.log.now.images) l.roll.roll.seats.items)
       ≡ unwrap_or l.left (store_left (machine_for l.trial) l.store l.number (drop l.seat-index (map (seat_in l.trial.log.now.images) l.roll.roll.seats.items)));
   lengths : IfSome l.left (HasLengthsOf (machine_for l.trial));
+  runs : AreKept l.trial.desc.now l.runs;
 }

@@ -17,10 +17,10 @@ use Rattle.report_audit.proofs.runs.first_failed_of.Goals as goal
 use Rattle.report_audit.proofs.runs.first_failed_of.Goals.{then-granted, else-granted}
 
 pub loop-place-init : goal.loop-place-init
-loop-place-init c = Stands-begins c.args.trial.now c.begin.new.self c.zero_store-store.result c.begin.ensures.read c.begin.ensures.nobody c.zero_store-store.ensures
+loop-place-init c = record { stands = Stands-begins c.args.trial.now c.begin.new.self c.zero_store-store.result c.begin.ensures.read c.begin.ensures.nobody c.zero_store-store.ensures; runs = c.requires.runs }
 
 pub still_shown-requires-clause-ready : goal.still_shown-requires-clause-ready
-still_shown-requires-clause-ready c = seats-ready c.args.trial.now c.loop-place.place c.loop-place.roll c.loop-place.invariant.read
+still_shown-requires-clause-ready c = seats-ready c.args.trial.now c.loop-place.place c.loop-place.roll c.loop-place.invariant.stands.read
 
 pub still_shown-requires-clause-named : goal.still_shown-requires-clause-named
 still_shown-requires-clause-named c =
@@ -33,7 +33,7 @@ still_shown-requires-clause-named c =
     (ap (λ (es : List Stamped). slice_index_or es place c.index-entries-place.result) c.entries-entries.ensures ∙ get_or_default entries place c.index-entries-place.result e below)
 
 pub still_granted-granted-requires : goal.still_granted-granted-requires
-still_granted-granted-requires c = c.loop-place.invariant.read
+still_granted-granted-requires c = c.loop-place.invariant.stands.read
 
 pub hear-requires-clause-within : goal.hear-requires-clause-within
 hear-requires-clause-within c = subst (λ (es : List Stamped). c.loop-place.place < length es) c.entries-entries.ensures c.loop-place-test.true
@@ -46,11 +46,11 @@ returns-then-not-branch-clause-law c =
     let store = c.loop-place.store in
     let told = entry-told t c.entries-entries.result.now place c.index-entries-place.result c.entries-entries.ensures c.loop-place-test.true in
     fails-serial t c.requires.tried
-    (stops-serial t place x store (subst (λ (es : List Stamped). place < length es) c.entries-entries.ensures c.loop-place-test.true) c.loop-place.invariant.serial
-    (sym c.if-not-branch.true ∙ c.in_ok-run_at.ensures.0 ∙ ap (λ (g : JournalEntry). runs_right (machine_for t) (conflict_of t.desc.now) x store g) told))
+    (stops-serial t place x store (subst (λ (es : List Stamped). place < length es) c.entries-entries.ensures c.loop-place-test.true) c.loop-place.invariant.stands.serial
+    (sym c.if-not-branch.true ∙ c.in_ok-run_at.ensures.right.0 ∙ ap (λ (g : JournalEntry). runs_right (machine_for t) (conflict_of t.desc.now) x store g) told))
 
 pub returns-then-not-branch-clause-kept : goal.returns-then-not-branch-clause-kept
-returns-then-not-branch-clause-kept c = c.loop-place.invariant.read.kept
+returns-then-not-branch-clause-kept c = c.loop-place.invariant.stands.read.kept
 
 pub loop-place-preserved : goal.loop-place-preserved
 loop-place-preserved c =
@@ -62,34 +62,37 @@ loop-place-preserved c =
     let store = c.loop-place.store in
     let told = entry-told t c.entries-entries.result.now place c.index-entries-place.result c.entries-entries.ensures c.loop-place-test.true in
     let below : place < length l.entries = subst (λ (es : List Stamped). place < length es) c.entries-entries.ensures c.loop-place-test.true in
-    let after = c.in_ok-run_at.ensures.1 c.if-not-branch.false in
-    Stands-next t place c.loop-place.roll c.hear.new.self store c.run_at.new.store c.loop-place.last c.start_of-last.result c.loop-place.shown c.loop-place.granted c.in_ok-shown.shown c.still_granted-granted.result below c.loop-place.invariant
-    (record {
-      shows = c.in_ok-shown.ensures ∙ ap (λ (g : JournalEntry). c.loop-place.shown && shows_right m x store g) told;
-      grants = c.still_granted-granted.ensures ∙ ap (λ (g : JournalEntry). c.loop-place.granted && is_granted (conflict_of t.desc.now) x c.loop-place.last g) told;
-      runs = sym c.if-not-branch.false ∙ c.in_ok-run_at.ensures.0 ∙ ap (λ (g : JournalEntry). runs_right m (conflict_of t.desc.now) x store g) told;
-      after = after.0 ∙ ap (λ (g : JournalEntry). serial_after m x store g) told;
-      lengths = after.1;
-      starts = c.start_of-last.ensures l ∙ ap started_number told;
-    })
-    c.in_ok-hear.ensures.read c.in_ok-hear.ensures.roll
+    let after = c.in_ok-run_at.ensures.right.1 c.if-not-branch.false in
+    record {
+      stands = Stands-next t place c.loop-place.roll c.hear.new.self store c.run_at.new.store c.loop-place.last c.start_of-last.result c.loop-place.shown c.loop-place.granted c.in_ok-shown.shown c.still_granted-granted.result below c.loop-place.invariant.stands
+          (record {
+            shows = c.in_ok-shown.ensures.shown ∙ ap (λ (g : JournalEntry). c.loop-place.shown && shows_right m x store g) told;
+            grants = c.still_granted-granted.ensures ∙ ap (λ (g : JournalEntry). c.loop-place.granted && is_granted (conflict_of t.desc.now) x c.loop-place.last g) told;
+            runs = sym c.if-not-branch.false ∙ c.in_ok-run_at.ensures.right.0 ∙ ap (λ (g : JournalEntry). runs_right m (conflict_of t.desc.now) x store g) told;
+            after = after.0 ∙ ap (λ (g : JournalEntry). serial_after m x store g) told;
+            lengths = after.1;
+            starts = c.start_of-last.ensures l ∙ ap started_number told;
+          })
+          c.in_ok-hear.ensures.read c.in_ok-hear.ensures.roll;
+      runs = c.in_ok-run_at.ensures.runs;
+    }
 
 pub all_so_far-requires-clause-ready : goal.all_so_far-requires-clause-ready
-all_so_far-requires-clause-ready c = seats-ready c.args.trial.now c.loop-place.place c.loop-place.roll c.loop-place.invariant.read
+all_so_far-requires-clause-ready c = seats-ready c.args.trial.now c.loop-place.place c.loop-place.roll c.loop-place.invariant.stands.read
 
 pub all_held_back-in_order-requires : goal.all_held_back-in_order-requires
-all_held_back-in_order-requires c = seats-ready c.args.trial.now c.loop-place.place c.loop-place.roll c.loop-place.invariant.read
+all_held_back-in_order-requires c = seats-ready c.args.trial.now c.loop-place.place c.loop-place.roll c.loop-place.invariant.stands.read
 
 pub returns-then-not-branch-2-clause-law : goal.returns-then-not-branch-2-clause-law
 returns-then-not-branch-2-clause-law c =
     let t = c.args.trial.now in
     let past = subst (λ (es : List Stamped). length es ≤ c.loop-place.place) c.entries-entries.ensures c.loop-place-test.false in
     fails-serial t c.requires.tried
-    (sym c.if-not-branch-2.true ∙ c.in_ok-all_so_far.ensures
-    ∙ serial-end t c.loop-place.place c.loop-place.roll c.loop-place.store c.loop-place.last c.loop-place.shown c.loop-place.granted past c.loop-place.invariant)
+    (sym c.if-not-branch-2.true ∙ c.in_ok-all_so_far.ensures.right
+    ∙ serial-end t c.loop-place.place c.loop-place.roll c.loop-place.store c.loop-place.last c.loop-place.shown c.loop-place.granted past c.loop-place.invariant.stands)
 
 pub returns-then-not-branch-2-clause-kept : goal.returns-then-not-branch-2-clause-kept
-returns-then-not-branch-2-clause-kept c = c.loop-place.invariant.read.kept
+returns-then-not-branch-2-clause-kept c = c.loop-place.invariant.stands.read.kept
 
 pub returns-clause-law : goal.returns-clause-law
 returns-clause-law c =
@@ -107,10 +110,10 @@ returns-clause-law c =
       | else-granted w ↦ w.in_order-is ∙ w.if-granted.false ∙ ap (λ (b : Bool). b && H) (sym w.if-granted.false)
     ] in
     keeps-serial t shown c.if-granted.in_order c.law_behind.result c.requires.tried
-    (sym c.if-not-branch-2.false ∙ c.in_ok-all_so_far.ensures ∙ serial-end t place x store last shown granted past c.loop-place.invariant)
-    (shown-end t place x store last shown granted past c.loop-place.invariant)
-    (ordered ∙ granted-end t place x store last shown granted past c.loop-place.invariant)
+    (sym c.if-not-branch-2.false ∙ c.in_ok-all_so_far.ensures.right ∙ serial-end t place x store last shown granted past c.loop-place.invariant.stands)
+    (shown-end t place x store last shown granted past c.loop-place.invariant.stands)
+    (ordered ∙ granted-end t place x store last shown granted past c.loop-place.invariant.stands)
     c.law_behind.ensures
 
 pub returns-clause-kept : goal.returns-clause-kept
-returns-clause-kept c = c.loop-place.invariant.read.kept
+returns-clause-kept c = c.loop-place.invariant.stands.read.kept

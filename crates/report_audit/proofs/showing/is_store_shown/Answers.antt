@@ -8,8 +8,8 @@ use Rattle.audit_rules.specs.Views.{roll_in}
 use Rattle.audit_programs.specs.Trials.{machine_for}
 use Rattle.report_audit.proofs.showing.is_store_shown.Goals as goal
 
-pub returns-then-not-all_variables_shown : goal.returns-then-not-all_variables_shown
-returns-then-not-all_variables_shown c =
+pub returns-then-not-all_variables_shown-clause-shown : goal.returns-then-not-all_variables_shown-clause-shown
+returns-then-not-all_variables_shown-clause-shown c =
     let t = c.args.trial.now in
     let d = t.desc.now in
     let m = machine_for t in
@@ -19,8 +19,8 @@ returns-then-not-all_variables_shown c =
     let count : c.len-variables.result ≡ length m.zero_store.shared.items = c.len-variables.ensures.value ∙ sym (length-replicate (length d.shared.items) (pos 0)) in
     ap (λ (b : Bool). b && all_below buffers (length m.zero_store.buffers.items)) (c.if-not-all_variables_shown.ensures ∙ ap (λ (n : ℕ). all_below variables n) count)
 
-pub returns : goal.returns
-returns c =
+pub returns-clause-shown : goal.returns-clause-shown
+returns-clause-shown c =
     let t = c.args.trial.now in
     let d = t.desc.now in
     let m = machine_for t in

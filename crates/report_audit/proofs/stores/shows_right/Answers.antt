@@ -19,8 +19,8 @@ shows_none : (m : Machine) (x : Roll) (store : Store) (l : Log) (e : Entry) → 
 shows_none m x store l (entry.Seen number) other = absurd (other number refl)
 shows_none m x store l _ other = refl
 
-pub returns-in_default : goal.returns-in_default
-returns-in_default c =
+pub returns-in_default-clause-shown : goal.returns-in_default-clause-shown
+returns-in_default-clause-shown c =
     let t = c.args.trial.now in
     shows_none (machine_for t) (roll_in t.log.now.images c.args.roll.now.roll) c.args.store.now t.log.now c.args.entry.now c.in_default.not-Seen
 
@@ -31,8 +31,8 @@ bounds-stores-number c =
     let below : k < length l.stores = subst (IsNamedBelow (length l.images) (length l.stores)) c.in-Seen.is c.requires.named in
     subst (λ (stores : List Store). k < length stores) (sym c.stores.ensures) below
 
-pub returns : goal.returns
-returns c =
+pub returns-clause-shown : goal.returns-clause-shown
+returns-clause-shown c =
     let t = c.args.trial.now in
     let m = machine_for t in
     let l = t.log.now in
@@ -44,4 +44,4 @@ returns c =
     subst (λ (shown : Bool). IfOk c.is_store_shown.result (λ b. b ≡ shown))
     (ap (λ (s : Store). is_store_shown m x store s) (at ∙ ap (λ (stores : List Store). get_or stores k no_store) c.stores.ensures)
     ∙ ap (λ (e : Entry). shows_right m x store (journal_entry l e)) (sym c.in-Seen.is))
-    c.is_store_shown.ensures
+    c.is_store_shown.ensures.shown

@@ -1,14 +1,18 @@
-use Rattle.std.proofs.Common.{◌∙◌, ap}
-use Rattle.mate_num.specs.declared.store.Store.{Store}
-use Rattle.mate_code.specs.Run.{code_run}
-use Rattle.code_verifier.specs.Verified.{VerifiedCode}
-use Rattle.audit_programs.proofs.ReadyRuns.{code-means, IfOk-means}
+use Rattle.audit_programs.specs.Kept.{answers_to}
+use Rattle.audit_programs.proofs.KeptLemmas.{caught, run-calls}
 use Rattle.audit_programs.proofs.ready.ReadyProgram.run.Goals as goal
 
-pub returns-clause-means : goal.returns-clause-means
-returns-clause-means c =
-    λ d ps h right ready.
-    let v : VerifiedCode = c.args.self.now.code in
-    IfOk-means c.whole_run.result _ _
-    (ap (λ (s : Store). code_run v.shape v.code s c.args.payload.now c.args.answers.now c.args.turns) c.heap_of-heap.ensures
-    ∙ code-means d ps h v c.args.store.now c.args.payload.now c.args.answers.now c.args.turns right ready.code) c.whole_run.ensures
+pub returns-clause-run : goal.returns-clause-run
+returns-clause-run c =
+    caught c.args.self.now.code c.args.self.now.program.now.image c.args.turns c.args.store.now c.args.payload.now (answers_to c.args.calls.now) c.kept_or_new-run.result c.catch_up.new.self c.kept_or_new-run.ensures c.in_ok-catch_up.ensures
+
+pub returns-clause-calls : goal.returns-clause-calls
+returns-clause-calls c =
+    run-calls c.args.self.now.code c.args.self.now.program.now.image c.args.turns c.args.store.now c.args.payload.now (answers_to c.args.calls.now) c.catch_up.new.self c.shape-verified.ensures.verified
+    (caught c.args.self.now.code c.args.self.now.program.now.image c.args.turns c.args.store.now c.args.payload.now (answers_to c.args.calls.now) c.kept_or_new-run.result c.catch_up.new.self c.kept_or_new-run.ensures c.in_ok-catch_up.ensures)
+
+pub catch_up-requires-clause-run : goal.catch_up-requires-clause-run
+catch_up-requires-clause-run c = c.kept_or_new-run.ensures.run
+
+pub catch_up-requires-clause-behind : goal.catch_up-requires-clause-behind
+catch_up-requires-clause-behind c = c.kept_or_new-run.ensures.serves.taken
