@@ -1,3 +1,4 @@
+# shellcheck shell=sh
 # Read where scripts/look.sh doesn't know the program any more: `seek_program` finds or builds the program $name of the checkout $top, and puts its path into $program.
 #
 # A program is named by a sum over all texts that it is made from. dist/ holds the programs of the last landing, with the sums of their texts: where the checkout's
@@ -167,7 +168,7 @@ begin_look() {
     look=
     [ -n "$cache" ] && have_cache 2>/dev/null || return 0
     look=$( (umask 022; mkdir -p "$seen" && is_own "$cache" "$cache/." "$cache/checkouts" "$seen" && mktemp -d "$seen/XXXXXX") 2>/dev/null) || { look=; return 0; }
-    by=find
+    by='find'
     printf '/\0' | find -files0-from - -maxdepth 0 >/dev/null 2>&1 || by=stat
     parts=$(nproc)
     [ "$parts" -ge 2 ] || parts=2

@@ -1,3 +1,4 @@
+# shellcheck shell=sh
 # Read by scripts/install and scripts/package, behind scripts/look.sh and scripts/build.sh: what a user needs, as a tree of files and links.
 #   bin/NAME                    the programs of scripts/programs; mate-explain (./explain) and mate-sweep (scripts/sweep)
 #   share/mate/                 documents, examples and editors (the files of scripts/installed), with links, so that what they show runs there

@@ -1,3 +1,4 @@
+# shellcheck shell=sh
 # Read by ./mate and the scripts beside it, by ./explain and by scripts/build.sh: `find_program` puts the path of the program $name of the checkout $top into
 # $program, and the line of the kit that proved it into $kit.
 #

@@ -1,3 +1,4 @@
+# shellcheck shell=bash
 # Read by ./explain: the code of capsules: a place in it, and what it costs.
 
 # PLACE: the instructions round a place of the code of the capsule at $path, by the machine's opcode table.

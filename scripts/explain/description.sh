@@ -1,9 +1,10 @@
+# shellcheck shell=bash
 # Read by ./explain: refusals of a machine's description.
 
 # TEXT: the line of `table` for a description of this text.
 refusal_of() {
     printf '%s\n' "$1" >"$room/part.toml"
-    "$program" table "$room/part.toml" 2>&1 >/dev/null
+    { "$program" table "$room/part.toml" >/dev/null; } 2>&1
 }
 
 # N: the same for its first N lines.

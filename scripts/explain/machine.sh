@@ -1,3 +1,4 @@
+# shellcheck shell=bash
 # Read by ./explain: what a machine has, by the words of the program.
 
 # VM: puts its handlers, functions (those that send, too), shared variables and buffers into lists, and into $base_rows how many rows the

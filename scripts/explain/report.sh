@@ -1,3 +1,4 @@
+# shellcheck shell=bash
 # Read by ./explain: a report that `audit` refutes.
 
 # NODE LAST NODES: whether the report's lines of this node, up to line LAST, are refuted by the law $law.

@@ -1,3 +1,4 @@
+# shellcheck shell=bash
 # Read by ./explain: how a run ends.
 
 # KIND: the lines of the source at $path in which this fault can arise.
@@ -190,7 +191,7 @@ show_end() {
         [ "$word" != -- ] || flags=''
         [ "$flags$word" = yes--brief ] || whole+=("$word")
     done
-    [ "${words[0]}" != node ] || filter=cat
+    [ "${words[0]}" != node ] || filter='cat'
     while read -ra parts <&3; do
         told=$((told + 1))
         [ $told -le 20 ] || { echo '..'; break; }

@@ -1,3 +1,4 @@
+# shellcheck shell=bash
 # Read by ./explain: refusals of a script or a world.
 
 # The forms of lines that docs/GUIDE.md tells for the command: `FORM|MEANING` a line, with backquotes taken out of the form.

@@ -1,3 +1,4 @@
+# shellcheck shell=bash
 # Read by ./explain: how files and words are shown, and the sentences of docs/REFUSALS.md.
 
 # NAME: puts the path at which this file can be read again into $path, or fails.

@@ -1,3 +1,4 @@
+# shellcheck shell=bash
 # Read by ./explain: refusals of a source.
 
 # The tokens of the file at $path with their places, `PLACE LINE TOKEN` a line.
@@ -79,7 +80,7 @@ what_may_stand() {
 
 # WORD: the keyword that this would be in small letters, if it is none as it stands.
 small_keyword() {
-    local small=${1,,} keywords=(shared private buffer if then else end for to step next while and or not size clear msg)
+    local small=${1,,} keywords=(shared private buffer 'if' 'then' 'else' 'end' 'for' to step next 'while' and or not size clear msg)
     [ "$small" != "$1" ] && is_among "$small" "${keywords[@]}" && echo "$small"
 }
 
@@ -212,7 +213,7 @@ explain_kind() {
     elif [ "$next" = '(' ] && is_among "$token" "${senders[@]}" && [[ ${texts[index + 3]-} != ')' || $(declared_as "${texts[index + 2]-}") != buffer ]]; then
         echo "\`$token\` sends a buffer: its argument is the name of one."
     elif [ "$next" = '(' ]; then echo "No function is called in the limit of a \`for\`: call it before, and keep the answer in a variable."
-    elif [ "$kind" = buffer ]; then echo "\`$token\` is a buffer, and a number is wanted here. One value of it is \`$token[..]\`, and \`size($token)\` is their number."
+    elif [ "$kind" = buffer ]; then echo "\`$token\` is a buffer, and a number is wanted here. One value of it is \`${token}[..]\`, and \`size($token)\` is their number."
     else echo "\`$token\` is a number, and a buffer is wanted here."
     fi
 }

@@ -1,3 +1,4 @@
+# shellcheck shell=bash
 # Read by ./explain: the frames of a serial line.
 
 # What is wrong with frames of the stream: each cause once, with the first frame that has it and what to do.

@@ -1,3 +1,4 @@
+# shellcheck shell=bash
 # Read by ./explain: the words of the command line.
 
 # The commands, a line each, as docs/GUIDE.md has them.
@@ -17,6 +18,8 @@ explain_usage() {
             return
         fi
     fi
+    # (as texts, since a shell's numbers end before: of 20 digits each, they are in the same order)
+    # shellcheck disable=SC2071
     if [ "$command" = gen ] && [ ${#words[@]} -eq 3 ] && [[ ! ${words[1]} =~ ^[0-9]{1,20}$ || ${#words[1]} -eq 20 && ${words[1]} > 18446744073709551615 ]]; then
         echo 'NUMBER is a number from 0 to 18446744073709551615.'
         return

@@ -3,7 +3,8 @@ use Rattle.std.proofs.Common.{◌≡◌, ◌<◌, ℕ, length, ◌∙◌, true, 
 use Rattle.std.specs.Prelude.{slice_index_or, slice_get, IsSomeAnd, ◌&&◌, ◌==◌}
 use Rattle.std.specs.Str.{bytes_eq}
 use Rattle.std.proofs.lemmas.Bool.{and_parts}
-use Rattle.std.proofs.lemmas.Option.{slice_get_read, slice_get_within, get_or_from_slice_get}
+use Rattle.std.proofs.lemmas.Option.{slice_get_read, slice_get_within}
+use Rattle.std.proofs.lemmas.List.{get_or_default}
 use Rattle.std.proofs.lemmas.Slice.Eq.{bytes_eq-Decides}
 use Rattle.arrayvec.specs.ArrayVec.{ArrayVec}
 use Rattle.vm_shape.specs.declared.description.Description.{Description}
@@ -34,6 +35,5 @@ held_image h p is =
     ap (λ (xs : List ℕ). let v : ArrayVec ℕ = record { items = xs } in v) (sym ((bytes_eq-Decides h.image.items p.image.items).0 bytes))
 
 -- the image at a position
-pub image-at : (images ys : List (ArrayVec ℕ)) (i : ℕ) (x : ArrayVec ℕ) → ys ≡ images → Some x ≡ slice_get ys i → x ≡ slice_index_or images i no_image
-image-at images ys i x same is =
-    sym (get_or_from_slice_get images i x no_image (sym (is ∙ ap (λ (l : List (ArrayVec ℕ)). slice_get l i) same)))
+pub image-at : (images ys : List (ArrayVec ℕ)) (i : ℕ) (x : ArrayVec ℕ) → ys ≡ images → i < length images → x ≡ get_or ys i x → x ≡ slice_index_or images i no_image
+image-at images ys i x same within is = is ∙ ap (λ (l : List (ArrayVec ℕ)). get_or l i x) same ∙ get_or_default images i x no_image within

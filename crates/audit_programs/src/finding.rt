@@ -5,18 +5,18 @@ ghost use Rattle.std.specs.List.{list_any};
 ghost use Rattle.node_programs.specs.Sources.{is_held_as};
 ghost use Rattle.audit_programs.specs.Naming.{IsHeldAt};
 
-use mate_journal::{ImageRef, Program, Programs};
-use mate_num::HandlerId;
+use mate_journal::{StoredProgram, StoredPrograms};
+use mate_num::{HandlerId, Image};
 
 /// The position of a program with this handler, version and image; None exactly if there is none. The search begins at `from`, and
 /// goes on at the first program: journals mostly install programs in their order, so the next one that is sought comes soon after
 /// the last one that was found.
 pub fn find_program(
-    programs: &Programs,
+    programs: &StoredPrograms,
     from: usize,
     handler: HandlerId,
     version: u32,
-    image: &ImageRef,
+    image: &Image,
 ) -> Option<usize>
     ensures held { IfSome result (IsHeldAt (record { handler = handler; version = version; image = image.now }) programs.now) }
     ensures any { is_some result ≡ list_any (is_held_as record { handler = handler; version = version; image = image.now }) programs.now }
@@ -31,10 +31,10 @@ pub fn find_program(
 
 /// The position of the first of these programs with this handler, version and image.
 fn place_in(
-    programs: &[Program],
+    programs: &[StoredProgram],
     handler: HandlerId,
     version: u32,
-    image: &ImageRef,
+    image: &Image,
 ) -> Option<usize>
     ensures held { IfSome result (IsHeldAt (record { handler = handler; version = version; image = image.now }) programs.now) }
     ensures any { is_some result ≡ list_any (is_held_as record { handler = handler; version = version; image = image.now }) programs.now }
@@ -48,7 +48,7 @@ fn place_in(
 }
 
 /// Whether the program has this handler, version and image. Images are compared last.
-fn is_held_as(program: &Program, handler: HandlerId, version: u32, image: &ImageRef) -> bool
+fn is_held_as(program: &StoredProgram, handler: HandlerId, version: u32, image: &Image) -> bool
     ensures { result ≡ is_held_as (record { handler = handler; version = version; image = image.now }) program.now }
 {
     handler.0 == program.handler.0

@@ -10,22 +10,22 @@ use capsule_codec::decode;
 use code_verifier::{Verified, verify};
 use lock_inference::locks;
 use mate_code::Table;
-use mate_journal::{ImageRef, Program};
-use mate_num::{LockSet, NoMemory, Outcome, Payload, Resource, Store};
+use mate_journal::StoredProgram;
+use mate_num::{Image, LockSet, NoMemory, Outcome, Payload, Resource, Store};
 use std::alloc::Global;
 use vm_shape::{Description, shape};
 
 /// A program with the verified code of its image and the locks that the code takes.
 #[derive(Drop)]
 pub struct ReadyProgram<'a> {
-    program: &'a Program,
+    program: &'a StoredProgram,
     code: Verified,
     locks: LockSet,
     ghost locks_are: { AreLocksOf code.shape code.code locks },
 }
 
 /// The code of the program's image.
-fn code_of(desc: &Description, program: &Program) -> Verified
+fn code_of(desc: &Description, program: &StoredProgram) -> Verified
     requires { IsRightProgram desc.now program.now }
     ensures { IsImageCode desc.now program.now.image result }
 {
@@ -56,7 +56,7 @@ impl<'a> ReadyProgram<'a> {
     ghost use Rattle.audit_programs.specs.Ready.{IsReadyAs};
 
     /// The right program, made ready.
-    pub fn of(desc: &Description, program: &'a Program) -> ReadyProgram<'a>
+    pub fn of(desc: &Description, program: &'a StoredProgram) -> ReadyProgram<'a>
         requires { IsRightProgram desc.now program.now }
         ensures ready { IsReadyAs desc.now (held_as program.now) result }
         ensures program { result.program.now ≡ program.now }
@@ -70,10 +70,11 @@ impl<'a> ReadyProgram<'a> {
     }
 
     /// Whether this is the program's image.
-    pub fn has_image(&self, image: &ImageRef) -> bool
+    pub fn has_image(&self, image: &Image) -> bool
         ensures { IsTrue result → self.now.program.now.image ≡ image.now }
     {
-        self.program.image.as_slice() == image.as_slice()
+        let program = self.program;
+        program.image.as_slice() == image.as_slice()
     }
 
     /// Whether one of the two writes what the other reads or writes.

@@ -10,7 +10,7 @@ use crate::finding::find_program;
 use crate::trial::Trial;
 use crate::{ReadyProgram, ReadyPrograms};
 use audit_rules::{Roll, Seat};
-use mate_journal::{Entry, Program};
+use mate_journal::{Entry, StoredProgram};
 use mate_num::{Call, HandlerId, NoMemory, Outcome, Resource, Store};
 use std::alloc::Global;
 
@@ -21,17 +21,15 @@ fn program_named<'a>(
     handler: HandlerId,
     version: u32,
     image: u32,
-) -> &'a Program
+) -> &'a StoredProgram
     requires known { image < length trial.now.log.now.images }
     requires right { AreRightPrograms trial.now.desc.now trial.now.programs.now }
     requires given { IsOneOf trial.now.programs.now (named_program trial.now.log.now handler version image) }
     ensures right { IsRightProgram trial.now.desc.now result.now }
     ensures image { result.now.image ≡ (named_program trial.now.log.now handler version image).image }
 {
-    let Some(bytes) = trial.log.images().get(image as usize) else {
-        unreachable!()
-    };
-    let Some(found) = find_program(trial.programs, *place, handler, version, &bytes) else {
+    let bytes = &trial.log.images()[image as usize];
+    let Some(found) = find_program(trial.programs, *place, handler, version, bytes) else {
         unreachable!()
     };
     *place = found;
@@ -117,11 +115,9 @@ impl<'a> ReadyRoll<'a> {
         ensures { IsTrue result → IsSomeAnd (ready_at (installed_programs self.now.ready) handler)
             (λ r. r.program.now.image ≡ slice_index_or trial.now.log.now.images image no_image) }
     {
-        let Some(bytes) = trial.log.images().get(image as usize) else {
-            unreachable!()
-        };
+        let bytes = &trial.log.images()[image as usize];
         match self.ready.get(handler) {
-            Some(program) => program.has_image(&bytes),
+            Some(program) => program.has_image(bytes),
             None => false,
         }
     }

@@ -134,6 +134,15 @@ pub fn a_call_waits_with_its_arguments() -> Option<(FunId, Payload)>
     pending.asked(ContextId(3))
 }
 
+pub fn a_call_is_answered_once() -> bool
+    ensures { result ≡ false }
+{
+    let mut pending = Pending::new();
+    pending.ask(ContextId(3), FunId(1), Payload::new());
+    let _first = pending.answer(ContextId(3)).is_ok();
+    pending.answer(ContextId(3)).is_ok()
+}
+
 pub fn a_cancelled_call_is_gone() -> bool
     ensures { result ≡ false }
 {

@@ -26,6 +26,6 @@ pub fn a_cut_list_has_no_second_item(alloc: Global) -> Result<usize, NoMemory>
     let mut items = Items::new(alloc);
     items.push(7)?;
     items.push(8)?;
-    items.truncate(1);
+    items.cut(1);
     Ok(items.len())
 }

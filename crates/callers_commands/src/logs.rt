@@ -15,7 +15,7 @@ pub fn the_first_image_has_position_0(log: &mut NodeLog, image: &Image) -> u32
     log.add_image(image)
 }
 
-pub fn the_first_store_has_position_0(log: &mut NodeLog, at: Stamp, store: &Store)
+pub fn the_first_store_has_position_0(log: &mut NodeLog, at: Stamp, store: Store)
     requires room { 1 ≤ log.old.spare }
     requires entries { log.old.entries ≡ [] }
     requires stores { log.old.stores ≡ [] }

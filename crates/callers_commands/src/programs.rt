@@ -17,7 +17,7 @@ ghost use Rattle.callers_commands.specs.Scripts.{installing, installing_two, loa
 use command_programs::{programs_of, script_of};
 use command_refusals::Refusal;
 use mate_files::Files;
-use mate_journal::Programs;
+use mate_journal::StoredPrograms;
 use script_steps::Steps;
 use std::alloc::Global;
 use vm_shape::Description;
@@ -28,7 +28,7 @@ pub fn files_are_taken_in_order<F: Files>(
     files: &mut F,
     desc: &Description,
     script: &Steps,
-) -> Result<Programs, Refusal>
+) -> Result<StoredPrograms, Refusal>
     requires right { IsRightSteps desc.now script.now }
     requires script { script.now ≡ installing_two (codes "a") (codes "b") }
     requires missing { HoldsFile (record { told = F.contents files.old; steady = F.steady files.old }) (codes "a") None }
@@ -42,7 +42,7 @@ pub fn a_missing_file_is_not_skipped<F: Files>(
     files: &mut F,
     desc: &Description,
     script: &Steps,
-) -> Result<Programs, Refusal>
+) -> Result<StoredPrograms, Refusal>
     requires right { IsRightSteps desc.now script.now }
     requires script { script.now ≡ installing (codes "a") }
     requires missing { HoldsFile (record { told = F.contents files.old; steady = F.steady files.old }) (codes "a") None }
@@ -57,7 +57,7 @@ pub fn a_loaded_file_is_not_compiled<F: Files>(
     files: &mut F,
     desc: &Description,
     script: &Steps,
-) -> Result<Programs, Refusal>
+) -> Result<StoredPrograms, Refusal>
     requires right { IsRightSteps desc.now script.now }
     requires script { script.now ≡ loading (codes "a") }
     ensures { IfOk result (λ programs. All (λ p. p.source ≡ None) programs) }
@@ -71,7 +71,7 @@ pub fn an_installed_source_keeps_its_tree<F: Files>(
     files: &mut F,
     desc: &Description,
     script: &Steps,
-) -> Result<Programs, Refusal>
+) -> Result<StoredPrograms, Refusal>
     requires right { IsRightSteps desc.now script.now }
     requires script { script.now ≡ installing (codes "a") }
     ensures { (bytes : List ℕ) → HoldsFile (record { told = F.contents files.old; steady = F.steady files.old }) (codes "a") (Some bytes)

@@ -12,7 +12,7 @@ use Rattle.mate_journal.specs.Journal.{Asked}
 use Rattle.packet_codec.specs.declared.packet.Packet.{Packet}
 use Rattle.event_queue.specs.Agenda.{due_at}
 use Rattle.radio_sim.specs.Radio.{Ether}
-use Rattle.radio_sim.specs.declared.event.Event.TheVariants as event
+use Rattle.radio_sim.specs.declared.shared_event.SharedEvent.TheVariants as event
 use Rattle.world_rules.specs.World.{World, called_kind}
 use Rattle.world_rules.specs.State.{messages}
 use Rattle.world_air.specs.Air.{SendsAll}

@@ -9,7 +9,7 @@ use Rattle.packet_codec.specs.declared.packet.Packet.{Packet}
 use Rattle.script_steps.specs.World.{IsRightWorld}
 use Rattle.script_steps.specs.declared.world.World.{World as Script}
 use Rattle.radio_sim.specs.Radio.{Ether, wires_of}
-use Rattle.radio_sim.specs.declared.event.Event.{Event}
+use Rattle.radio_sim.specs.declared.shared_event.SharedEvent.{SharedEvent}
 use Rattle.world_rules.specs.Effect.{event_node, begun_length, is_owing}
 use Rattle.world_rules.specs.State.{Moment, WorldState, node_at, effect_at, node_after, still_pumps, next_period, deliveries, sendings, packets_of, left_due}
 use Rattle.world_rules.specs.World.{World}
@@ -35,7 +35,7 @@ pub record MayFinish (d : Description) (script : Script) (radio : Ether) (x : Mo
   pub counts : length x.calls.counts.items ≡ length d.functions.items
 
 -- it is this moment of a run, after its node's turns
-pub record IsMoment (w : World) (s : WorldState) (m : Moment) (radio : Ether) (x : Mote) (number : ℕ) (event : Event) (r : Effect)
+pub record IsMoment (w : World) (s : WorldState) (m : Moment) (radio : Ether) (x : Mote) (number : ℕ) (event : SharedEvent) (r : Effect)
     (from time : ℕ) : Type 0 where
   pub time_is : m.time ≡ time
   pub cause_is : radio_event w m.cause ≡ event
@@ -44,7 +44,7 @@ pub record IsMoment (w : World) (s : WorldState) (m : Moment) (radio : Ether) (x
   pub settled : HasSettled w s m from x r
 
 -- it is one, and at this time of the run nothing else is left to come
-pub record IsMomentBefore (t : ℕ) (w : World) (s : WorldState) (m : Moment) (radio : Ether) (x : Mote) (number : ℕ) (event : Event)
+pub record IsMomentBefore (t : ℕ) (w : World) (s : WorldState) (m : Moment) (radio : Ether) (x : Mote) (number : ℕ) (event : SharedEvent)
     (r : Effect) (from time : ℕ) : Type 0 where
   pub is : IsMoment w s m radio x number event r from time
   pub in_time : t ≤ w.until

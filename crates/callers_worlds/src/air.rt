@@ -4,7 +4,7 @@ ghost use Rattle.std.specs.Prelude.{◌≡◌, ◌<◌, ◌≤◌, ℕ, List, []
 ghost use Rattle.mate_num.specs.declared.bounds.TheConstants.{HOUR, NODES_MAX};
 ghost use Rattle.vm_shape.specs.declared.function.FunKind.TheVariants as kind;
 ghost use Rattle.event_queue.specs.Agenda.{due_at};
-ghost use Rattle.radio_sim.specs.declared.event.Event.TheVariants as event;
+ghost use Rattle.radio_sim.specs.declared.shared_event.SharedEvent.TheVariants as event;
 ghost use Rattle.mate_journal.specs.Log.{Log};
 ghost use Rattle.world_rules.specs.World.{World, called_kind};
 ghost use Rattle.world_air.specs.Air.{IsAirOf, air_room};

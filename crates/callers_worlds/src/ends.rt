@@ -7,7 +7,7 @@ ghost use Rattle.mate_journal.specs.declared.air.Aired.{Aired};
 ghost use Rattle.mate_journal.specs.declared.program.Program.{Program as ProgramOfFile};
 ghost use Rattle.packet_codec.specs.declared.packet.Packet.{Packet};
 ghost use Rattle.event_queue.specs.Agenda.{due_at};
-ghost use Rattle.radio_sim.specs.declared.event.Event.TheVariants as radio_kind;
+ghost use Rattle.radio_sim.specs.declared.shared_event.SharedEvent.TheVariants as radio_kind;
 ghost use Rattle.world_rules.specs.Cause.{Period, Expire};
 ghost use Rattle.world_rules.specs.State.{Moment, WorldState, sent_bytes, schedules, of_time};
 ghost use Rattle.world_rules.specs.World.{period_of};
@@ -16,7 +16,7 @@ ghost use Rattle.world_run_laws.specs.Coming.{code_world};
 ghost use Rattle.callers_worlds.specs.Ends.{MayFinish, IsMoment, IsMomentBefore, IsPumpFirst, SendsAlone};
 
 use mate_num::{NoMemory, Stamp};
-use radio_sim::{Event, Radio};
+use radio_sim::{Radio, SharedEvent};
 use script_steps::World;
 use vm_shape::Description;
 use world_event::finish::finish;
@@ -31,7 +31,7 @@ pub fn an_event_ends_in_its_order(
     desc: &Description,
     world: &World,
     number: u8,
-    event: &Event,
+    event: &SharedEvent,
     effect: &mut Effect,
     from: usize,
     at: Stamp,

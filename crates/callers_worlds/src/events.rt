@@ -20,9 +20,9 @@ ghost use Rattle.world_run_laws.specs.Coming.{code_world, MayComeTo};
 ghost use Rattle.world_state.specs.Standing.{IsMoteOf};
 ghost use Rattle.world_event.specs.Handling.{IsOpenExchange, IsPaced};
 
-use mate_journal::Programs;
+use mate_journal::StoredPrograms;
 use mate_num::{NoMemory, Stamp};
-use radio_sim::{Event, SharedPacket};
+use radio_sim::{SharedEvent, SharedPacket};
 use script_steps::World;
 use vm_shape::Description;
 use world_event::handle;
@@ -33,7 +33,7 @@ pub fn an_injection_has_its_own_version(
     mote: &mut Mote,
     desc: &Description,
     world: &World,
-    programs: &Programs,
+    programs: &StoredPrograms,
     at: Stamp,
 ) -> Result<Effect, NoMemory>
     requires machine { mote.old.node.description ≡ desc.now }
@@ -56,7 +56,7 @@ pub fn an_injection_has_its_own_version(
         (Installs p.handler.0 p.version p.image.items ∷ n.exchange)) }
 {
     let mut effect = Effect::none();
-    let event = Event::Planned(0);
+    let event = SharedEvent::Planned(0);
     handle(mote, desc, world, programs, &event, at, &mut effect)?;
     Ok(effect)
 }
@@ -66,7 +66,7 @@ pub fn a_packet_is_got_from_its_sender(
     mote: &mut Mote,
     desc: &Description,
     world: &World,
-    programs: &Programs,
+    programs: &StoredPrograms,
     number: u32,
     bytes: SharedPacket,
     at: Stamp,
@@ -89,7 +89,7 @@ pub fn a_packet_is_got_from_its_sender(
         → sent_bytes (code_world desc.now world.now programs.now) packet ≡ bytes → slice_get world.now.links 0 ≡ Some link
         → option_to_list effect.first ≡ Got number link.from ∷ []) }
 {
-    let event = Event::Deliver {
+    let event = SharedEvent::Deliver {
         link: 0,
         number,
         bytes,

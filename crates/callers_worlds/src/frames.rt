@@ -6,7 +6,7 @@ ghost use Rattle.slip_gateway.specs.Stream.{closed_pieces, unescaped};
 ghost use Rattle.slip_gateway.specs.declared.frames.Frame.TheVariants as frame;
 
 use mate_num::NoMemory;
-use slip_gateway::{FrameFault, Frames, Slip, has_escape, plain_frame};
+use slip_gateway::{FrameFault, Frames, Slip, has_escape, plain_frame, rest_of};
 use std::alloc::Global;
 
 pub fn an_escaped_end_is_a_byte(alloc: Global) -> Result<Frames, NoMemory>
@@ -69,4 +69,10 @@ pub fn a_piece_is_read_anew(slip: &mut Slip) -> Result<&[u8], FrameFault>
     slip.read_piece(&[219]);
     slip.read_piece(&[7]);
     slip.frame()
+}
+
+pub fn what_stands_behind_the_last_end_is_left() -> &'static [u8]
+    ensures { result.now ≡ 7 ∷ [] }
+{
+    rest_of(&[1, 192, 7])
 }

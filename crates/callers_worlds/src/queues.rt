@@ -4,20 +4,20 @@ ghost use Rattle.std.specs.Prelude.{◌≡◌, IfOk, true};
 
 use event_queue::{Queue, Timed};
 use mate_num::NoMemory;
-use radio_sim::{Cancel, Event};
+use radio_sim::{Cancel, SharedEvent};
 use std::alloc::Global;
 
 /// A slot whose order is turned when its block comes: of two events at a far time the one scheduled first comes first.
 pub fn far_equals_keep_their_order(alloc: Global) -> Result<u32, NoMemory>
     ensures { IfOk result (λ line. line ≡ 1) }
 {
-    let mut queue: Queue<Event> = Queue::new(alloc, 5000)?;
-    queue.schedule(4096, Event::Planned(1))?;
-    queue.schedule(4096, Event::Planned(2))?;
+    let mut queue: Queue<SharedEvent> = Queue::new(alloc, 5000)?;
+    queue.schedule(4096, SharedEvent::Planned(1))?;
+    queue.schedule(4096, SharedEvent::Planned(2))?;
     let Some(Timed { item, .. }) = queue.next() else {
         unreachable!()
     };
-    let Event::Planned(line) = item else {
+    let SharedEvent::Planned(line) = item else {
         unreachable!()
     };
     Ok(line)
@@ -27,13 +27,13 @@ pub fn far_equals_keep_their_order(alloc: Global) -> Result<u32, NoMemory>
 pub fn near_equals_keep_their_order(alloc: Global) -> Result<u32, NoMemory>
     ensures { IfOk result (λ line. line ≡ 1) }
 {
-    let mut queue: Queue<Event> = Queue::new(alloc, 5000)?;
-    queue.schedule(5, Event::Planned(1))?;
-    queue.schedule(5, Event::Planned(2))?;
+    let mut queue: Queue<SharedEvent> = Queue::new(alloc, 5000)?;
+    queue.schedule(5, SharedEvent::Planned(1))?;
+    queue.schedule(5, SharedEvent::Planned(2))?;
     let Some(Timed { item, .. }) = queue.next() else {
         unreachable!()
     };
-    let Event::Planned(line) = item else {
+    let SharedEvent::Planned(line) = item else {
         unreachable!()
     };
     Ok(line)
@@ -43,8 +43,8 @@ pub fn near_equals_keep_their_order(alloc: Global) -> Result<u32, NoMemory>
 pub fn a_far_event_comes_at_its_time(alloc: Global) -> Result<u32, NoMemory>
     ensures { IfOk result (λ time. time ≡ 4096) }
 {
-    let mut queue: Queue<Event> = Queue::new(alloc, 5000)?;
-    queue.schedule(4096, Event::Planned(1))?;
+    let mut queue: Queue<SharedEvent> = Queue::new(alloc, 5000)?;
+    queue.schedule(4096, SharedEvent::Planned(1))?;
     let Some(Timed { time, .. }) = queue.next() else {
         unreachable!()
     };
@@ -55,8 +55,8 @@ pub fn a_far_event_comes_at_its_time(alloc: Global) -> Result<u32, NoMemory>
 pub fn the_last_time_comes(alloc: Global) -> Result<bool, NoMemory>
     ensures { IfOk result (λ comes. comes ≡ true) }
 {
-    let mut queue: Queue<Event> = Queue::new(alloc, 5000)?;
-    queue.schedule(5000, Event::Planned(1))?;
+    let mut queue: Queue<SharedEvent> = Queue::new(alloc, 5000)?;
+    queue.schedule(5000, SharedEvent::Planned(1))?;
     Ok(queue.next().is_some())
 }
 
@@ -64,8 +64,8 @@ pub fn the_last_time_comes(alloc: Global) -> Result<bool, NoMemory>
 pub fn a_cancelled_event_is_gone(alloc: Global) -> Result<bool, NoMemory>
     ensures { IfOk result (λ gone. gone ≡ true) }
 {
-    let mut queue: Queue<Event> = Queue::new(alloc, 5000)?;
-    queue.schedule(5, Event::Pump { node: 1 })?;
+    let mut queue: Queue<SharedEvent> = Queue::new(alloc, 5000)?;
+    queue.schedule(5, SharedEvent::Pump { node: 1 })?;
     queue.cancel(Cancel::Pump(1).number());
     Ok(queue.next().is_none())
 }
@@ -74,8 +74,8 @@ pub fn a_cancelled_event_is_gone(alloc: Global) -> Result<bool, NoMemory>
 pub fn another_nodes_event_stays(alloc: Global) -> Result<bool, NoMemory>
     ensures { IfOk result (λ comes. comes ≡ true) }
 {
-    let mut queue: Queue<Event> = Queue::new(alloc, 5000)?;
-    queue.schedule(5, Event::Pump { node: 1 })?;
+    let mut queue: Queue<SharedEvent> = Queue::new(alloc, 5000)?;
+    queue.schedule(5, SharedEvent::Pump { node: 1 })?;
     queue.cancel(Cancel::Pump(0).number());
     Ok(queue.next().is_some())
 }

@@ -13,7 +13,7 @@ use Rattle.capsule_exchange.specs.Knowledge.{Knowledge, state_after, knowledge, 
 use Rattle.capsule_exchange.specs.Steps.{no_state, aimed, hears_fragment, hears_status, forgets, installs, ask_in, state_at, aimed_each, asks_upto}
 use Rattle.capsule_exchange.proofs.TableLemmas.{same_values, set_value}
 use Rattle.capsule_exchange.proofs.MaskLemmas.{filter_push}
-use Rattle.capsule_exchange.proofs.SoundLemmas.{refill_same}
+use Rattle.capsule_exchange.proofs.SoundLemmas.{put_back}
 use Rattle.capsule_exchange.proofs.StateLemmas.{vector_state, app_state, status_state, status_other, fragment_state, fragment_other, installs_state, installs_other}
 
 -- ---- requests, one handler after another
@@ -61,28 +61,27 @@ held_is k handler state within read n hs was =
 
 -- ---- writes to the states
 
-pub wrote_one : (n : ℕ) (old : Knowledge) (states lent : List HandlerState) (last : Option ℕ) (h g : ℕ) (d after : HandlerState) (step : HandlerState → HandlerState)
-    → n ≡ length states → record { handlers = states; last = last } ≡ old → lent ≡ states → h ≡ g → h < length states → after ≡ step (get_or lent h d)
-    → record { handlers = refill n states (set lent h after); last = last } ≡ with_state old g (step (state_at old.handlers g))
-wrote_one n old states lent last h g d after step count view same place within is =
-    let long : length (set lent h after) ≡ length states = length-set lent h after ∙ ap (λ (ss : List HandlerState). length ss) same in
+pub wrote_one : (old : Knowledge) (states lent : List HandlerState) (last : Option ℕ) (h g : ℕ) (d after : HandlerState) (step : HandlerState → HandlerState)
+    → record { handlers = states; last = last } ≡ old → lent ≡ states → h ≡ g → h < length states → after ≡ step (get_or lent h d)
+    → record { handlers = refill (length states) states (set lent h after); last = last } ≡ with_state old g (step (state_at old.handlers g))
+wrote_one old states lent last h g d after step view same place within is =
     let value : after ≡ step (state_at states h) = is ∙ ap (λ (ss : List HandlerState). step (get_or ss h d)) same ∙ ap step (get_or_default states h d no_state within) in
-    let states_now : refill n states (set lent h after) ≡ set states g (step (state_at states g)) =
-    refill_same n states (set lent h after) count long
-    ∙ ap (λ (ss : List HandlerState). set ss h after) same
+    let states_now : set lent h after ≡ set states g (step (state_at states g)) =
+    ap (λ (ss : List HandlerState). set ss h after) same
     ∙ ap (set states h) value
     ∙ ap (λ (k : ℕ). set states k (step (state_at states k))) place in
-    ap (λ (ss : List HandlerState). record { handlers = ss; last = last }) states_now
-    ∙ ap (λ (k : Knowledge). with_state k g (step (state_at k.handlers g))) view
+    put_back (λ (ss : List HandlerState). record { handlers = ss; last = last } ≡ with_state old g (step (state_at old.handlers g))) states (set lent h after)
+    (length-set lent h after ∙ ap (λ (ss : List HandlerState). length ss) same)
+    (ap (λ (ss : List HandlerState). record { handlers = ss; last = last }) states_now ∙ ap (λ (k : Knowledge). with_state k g (step (state_at k.handlers g))) view)
 
-pub wrote_all : (n : ℕ) (old : Knowledge) (states lent after : List HandlerState) (last : Option ℕ) (step : HandlerState → HandlerState)
-    → n ≡ length states → record { handlers = states; last = last } ≡ old → lent ≡ states → after ≡ map step lent
-    → record { handlers = refill n states after; last = last } ≡ record old { handlers = map step old.handlers }
-wrote_all n old states lent after last step count view same is =
+pub wrote_all : (old : Knowledge) (states lent after : List HandlerState) (last : Option ℕ) (step : HandlerState → HandlerState)
+    → record { handlers = states; last = last } ≡ old → lent ≡ states → after ≡ map step lent
+    → record { handlers = refill (length states) states after; last = last } ≡ record old { handlers = map step old.handlers }
+wrote_all old states lent after last step view same is =
     let value : after ≡ map step states = is ∙ ap (map step) same in
-    let long : length after ≡ length states = ap (λ (ss : List HandlerState). length ss) value ∙ length-map states step in
-    ap (λ (ss : List HandlerState). record { handlers = ss; last = last }) (refill_same n states after count long ∙ value)
-    ∙ ap (λ (k : Knowledge). record k { handlers = map step k.handlers }) view
+    put_back (λ (ss : List HandlerState). record { handlers = ss; last = last } ≡ record old { handlers = map step old.handlers }) states after
+    (ap (λ (ss : List HandlerState). length ss) value ∙ length-map states step)
+    (ap (λ (ss : List HandlerState). record { handlers = ss; last = last }) value ∙ ap (λ (k : Knowledge). record k { handlers = map step k.handlers }) view)
 
 -- ---- a happening that changes one handler's state
 

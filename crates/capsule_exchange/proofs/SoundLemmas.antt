@@ -87,46 +87,37 @@ forgets_sound s sound = record { few = tt; owed = λ i now. absurd (not_true _ (
 pub installs_sound : (version : ℕ) (image : ArrayVec ℕ) (s : HandlerState) → 1 ≤ version → IsSoundState (installs version image s)
 installs_sound version image s some = record { few = tt; owed = λ i now. absurd (not_true _ (no_mark i) now); numbered = λ _. some }
 
--- ---- all handlers. A vector of n states has other ones put in place of them: those, where they are as many
+-- ---- all handlers. A vector of states has other ones put in place of them: those, where they are as many
 
-pub refill_same : (n : ℕ) (states after : List HandlerState) → n ≡ length states → length after ≡ length states → refill n states after ≡ after
-refill_same n states after long same = take_at after (drop (length after) states) n (same ∙ sym long)
-
-pub refilled : (n : ℕ) (states after : List HandlerState) → n ≡ length states → length after ≡ length states → AreSound after → AreSound (refill n states after)
-refilled n states after long same sound = All-same IsSoundState (refill n states after) after (refill_same n states after long same) sound
-
--- the states with a sound one in the place of another
-pub one_sound : (n : ℕ) (states : List HandlerState) (h : ℕ) (s : HandlerState) → n ≡ length states → IsSoundState s → AreSound states → AreSound (refill n states (set states h s))
-one_sound n states h s long own sound = refilled n states (set states h s) long (length-set states h s) (All-set IsSoundState states h s own sound)
+pub put_back : (P : List HandlerState → Type 0) (states after : List HandlerState) → length after ≡ length states → P after → P (refill (length states) states after)
+put_back P states after same holds = subst P (sym (take_at after (drop (length after) states) (length states) same)) holds
 
 pub sound_at : (states : List HandlerState) (h : ℕ) (d : HandlerState) → h < length states → AreSound states → IsSoundState (get_or states h d)
 sound_at states h d within sound = All-get_or IsSoundState states h d within sound
 
 -- one state was changed in place
-pub changed_one : (n : ℕ) (states lent : List HandlerState) (h : ℕ) (d after : HandlerState) (step : HandlerState → HandlerState) → n ≡ length states → lent ≡ states → h < length states
-    → after ≡ step (get_or lent h d) → ((s : HandlerState) → IsSoundState s → IsSoundState (step s)) → AreSound states → AreSound (refill n states (set lent h after))
-changed_one n states lent h d after step long same within is keeps sound =
+pub changed_one : (states lent : List HandlerState) (h : ℕ) (d after : HandlerState) (step : HandlerState → HandlerState) → lent ≡ states → h < length states
+    → after ≡ step (get_or lent h d) → ((s : HandlerState) → IsSoundState s → IsSoundState (step s)) → AreSound states → AreSound (set lent h after)
+changed_one states lent h d after step same within is keeps sound =
     let own : IsSoundState (get_or lent h d) = subst (λ (ss : List HandlerState). IsSoundState (get_or ss h d)) (sym same) (sound_at states h d within sound) in
-    subst (λ (ss : List HandlerState). AreSound (refill n states (set ss h after))) (sym same) (one_sound n states h after long (subst IsSoundState (sym is) (keeps (get_or lent h d) own)) sound)
+    All-set IsSoundState lent h after (subst IsSoundState (sym is) (keeps (get_or lent h d) own)) (subst AreSound (sym same) sound)
 
 -- all were changed in place
-pub changed_each : (n : ℕ) (states after : List HandlerState) (step : ℕ → HandlerState → HandlerState) → n ≡ length states
+pub changed_each : (states after : List HandlerState) (step : ℕ → HandlerState → HandlerState)
     → after ≡ map (λ (h : ℕ). step h (state_at states h)) (range_with_len 0 (length states)) → ((h : ℕ) (s : HandlerState) → IsSoundState s → IsSoundState (step h s)) → AreSound states
-    → AreSound (refill n states after)
-changed_each n states after step long is keeps sound =
+    → AreSound after
+changed_each states after step is keeps sound =
     let f = λ (h : ℕ). step h (state_at states h) in
-    let same : length after ≡ length states = ap length is ∙ length-map-range_with_len f 0 (length states) in
-    refilled n states after long same (All-same IsSoundState after (map f (range_with_len 0 (length states))) is
+    All-same IsSoundState after (map f (range_with_len 0 (length states))) is
     (All-map IsSoundState f (range_with_len 0 (length states)) (λ k d below.
     let at : get_or (range_with_len 0 (length states)) k d ≡ 0 + k = get_or-range_with_len 0 (length states) k d (omega (arith, length-range_with_len 0 (length states))) in
     keeps (get_or (range_with_len 0 (length states)) k d) (state_at states (get_or (range_with_len 0 (length states)) k d))
-    (sound_at states (get_or (range_with_len 0 (length states)) k d) no_state (omega (arith, length-range_with_len 0 (length states))) sound))))
+    (sound_at states (get_or (range_with_len 0 (length states)) k d) no_state (omega (arith, length-range_with_len 0 (length states))) sound)))
 
-pub changed_all : (n : ℕ) (states after : List HandlerState) (step : HandlerState → HandlerState) → n ≡ length states → after ≡ map step states
-    → ((s : HandlerState) → IsSoundState s → IsSoundState (step s)) → AreSound states → AreSound (refill n states after)
-changed_all n states after step long is keeps sound =
-    let same : length after ≡ length states = ap length is ∙ length-map states step in
-    refilled n states after long same (All-same IsSoundState after (map step states) is (All-map IsSoundState step states (λ k d below. keeps (get_or states k d) (sound k d below))))
+pub changed_all : (states after : List HandlerState) (step : HandlerState → HandlerState) → after ≡ map step states
+    → ((s : HandlerState) → IsSoundState s → IsSoundState (step s)) → AreSound states → AreSound after
+changed_all states after step is keeps sound =
+    All-same IsSoundState after (map step states) is (All-map IsSoundState step states (λ k d below. keeps (get_or states k d) (sound k d below)))
 
 -- ---- fragments of an image are right
 

@@ -1,24 +1,25 @@
 -- The summary of the handlers' states, and a Vector of the versions that it has.
-use Rattle.std.proofs.Common.{◌≡◌, ℕ, zero, suc, ◌+◌, ◌<◌, ◌≤◌, ◌-◌, ◌*◌, ◌/◌, ◌%◌, ◌&&◌, Bool, true, false, ltb, List, [], length, map, set, get_or, refl, sym, ap, ◌∙◌, subst, arith, inl, inr}
+use Rattle.std.proofs.Common.{◌≡◌, ℕ, zero, suc, ◌+◌, ◌<◌, ◌≤◌, ◌-◌, ◌*◌, ◌/◌, ◌%◌, ◌&&◌, Bool, true, false, ltb, List, [], length, map, set, get_or, drop, refl, sym, ap, ◌∙◌, subst, arith, inl, inr}
 use Rattle.std.specs.Prelude.{◌⊎◌, ◌==◌, if◌then◌else◌, Option, bytes_eq, is_some}
 use Rattle.std.specs.List.{filter, find, refill, range_with_len}
 use Rattle.std.proofs.lemmas.Bool.{cases_eq, cases_lt, cond_both, le-ltb}
-use Rattle.std.proofs.lemmas.List.{ext_get_or, get_or-map, get_or-set_same, get_or-set_other, get_or_default, get_or_past, length-map, length-set}
+use Rattle.std.proofs.lemmas.List.{ext_get_or, get_or-map, get_or-set_same, get_or-set_other, get_or_default, get_or_past, length-map, length-set, take_at}
 use Rattle.std.proofs.lemmas.List.FromFn.{fill_by_all, length-map-range_with_len, get_or-map-range_with_len}
 use Rattle.std.proofs.lemmas.Slice.Eq.{bytes_eq-Decides}
 use Rattle.capsule_exchange.specs.declared.handler_state.HandlerState.{HandlerState}
 use Rattle.capsule_exchange.specs.declared.summary.Summary.{Summary}
-use Rattle.capsule_exchange.specs.Knowledge.{Knowledge}
+use Rattle.capsule_exchange.specs.Knowledge.{Knowledge, knowledge, state_after, with_state}
+use Rattle.capsule_exchange.specs.Images.{HoldSame, AreImagesOf, blank_image}
 use Rattle.capsule_exchange.specs.Sound.{AreSound}
 use Rattle.capsule_exchange.specs.declared.handler_state.Form.{Form}
 use Rattle.arrayvec.specs.ArrayVec.{ArrayVec}
 use Rattle.capsule_codec.specs.Fragments.{count_of}
-use Rattle.capsule_exchange.specs.Steps.{no_state, aimed, kept, marked, hears_status, hears_fragment, is_marked_in, state_at, aimed_each, asks_upto}
+use Rattle.capsule_exchange.specs.Steps.{no_state, aimed, kept, marked, hears_status, hears_fragment, forgets, is_marked_in, state_at, aimed_each, asks_upto}
 use Rattle.capsule_exchange.specs.Summary.{IsSummaryOf, AreKept}
 use Rattle.capsule_exchange.specs.Happenings.{slots_from}
 use Rattle.capsule_exchange.specs.Marks.{HasMark, HasNoMark}
 use Rattle.capsule_exchange.proofs.SlotLemmas.{find_same, find_none, some_at}
-use Rattle.capsule_exchange.proofs.SoundLemmas.{refill_same}
+use Rattle.capsule_exchange.proofs.SoundLemmas.{put_back}
 
 pub kept_now : (states seen : List HandlerState) (s : Summary) → seen ≡ states → length seen ≤ 8 → AreSound states → IsSummaryOf seen s → AreKept states s
 kept_now states seen s same few sound sums = record { few = subst (λ (ss : List HandlerState). length ss ≤ 8) same few; sound = sound; summed = subst (λ (ss : List HandlerState). IsSummaryOf ss s) same sums }
@@ -66,15 +67,17 @@ asks_none states =
 
 -- ---- what leaves the versions and the marks leaves the summary
 
+-- the step changes at most what is collected
 pub record KeepsMarks (old new : HandlerState) : Type 0 where
   pub held : new.held ≡ old.held
+  pub image : new.image ≡ old.image
   pub marks : new.marks ≡ old.marks
 
 as_before : (s : HandlerState) → KeepsMarks s s
-as_before s = record { held = refl; marks = refl }
+as_before s = record { held = refl; image = refl; marks = refl }
 
 pub aimed_marks : (version : ℕ) (s : HandlerState) → KeepsMarks s (aimed version s)
-aimed_marks version s = cond_both (ltb s.held version && ltb s.target version) _ s (KeepsMarks s) (λ _. record { held = refl; marks = refl }) (λ _. as_before s)
+aimed_marks version s = cond_both (ltb s.held version && ltb s.target version) _ s (KeepsMarks s) (λ _. record { held = refl; image = refl; marks = refl }) (λ _. as_before s)
 
 pub status_held : (version missing : ℕ) (s : HandlerState) → (hears_status version missing s).held ≡ s.held
 status_held version missing s = by (version == s.held)
@@ -83,11 +86,18 @@ status_held version missing s = by (version == s.held)
     by true = refl
     by false = refl
 
+pub status_image : (version missing : ℕ) (s : HandlerState) → (hears_status version missing s).image ≡ s.image
+status_image version missing s = by (version == s.held)
+  where
+    by : (b : Bool) → (if b then record s { marks = marked (count_of s.image.items) missing s.marks } else s).image ≡ s.image
+    by true = refl
+    by false = refl
+
 pub fragment_marks : (version index : ℕ) (form : Form) (bytes : ArrayVec ℕ) (s : HandlerState) → KeepsMarks s (hears_fragment version index form bytes s)
 fragment_marks version index form bytes s =
     let aim = aimed_marks version s in
     let keep : KeepsMarks s (kept index form bytes (aimed version s)) =
-    cond_both _ _ (aimed version s) (KeepsMarks s) (λ _. record { held = aim.held; marks = aim.marks }) (λ _. aim) in
+    cond_both _ _ (aimed version s) (KeepsMarks s) (λ _. record { held = aim.held; image = aim.image; marks = aim.marks }) (λ _. aim) in
     cond_both _ _ (aimed version s) (KeepsMarks s) (λ _. keep) (λ _. aim)
 
 held_same : (old new : List HandlerState) → length new ≡ length old → ((h : ℕ) → (state_at new h).held ≡ (state_at old h).held) → held_in old ≡ held_in new
@@ -106,70 +116,59 @@ owed_same old new long same =
 summed_same : (old new : List HandlerState) (s : Summary) → length new ≡ length old → ((h : ℕ) → KeepsMarks (state_at old h) (state_at new h)) → IsSummaryOf old s → IsSummaryOf new s
 summed_same old new s long same sums = record { held = sums.held ∙ held_same old new long (λ h. (same h).held); owes = sums.owes ∙ ap is_some (owed_same old new long same) }
 
--- one state was changed in place
-summed_one : (n : ℕ) (states lent : List HandlerState) (h : ℕ) (d after : HandlerState) (step : HandlerState → HandlerState) (s : Summary) → n ≡ length states → lent ≡ states → h < length states
-    → after ≡ step (get_or lent h d) → ((x : HandlerState) → KeepsMarks x (step x)) → IsSummaryOf states s → IsSummaryOf (refill n states (set lent h after)) s
-summed_one n states lent h d after step s long same within is keeps sums =
-    let now = set states h after in
-    let count = length-set states h after in
+-- a state that is read where one was changed: that one, after its step, or an old one
+read_one : (P : HandlerState → HandlerState → Type 0) (states lent : List HandlerState) (h : ℕ) (d after : HandlerState) (step : HandlerState → HandlerState) → lent ≡ states → h < length states
+    → after ≡ step (get_or lent h d) → ((x : HandlerState) → P x (step x)) → ((x : HandlerState) → P x x) → (k : ℕ) → P (state_at states k) (state_at (set states h after) k)
+read_one P states lent h d after step same within is steps stays k =
     let at : get_or states h d ≡ state_at states h = get_or_default states h d no_state within in
     let stepped : after ≡ step (state_at states h) = is ∙ ap (λ (ss : List HandlerState). step (get_or ss h d)) same ∙ ap step at in
-    let each : (k : ℕ) → KeepsMarks (state_at states k) (state_at now k) = λ k.
     elim (cases_eq k h) [
       | inl here ↦ (
-          let read : state_at now k ≡ step (state_at states k) =
-          ap (state_at now) here ∙ get_or-set_same states h after no_state within ∙ stepped ∙ ap (λ (m : ℕ). step (state_at states m)) (sym here) in
-          subst (KeepsMarks (state_at states k)) (sym read) (keeps (state_at states k)))
-      | inr other ↦ subst (KeepsMarks (state_at states k)) (sym (get_or-set_other states h k after no_state other)) (as_before (state_at states k))
-    ] in
-    let all = summed_same states now s count each sums in
-    let whole : refill n states (set lent h after) ≡ now = ap (λ (ss : List HandlerState). refill n states (set ss h after)) same ∙ refill_same n states now long count in
-    subst (λ (ss : List HandlerState). IsSummaryOf ss s) (sym whole) all
+          let read : state_at (set states h after) k ≡ step (state_at states k) =
+          ap (state_at (set states h after)) here ∙ get_or-set_same states h after no_state within ∙ stepped ∙ ap (λ (m : ℕ). step (state_at states m)) (sym here) in
+          subst (P (state_at states k)) (sym read) (steps (state_at states k)))
+      | inr other ↦ subst (P (state_at states k)) (sym (get_or-set_other states h k after no_state other)) (stays (state_at states k))
+    ]
 
-kept_in : (n : ℕ) (states after : List HandlerState) (s t : Summary) → n ≡ length states → length after ≡ length states → AreSound (refill n states after) → IsSummaryOf (refill n states after) t → AreKept states s
-    → AreKept (refill n states after) t
-kept_in n states after s t long same sound sums kept =
-    let few = kept.few in
-    let whole = refill_same n states after long same in
-    record { few = subst (λ (ss : List HandlerState). length ss ≤ 8) (sym whole) (omega arith); sound = sound; summed = sums }
+kept_in : (states after : List HandlerState) (s t : Summary) → length after ≡ length states → AreSound after → IsSummaryOf after t → AreKept states s → AreKept after t
+kept_in states after s t same sound sums kept = (let few = kept.few in record { few = omega arith; sound = sound; summed = sums })
+
+length-lent : (states lent : List HandlerState) (h : ℕ) (after : HandlerState) → lent ≡ states → length (set lent h after) ≡ length states
+length-lent states lent h after same = length-set lent h after ∙ ap length same
+
+-- one state was changed in place
+pub kept_one : (states lent : List HandlerState) (h : ℕ) (d after : HandlerState) (step : HandlerState → HandlerState) (s : Summary) → lent ≡ states → h < length states
+    → after ≡ step (get_or lent h d) → ((x : HandlerState) → KeepsMarks x (step x)) → AreSound (set lent h after) → AreKept states s → AreKept (refill (length states) states (set lent h after)) s
+kept_one states lent h d after step s same within is keeps sound kept =
+    let all : IsSummaryOf (set states h after) s =
+    summed_same states (set states h after) s (length-set states h after) (read_one KeepsMarks states lent h d after step same within is keeps as_before) kept.summed in
+    let long = length-lent states lent h after same in
+    put_back (λ (ss : List HandlerState). AreKept ss s) states (set lent h after) long
+    (kept_in states (set lent h after) s s long sound (subst (λ (ss : List HandlerState). IsSummaryOf (set ss h after) s) (sym same) all) kept)
 
 -- one state was changed in place, and not what it holds: only whether a slot is marked is to be seen anew
-owed_one : (n : ℕ) (states lent : List HandlerState) (h : ℕ) (d after : HandlerState) (step : HandlerState → HandlerState) → n ≡ length states → lent ≡ states → h < length states
-    → after ≡ step (get_or lent h d) → ((x : HandlerState) → (step x).held ≡ x.held) → held_in states ≡ held_in (refill n states (set lent h after))
-owed_one n states lent h d after step long same within is keeps =
-    let now = set states h after in
-    let count = length-set states h after in
-    let at : get_or states h d ≡ state_at states h = get_or_default states h d no_state within in
-    let stepped : after ≡ step (state_at states h) = is ∙ ap (λ (ss : List HandlerState). step (get_or ss h d)) same ∙ ap step at in
-    let each : (k : ℕ) → (state_at now k).held ≡ (state_at states k).held = λ k.
-    elim (cases_eq k h) [
-      | inl here ↦ (
-          let read : state_at now k ≡ step (state_at states k) =
-          ap (state_at now) here ∙ get_or-set_same states h after no_state within ∙ stepped ∙ ap (λ (m : ℕ). step (state_at states m)) (sym here) in
-          ap (λ (s : HandlerState). s.held) read ∙ keeps (state_at states k))
-      | inr other ↦ ap (λ (s : HandlerState). s.held) (get_or-set_other states h k after no_state other)
-    ] in
-    let whole : refill n states (set lent h after) ≡ now = ap (λ (ss : List HandlerState). refill n states (set ss h after)) same ∙ refill_same n states now long count in
-    held_same states now count each ∙ ap held_in (sym whole)
-
-pub kept_owing : (n : ℕ) (states lent : List HandlerState) (h : ℕ) (d after : HandlerState) (step : HandlerState → HandlerState) (s : Summary) (seen : List HandlerState) (owes : Bool) → n ≡ length states → lent ≡ states → h < length states
-    → after ≡ step (get_or lent h d) → ((x : HandlerState) → (step x).held ≡ x.held) → AreSound (refill n states (set lent h after)) → AreKept states s
-    → seen ≡ refill n states (set lent h after) → owes ≡ is_some (find (is_marked_in seen) (slots_from (length seen) 0)) → AreKept (refill n states (set lent h after)) (record s { owes = owes })
-kept_owing n states lent h d after step s seen owes long same within is keeps sound kept seen_is owes_is =
-    kept_in n states (set lent h after) s (record s { owes = owes }) long (length-set lent h after ∙ ap length same) sound
+pub kept_owing : (states lent : List HandlerState) (h : ℕ) (d after : HandlerState) (step : HandlerState → HandlerState) (s : Summary) (seen : List HandlerState) (owes : Bool) → lent ≡ states → h < length states
+    → after ≡ step (get_or lent h d) → ((x : HandlerState) → (step x).held ≡ x.held) → AreSound (set lent h after) → AreKept states s
+    → seen ≡ refill (length states) states (set lent h after) → owes ≡ is_some (find (is_marked_in seen) (slots_from (length seen) 0))
+    → AreKept (refill (length states) states (set lent h after)) (record s { owes = owes })
+kept_owing states lent h d after step s seen owes same within is keeps sound kept seen_is owes_is =
+    let held = held_same states (set states h after) (length-set states h after) (read_one (λ x y. y.held ≡ x.held) states lent h d after step same within is keeps (λ _. refl)) in
+    let now = set lent h after in
+    let long = length-lent states lent h after same in
+    let any = λ (ss : List HandlerState). is_some (find (is_marked_in ss) (slots_from (length ss) 0)) in
+    put_back (λ (ss : List HandlerState). AreKept ss (record s { owes = owes })) states now long
+    (kept_in states now s (record s { owes = owes }) long sound
     (record {
-      held = kept.summed.held ∙ owed_one n states lent h d after step long same within is keeps;
-      owes = owes_is ∙ ap (λ (ss : List HandlerState). is_some (find (is_marked_in ss) (slots_from (length ss) 0))) seen_is;
-    }) kept
+      held = kept.summed.held ∙ held ∙ ap (λ (ss : List HandlerState). held_in (set ss h after)) (sym same);
+      owes = owes_is ∙ put_back (λ (ss : List HandlerState). any seen ≡ any ss → any seen ≡ any now) states now long (λ e. e) (ap any seen_is);
+    }) kept)
 
--- all were changed in place
-summed_each : (n : ℕ) (states after : List HandlerState) (step : ℕ → HandlerState → HandlerState) (s : Summary) → n ≡ length states
-    → after ≡ map (λ (h : ℕ). step h (state_at states h)) (range_with_len 0 (length states)) → ((h : ℕ) (x : HandlerState) → KeepsMarks x (step h x)) → IsSummaryOf states s
-    → IsSummaryOf (refill n states after) s
-summed_each n states after step s long is keeps sums =
+-- a state that is read where all were changed
+read_each : (states after : List HandlerState) (step : ℕ → HandlerState → HandlerState) → after ≡ map (λ (h : ℕ). step h (state_at states h)) (range_with_len 0 (length states))
+    → ((h : ℕ) (x : HandlerState) → KeepsMarks x (step h x)) → (k : ℕ) → KeepsMarks (state_at states k) (state_at after k)
+read_each states after step is keeps k =
     let f = λ (h : ℕ). step h (state_at states h) in
     let count : length after ≡ length states = ap length is ∙ length-map-range_with_len f 0 (length states) in
-    let each : (k : ℕ) → KeepsMarks (state_at states k) (state_at after k) = λ k.
     elim (cases_lt k (length states)) [
       | inl below ↦ (
           let read : state_at after k ≡ f k =
@@ -179,19 +178,88 @@ summed_each n states after step s long is keeps sums =
           let here : state_at after k ≡ no_state = get_or_past after k no_state (omega arith) in
           let there : state_at states k ≡ no_state = get_or_past states k no_state past in
           subst (KeepsMarks (state_at states k)) (there ∙ sym here) (as_before (state_at states k)))
-    ] in
-    subst (λ (ss : List HandlerState). IsSummaryOf ss s) (sym (refill_same n states after long count)) (summed_same states after s count each sums)
+    ]
 
-pub kept_one : (n : ℕ) (states lent : List HandlerState) (h : ℕ) (d after : HandlerState) (step : HandlerState → HandlerState) (s : Summary) → n ≡ length states → lent ≡ states → h < length states
-    → after ≡ step (get_or lent h d) → ((x : HandlerState) → KeepsMarks x (step x)) → AreSound (refill n states (set lent h after)) → AreKept states s → AreKept (refill n states (set lent h after)) s
-kept_one n states lent h d after step s long same within is keeps sound kept =
-    kept_in n states (set lent h after) s s long (length-set lent h after ∙ ap length same) sound (summed_one n states lent h d after step s long same within is keeps kept.summed) kept
+-- all were changed in place
+pub kept_each : (states after : List HandlerState) (step : ℕ → HandlerState → HandlerState) (s : Summary)
+    → after ≡ map (λ (h : ℕ). step h (state_at states h)) (range_with_len 0 (length states)) → ((h : ℕ) (x : HandlerState) → KeepsMarks x (step h x)) → AreSound after → AreKept states s
+    → AreKept (refill (length states) states after) s
+kept_each states after step s is keeps sound kept =
+    let count : length after ≡ length states = ap length is ∙ length-map-range_with_len (λ (h : ℕ). step h (state_at states h)) 0 (length states) in
+    put_back (λ (ss : List HandlerState). AreKept ss s) states after count (kept_in states after s s count sound (summed_same states after s count (read_each states after step is keeps) kept.summed) kept)
 
-pub kept_each : (n : ℕ) (states after : List HandlerState) (step : ℕ → HandlerState → HandlerState) (s : Summary) → n ≡ length states
-    → after ≡ map (λ (h : ℕ). step h (state_at states h)) (range_with_len 0 (length states)) → ((h : ℕ) (x : HandlerState) → KeepsMarks x (step h x)) → AreSound (refill n states after) → AreKept states s
-    → AreKept (refill n states after) s
-kept_each n states after step s long is keeps sound kept =
-    kept_in n states after s s long (ap length is ∙ length-map-range_with_len (λ (h : ℕ). step h (state_at states h)) 0 (length states)) sound (summed_each n states after step s long is keeps kept.summed) kept
+-- ---- the images that are held
+
+-- with another state of one handler that holds the same image, all images are the same
+pub hold_one : (old new : Knowledge) (h : ℕ) (after : HandlerState) → h < length old.handlers → new.handlers ≡ set old.handlers h after → after.image ≡ (state_at old.handlers h).image → HoldSame old new
+hold_one old new h after within is same k =
+    ap (λ (ss : List HandlerState). (state_at ss k).image) is
+    ∙ elim (cases_eq k h) [
+      | inl here ↦ (
+          ap (λ (m : ℕ). (state_at (set old.handlers h after) m).image) here
+          ∙ ap (λ (s : HandlerState). s.image) (get_or-set_same old.handlers h after no_state within) ∙ same ∙ ap (λ (m : ℕ). (state_at old.handlers m).image) (sym here))
+      | inr other ↦ ap (λ (s : HandlerState). s.image) (get_or-set_other old.handlers h k after no_state other)
+    ]
+
+-- the images that are kept are those that are held as before
+pub images_same : (old new : Knowledge) (images : List (ArrayVec ℕ)) → HoldSame old new → length new.handlers ≡ length old.handlers → AreImagesOf old images → AreImagesOf new images
+images_same old new images same long are =
+    record { count = are.count ∙ sym long; each = λ h below. are.each h (omega (arith, long, below)) ∙ sym (same h) }
+
+-- one of them is another one
+pub images_set : (old new : Knowledge) (images : List (ArrayVec ℕ)) (h : ℕ) (after : HandlerState) (image : ArrayVec ℕ) → h < length old.handlers → new ≡ with_state old h after → after.image ≡ image
+    → AreImagesOf old images → AreImagesOf new (set images h image)
+images_set old new images h after image within is made are =
+    let states = set old.handlers h after in
+    let all : AreImagesOf (with_state old h after) (set images h image) = record {
+      count = length-set images h image ∙ are.count ∙ sym (length-set old.handlers h after);
+      each = λ k below. elim (cases_eq k h) [
+        | inl here ↦ (
+            ap (λ (m : ℕ). get_or (set images h image) m blank_image) here ∙ get_or-set_same images h image blank_image (let long = are.count in omega arith)
+            ∙ sym made ∙ sym (ap (λ (s : HandlerState). s.image) (get_or-set_same old.handlers h after no_state within)) ∙ ap (λ (m : ℕ). (state_at states m).image) (sym here))
+        | inr other ↦ (
+            get_or-set_other images h k image blank_image other ∙ are.each k (let long = length-set old.handlers h after in omega arith)
+            ∙ sym (ap (λ (s : HandlerState). s.image) (get_or-set_other old.handlers h k after no_state other)))
+      ];
+    } in
+    subst (λ (k : Knowledge). AreImagesOf k (set images h image)) (sym is) all
+
+-- one of as many images as a vector has is put in the place of another
+pub images_put : (old new : Knowledge) (n : ℕ) (images lent : List (ArrayVec ℕ)) (h g : ℕ) (after : HandlerState) (image put : ArrayVec ℕ) → n ≡ length images → lent ≡ images → g ≡ h → h < length old.handlers
+    → new ≡ with_state old h after → after.image ≡ image → put ≡ image → AreImagesOf old images → AreImagesOf new (refill n images (set lent g put))
+images_put old new n images lent h g after image put long same place within is made put_is are =
+    let now = set lent g put in
+    let count : length now ≡ n = length-set lent g put ∙ ap (λ (xs : List (ArrayVec ℕ)). length xs) same ∙ sym long in
+    let path : refill n images now ≡ set images h image =
+    take_at now (drop (length now) images) n count
+    ∙ ap (λ (xs : List (ArrayVec ℕ)). set xs g put) same ∙ ap (λ (k : ℕ). set images k put) place ∙ ap (set images h) put_is in
+    subst (AreImagesOf new) (sym path) (images_set old new images h after image within is made are)
+
+-- a Vector changes no image
+pub hold_each : (old new : Knowledge) (versions : List ℕ) → new ≡ record old { handlers = aimed_each versions old.handlers } → HoldSame old new
+hold_each old new versions is k =
+    (read_each old.handlers new.handlers (λ h. aimed (get_or versions h 0)) (ap (λ (x : Knowledge). x.handlers) is) (λ h x. aimed_marks (get_or versions h 0) x) k).image
+
+-- forgetting forgets no image
+pub hold_forgotten : (old new : Knowledge) → new ≡ record old { handlers = map forgets old.handlers } → HoldSame old new
+hold_forgotten old new is k = ap (λ (x : Knowledge). (state_at x.handlers k).image) is ∙ by (cases_lt k (length old.handlers))
+  where
+    by : (k < length old.handlers) ⊎ (length old.handlers ≤ k) → (state_at (map forgets old.handlers) k).image ≡ (state_at old.handlers k).image
+    by (inl below) = ap (λ (s : HandlerState). s.image) (get_or-map forgets old.handlers k no_state no_state below)
+    by (inr past) =
+        ap (λ (s : HandlerState). s.image) (get_or_past (map forgets old.handlers) k no_state (omega (arith, length-map old.handlers forgets)))
+        ∙ sym (ap (λ (s : HandlerState). s.image) (get_or_past old.handlers k no_state past))
+
+-- no images are kept of handlers of which nothing is held
+pub images_none : (n : ℕ) (images : List (ArrayVec ℕ)) → images ≡ map (λ (_ : ℕ). blank_image) (range_with_len 0 n) → AreImagesOf (knowledge n []) images
+images_none n images are = record {
+  count = ap length are ∙ length-map-range_with_len (λ (_ : ℕ). blank_image) 0 n ∙ sym (length-map-range_with_len (state_after []) 0 n);
+  each = λ h below.
+      let low : h < n = (let long = length-map-range_with_len (state_after []) 0 n in omega arith) in
+      ap (λ (xs : List (ArrayVec ℕ)). get_or xs h blank_image) are
+      ∙ get_or-map-range_with_len (λ (_ : ℕ). blank_image) 0 n h h blank_image low (omega arith)
+      ∙ sym (ap (λ (s : HandlerState). s.image) (get_or-map-range_with_len (state_after []) 0 n h h no_state low (omega arith)));
+}
 
 -- ---- whether a slot is marked, handler by handler
 

@@ -5,4 +5,5 @@ pub mod Steps
 pub mod Marks
 pub mod Sound
 pub mod Summary
+pub mod Images
 pub mod Laws

@@ -5,15 +5,14 @@ ghost use Rattle.mate_num.specs.declared.bounds.TheConstants.{FRAGMENTS_MAX};
 ghost use Rattle.packet_codec.specs.Packet.{IsRightPacket};
 ghost use Rattle.capsule_codec.specs.Fragments.{count_of};
 ghost use Rattle.capsule_exchange.specs.Happenings.{fragment_of};
-ghost use Rattle.capsule_exchange.specs.Steps.{no_state, aimed, takes, kept, hears_fragment, marked, hears_status, after_sending, installs, forgets, places_in, image_held, complete_in, ask_in};
+ghost use Rattle.capsule_exchange.specs.Steps.{aimed, takes, kept, hears_fragment, marked, hears_status, after_sending, installs, forgets, places_in, image_held, complete_in, ask_in};
 
-use crate::kept_image::KeptImage;
 use crate::kept_piece::KeptPiece;
+use crate::noted_image::NotedImage;
 use crate::pieces::{is_whole, join_into, missing_mask, no_marks, no_pieces};
 use capsule_codec::{Piece, count, fragment};
 use mate_num::{FRAGMENTS_MAX, HandlerId, Image, SHORT_IMAGE};
 use packet_codec::Packet;
-use std::alloc::Global;
 
 /// The count and the kind of an image's fragments.
 #[derive(Clone, Copy)]
@@ -30,7 +29,7 @@ pub struct HandlerState {
     /// The version that is held, 0 for none.
     pub(crate) held: u32,
     /// The image that is held, without bytes for none.
-    pub(crate) image: KeptImage,
+    pub(crate) image: NotedImage,
     /// The newer version that is collected, 0 for none.
     pub(crate) target: u32,
     /// The form of the target's fragments, once one was received.
@@ -41,21 +40,26 @@ pub struct HandlerState {
     pub(crate) marks: [bool; FRAGMENTS_MAX],
 }
 
-impl HandlerState {
+impl Default for HandlerState {
+    ghost use Rattle.std.specs.Prelude.{◌≡◌};
+    ghost use Rattle.capsule_exchange.specs.Steps.{no_state};
+
+    ghost is_default = { λ s. s ≡ no_state };
+
     /// Nothing is held, collected or owed.
-    pub(crate) fn none(alloc: Global) -> HandlerState
-        ensures { result ≡ no_state }
-    {
+    fn default() -> HandlerState {
         HandlerState {
             held: 0,
-            image: KeptImage::none(alloc),
+            image: NotedImage::none(),
             target: 0,
             form: None,
             pieces: no_pieces(),
             marks: no_marks(),
         }
     }
+}
 
+impl HandlerState {
     /// The version becomes the target if it is over the held one and the target.
     pub(crate) fn aim(&mut self, version: u32)
         ensures { self.new ≡ aimed version self.old }
@@ -105,8 +109,7 @@ impl HandlerState {
         ensures { self.new ≡ hears_status version missing self.old }
     {
         if version == self.held {
-            let count = count(&self.image.image());
-            mark(&mut self.marks, count, missing);
+            mark(&mut self.marks, self.image.count(), missing);
         }
     }
 
@@ -119,7 +122,7 @@ impl HandlerState {
     }
 
     /// The image is held from now on.
-    pub(crate) fn install(&mut self, version: u32, image: KeptImage)
+    pub(crate) fn install(&mut self, version: u32, image: NotedImage)
         ensures { self.new ≡ installs version image self.old }
     {
         self.held = version;
@@ -183,20 +186,20 @@ impl HandlerState {
     }
 
     /// The fragment of the held image at `index`, as it is sent.
-    pub(crate) fn fragment(&self, handler: HandlerId, index: u8) -> Packet
-        requires { index < count_of self.now.image.items }
+    pub(crate) fn fragment(&self, handler: HandlerId, index: u8, image: &Image) -> Packet
+        requires held { image.now ≡ self.now.image }
+        requires below { index < count_of self.now.image.items }
         ensures value { result ≡ fragment_of handler.0 self.now.held self.now.image.items index }
         ensures right { (n : ℕ) → handler.0 < n → 1 ≤ self.now.held → IsRightPacket n result }
     {
-        let image = self.image.image();
-        let Some(bytes) = fragment(&image, index) else {
+        let Some(bytes) = fragment(image, index) else {
             unreachable!()
         };
         Packet::Fragment {
             handler,
             version: self.held,
             index,
-            count: count(&image),
+            count: count(image),
             large: image.len() > SHORT_IMAGE,
             bytes,
         }

@@ -1,11 +1,11 @@
 //! The states of all handlers, in order.
 
-ghost use Rattle.std.specs.Prelude.{◌≡◌, ◌*◌, ◌<◌, ◌≤◌, [], length, map, slice_set, is_some, IfSome, IsTrue, MatchBool, find};
+ghost use Rattle.std.specs.Prelude.{◌≡◌, ◌*◌, ◌<◌, ◌≤◌, [], length, map, is_some, IfSome, IsTrue, MatchBool, find};
 ghost use Rattle.mate_num.specs.declared.bounds.TheConstants.{FRAGMENTS_MAX, HANDLERS_MAX};
 ghost use Rattle.capsule_exchange.specs.Happenings.{next_place, slots_from};
 ghost use Rattle.capsule_exchange.specs.Sound.{AreSound};
 ghost use Rattle.capsule_exchange.specs.Marks.{HasMark, HasNoMark};
-ghost use Rattle.capsule_exchange.specs.Steps.{state_at, hears_status, hears_fragment, after_sending, installs, forgets, aimed_each, asks_upto, is_marked_in, next_in};
+ghost use Rattle.capsule_exchange.specs.Steps.{forgets, aimed_each, asks_upto, is_marked_in, next_in};
 
 use crate::handler_state::{Form, HandlerState};
 use arrayvec::ArrayVec;

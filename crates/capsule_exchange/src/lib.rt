@@ -7,8 +7,14 @@ mod handlers;
 mod kept_image;
 mod kept_piece;
 pub mod laws;
+mod noted_image;
 mod pieces;
+pub mod progress;
+pub mod stored_exchange;
 mod summary;
+mod unseen_image;
 
 pub use exchange::{Exchange, Heard};
 pub use laws::{fragments_go_together, gaps_are_asked_for};
+pub use progress::Outcome;
+pub use stored_exchange::StoredExchange;

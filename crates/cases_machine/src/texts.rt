@@ -22,7 +22,7 @@ fn list_of(alloc: Global, case: &str) -> Result<Texts, NoMemory> {
 
 fn parts(alloc: Global, mut texts: Texts) -> Result<String, AllocError> {
     let whole = whole(alloc, &texts)?;
-    texts.truncate(1);
+    texts.cut(1);
     format!(in alloc; "{whole} {}{}", text_at(&texts, 0), text_at(&texts, 1))
 }
 

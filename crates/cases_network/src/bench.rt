@@ -73,17 +73,12 @@ impl Bench {
     }
 
     /// The node sends a packet in the last event.
-    pub fn transmit(
-        &mut self,
-        desc: &Description,
-        node: u8,
-        bytes: &PacketBytes,
-    ) -> Result<Step, NoMemory> {
+    pub fn transmit(&mut self, node: u8, bytes: &PacketBytes) -> Result<Step, NoMemory> {
         if self.time > HOUR || self.radio.aired() >= 1_000_000 {
             return Ok(Step::Refused);
         }
         let at = self.stamp();
-        self.radio.transmit(desc, node, bytes, at)?;
+        self.radio.transmit(node, bytes, at)?;
         Ok(Step::Done)
     }
 

@@ -1,12 +1,11 @@
 //! Random exchanges of two nodes with two handlers, from the first number of the stream: how many requests and how many
 //! fragments were sent, how many of both were lost, how many images became complete, and the sum over all that was sent.
 
-ghost use Rattle.std.specs.Prelude.{◌≡◌, ◌<◌, [], length, IsTrue};
+ghost use Rattle.std.specs.Prelude.{◌≡◌, ◌<◌, length, IsTrue};
 ghost use Rattle.packet_codec.specs.Packet.{IsRightPacket};
 
-use arrayvec::ArrayVec;
 use capsule_exchange::{Exchange, Heard};
-use mate_num::{FRAGMENTS_MAX, HandlerId, Image, NoMemory};
+use mate_num::{FRAGMENTS_MAX, HandlerId, Image};
 use packet_codec::Packet;
 use std::alloc::{AllocError, Global};
 
@@ -14,9 +13,7 @@ pub fn answer(alloc: Global, case: &str) -> Result<String, AllocError> {
     let Ok(state) = case.parse::<u32>() else {
         return "no number".to_string(alloc);
     };
-    let Ok(mut air) = Air::new(alloc, state) else {
-        return Err(AllocError);
-    };
+    let mut air = Air::new(state);
     for number in 0..300 {
         if air.turn(number).is_none() {
             return format!(in alloc; "stopped at {number}");
@@ -157,13 +154,11 @@ fn is_right(handlers: usize, packet: &Packet) -> bool
 }
 
 // The node receives the packet, which is right for it, and asks for what it lacks.
-fn hear(node: &mut Exchange, packet: &Packet, asks: &mut ArrayVec<Packet, 8>) -> Option<Heard>
-    requires { asks.old.items ≡ [] }
-{
+fn hear(node: &mut Exchange, packet: &Packet) -> Option<Heard> {
     if !is_right(node.handlers(), packet) {
         return None;
     }
-    Some(node.hear(packet, asks))
+    Some(node.hear(packet))
 }
 
 // The node installs an image of a newer version.
@@ -174,7 +169,8 @@ fn install(node: &mut Exchange, handler: HandlerId, version: u32, image: &Image)
     if node.held(handler) >= version {
         return None;
     }
-    node.installed(handler, version, image).ok()
+    node.installed(handler, version, image);
+    Some(())
 }
 
 // The image that the node has collected of the handler.
@@ -195,9 +191,9 @@ struct Air {
 
 impl Air {
     // Two nodes that hold nothing, and the stream that begins with a number.
-    fn new(alloc: Global, state: u32) -> Result<Air, NoMemory> {
-        Ok(Air {
-            nodes: [Exchange::new(alloc, 2)?, Exchange::new(alloc, 2)?],
+    fn new(state: u32) -> Air {
+        Air {
+            nodes: [Exchange::new(2), Exchange::new(2)],
             draws: Draws { state },
             tally: Tally {
                 asks: 0,
@@ -206,7 +202,7 @@ impl Air {
                 complete: 0,
                 sum: state,
             },
-        })
+        }
     }
 
     // A node gets a new version of a handler.
@@ -241,13 +237,12 @@ impl Air {
         requires { node < 2 }
     {
         let vector = self.nodes[node].vector();
-        let mut asks = ArrayVec::new();
-        let heard = hear(&mut self.nodes[1 - node], &vector, &mut asks)?;
+        let heard = hear(&mut self.nodes[1 - node], &vector)?;
         let consistent = heard.consistent?;
         self.tally.add(u32::from(consistent));
-        for ask in asks.as_slice() {
+        for ask in heard.asks.as_slice() {
             if self.carries(ask) {
-                hear(&mut self.nodes[node], ask, &mut ArrayVec::new())?;
+                hear(&mut self.nodes[node], ask)?;
             }
         }
         Some(())
@@ -268,7 +263,7 @@ impl Air {
         if !self.carries(&packet) {
             return Some(());
         }
-        let heard = hear(&mut self.nodes[1 - node], &packet, &mut ArrayVec::new())?;
+        let heard = hear(&mut self.nodes[1 - node], &packet)?;
         match (heard.complete, &packet) {
             (Some(handler), Packet::Fragment { version, .. }) => {
                 self.complete(1 - node, handler, *version)

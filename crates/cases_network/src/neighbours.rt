@@ -2,11 +2,10 @@
 //! `vector NODE`, `marked NODE`, `pump NODE`, `collected NODE HANDLER` and `forget NODE`, with images and packets in
 //! hexadecimal digits. `hold` and `forget` print nothing.
 
-use arrayvec::ArrayVec;
 use capsule_codec::from_hex;
 use capsule_exchange::{Exchange, Heard};
 use mate_num::HandlerId;
-use packet_codec::{Packet, decode};
+use packet_codec::decode;
 use std::alloc::{AllocError, Global};
 use vm_shape::Description;
 
@@ -15,13 +14,7 @@ pub fn answer(alloc: Global, desc: &Description, case: &str) -> Result<String, A
     if handlers < 1 || handlers > 8 {
         return "no handlers".to_string(alloc);
     }
-    let (Ok(one), Ok(other)) = (
-        Exchange::new(alloc, handlers as u8),
-        Exchange::new(alloc, handlers as u8),
-    ) else {
-        return Err(AllocError);
-    };
-    let mut nodes = [one, other];
+    let mut nodes = [Exchange::new(handlers as u8), Exchange::new(handlers as u8)];
     let mut line = String::new(alloc);
     for step in case.split(", ") {
         let answer = taken(alloc, desc, &mut nodes, step)?;
@@ -68,11 +61,11 @@ fn hear(
     };
     match decode(desc, bytes.as_slice()) {
         Ok(packet) if node.handlers() == desc.handlers.len() => {
-            let mut asks: ArrayVec<Packet, 8> = ArrayVec::new();
             let Heard {
                 consistent,
+                asks,
                 complete,
-            } = node.hear(&packet, &mut asks);
+            } = node.hear(&packet);
             format!(in alloc;
                 "Heard {{ consistent: {consistent:?}, asks: {asks:?}, complete: {complete:?} }}"
             )
@@ -106,8 +99,6 @@ fn hold(alloc: Global, node: &mut Exchange, held: &str) -> Result<String, AllocE
     {
         return "no newer version".to_string(alloc);
     }
-    let Ok(()) = node.installed(handler, version, &image) else {
-        return Err(AllocError);
-    };
+    node.installed(handler, version, &image);
     Ok(String::new(alloc))
 }

@@ -32,7 +32,7 @@ fn asked_of(
     asked: &str,
 ) -> Result<String, NoMemory> {
     match Bench::new(alloc, desc, script)? {
-        Some(mut bench) => asked_on(alloc, table, desc, &mut bench, asked),
+        Some(mut bench) => asked_on(alloc, table, &mut bench, asked),
         None => Ok("no world".to_string(alloc)?),
     }
 }
@@ -40,13 +40,12 @@ fn asked_of(
 fn asked_on(
     alloc: Global,
     table: &str,
-    desc: &Description,
     bench: &mut Bench,
     asked: &str,
 ) -> Result<String, NoMemory> {
     match table {
         "queues" => queues::answer(alloc, bench, asked),
-        "transmissions" => transmissions::answer(alloc, desc, bench, asked),
+        "transmissions" => transmissions::answer(alloc, bench, asked),
         "loads" => loads::answer(alloc, bench, asked),
         _ => Ok("no table".to_string(alloc)?),
     }

@@ -8,7 +8,6 @@ use mate_journal::{Air, Aired};
 use mate_num::{NoMemory, PacketBytes};
 use radio_sim::Event;
 use std::alloc::Global;
-use vm_shape::Description;
 
 /// A packet that is to be sent.
 #[derive(Drop)]
@@ -17,12 +16,7 @@ struct Packet {
     bytes: PacketBytes,
 }
 
-pub fn answer(
-    alloc: Global,
-    desc: &Description,
-    bench: &mut Bench,
-    asked: &str,
-) -> Result<String, NoMemory> {
+pub fn answer(alloc: Global, bench: &mut Bench, asked: &str) -> Result<String, NoMemory> {
     let mut packets = Vec::new(alloc);
     for word in asked.split(' ') {
         let Some((time, packet)) = packet_of(word) else {
@@ -34,7 +28,7 @@ pub fn answer(
         bench.schedule(time, Event::Planned(line))?;
         packets.push(packet)?;
     }
-    run(desc, bench, packets.as_slice())?;
+    run(bench, packets.as_slice())?;
     aired(alloc, bench)
 }
 
@@ -54,13 +48,13 @@ fn bytes_of(digits: &str) -> Option<PacketBytes> {
 }
 
 /// Sends the packets at their times, and records where they arrive.
-fn run(desc: &Description, bench: &mut Bench, packets: &[Packet]) -> Result<(), NoMemory> {
+fn run(bench: &mut Bench, packets: &[Packet]) -> Result<(), NoMemory> {
     for _ in 0..1_000_000 {
         let Some((_, event)) = bench.next() else {
             break;
         };
         match event {
-            Event::Planned(line) => send(desc, bench, packets, line)?,
+            Event::Planned(line) => send(bench, packets, line)?,
             Event::Deliver { link, number, .. } => bench.note(link, number)?,
             _ => Step::Refused,
         };
@@ -68,14 +62,9 @@ fn run(desc: &Description, bench: &mut Bench, packets: &[Packet]) -> Result<(), 
     Ok(())
 }
 
-fn send(
-    desc: &Description,
-    bench: &mut Bench,
-    packets: &[Packet],
-    line: u32,
-) -> Result<Step, NoMemory> {
+fn send(bench: &mut Bench, packets: &[Packet], line: u32) -> Result<Step, NoMemory> {
     match packets.get(line as usize) {
-        Some(packet) => bench.transmit(desc, packet.node, &packet.bytes),
+        Some(packet) => bench.transmit(packet.node, &packet.bytes),
         None => Ok(Step::Refused),
     }
 }

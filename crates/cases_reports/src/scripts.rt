@@ -54,8 +54,7 @@ fn step_text(alloc: Global, step: &Step) -> Result<String, AllocError> {
         }
         Step::Load { program } => format!(in alloc; "Load {{ program: {program} }}"),
         Step::Post { handler, payload } => {
-            let values = payload.payload();
-            format!(in alloc; "Post {{ handler: {handler:?}, payload: {values:?} }}")
+            format!(in alloc; "Post {{ handler: {handler:?}, payload: {payload:?} }}")
         }
         Step::Step { ctx, n } => format!(in alloc; "Step {{ ctx: ContextId({}), n: {n} }}", ctx.0),
         Step::Run => "Run".to_string(alloc),

@@ -8,13 +8,13 @@ use crate::same::are_same;
 use crate::stopped::stopped;
 use command_steps::machine_of;
 use mate_files::{FILE_MAX, MemFiles};
-use mate_journal::{Programs, Report, RunFault};
+use mate_journal::{Report, RunFault, StoredPrograms};
 use report_text::read;
 use script_reader::world_script;
 use script_steps::World;
 use std::alloc::{AllocError, Global};
 use vm_shape::Description;
-use world_sim::run;
+use world_sim::run_stored;
 
 /// The most bytes of a report.
 const REPORT_MAX: usize = 4_000_000_000;
@@ -105,12 +105,12 @@ fn ran(
     alloc: Global,
     desc: &Description,
     world: &World,
-    programs: &Programs,
+    programs: &StoredPrograms,
     report: &str,
 ) -> Result<String, AllocError>
     requires { AreProgramsOfWorld desc.now world.now programs.now }
 {
-    match run(alloc, desc, world, programs) {
+    match run_stored(alloc, desc, world, programs) {
         Ok(made) => told(alloc, desc, "whole", &made, report),
         Err(RunFault::LogFull(made)) => told(alloc, desc, "full", &made, report),
         Err(RunFault::NoMemory) => "no memory".to_string(alloc),

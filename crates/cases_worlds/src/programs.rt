@@ -7,7 +7,7 @@ ghost use Rattle.node_programs.specs.WorldPrograms.{IsProgramOfWhat};
 
 use command_programs::{programs_of, script_of};
 use mate_files::MemFiles;
-use mate_journal::Programs;
+use mate_journal::StoredPrograms;
 use mate_num::HandlerId;
 use script_steps::{Planned, What, World};
 use std::alloc::{AllocError, Global};
@@ -19,7 +19,7 @@ pub fn programs_of_script(
     files: &mut MemFiles,
     desc: &Description,
     script: &str,
-) -> Result<Option<Programs>, AllocError>
+) -> Result<Option<StoredPrograms>, AllocError>
     ensures { IfOk result (λ found. IfSome found (AreRightPrograms desc.now)) }
 {
     let installs = installs_of(alloc, script)?;
@@ -45,7 +45,7 @@ fn installs_of(alloc: Global, script: &str) -> Result<String, AllocError> {
 }
 
 /// Whether each file has a program, and each injection one of its handler and version.
-pub fn are_of(world: &World, programs: &Programs) -> bool
+pub fn are_of(world: &World, programs: &StoredPrograms) -> bool
     ensures { IsTrue result ↔ (length programs.now ≡ length world.now.files)
         × All (λ (p : PlannedEvent). IsProgramOfWhat programs.now p.what) world.now.events }
 {
@@ -53,7 +53,7 @@ pub fn are_of(world: &World, programs: &Programs) -> bool
 }
 
 /// Whether each injection has a program of its handler and version.
-fn have_theirs(events: &[Planned], programs: &Programs) -> bool
+fn have_theirs(events: &[Planned], programs: &StoredPrograms) -> bool
     ensures { IsTrue result ↔ All (λ (p : PlannedEvent). IsProgramOfWhat programs.now p.what) events.now }
 {
     for planned in events {
@@ -65,7 +65,7 @@ fn have_theirs(events: &[Planned], programs: &Programs) -> bool
 }
 
 /// Whether it is no injection, or has a program of its handler and version.
-fn has_its(what: &What, programs: &Programs) -> bool
+fn has_its(what: &What, programs: &StoredPrograms) -> bool
     ensures { IsTrue result ↔ IsProgramOfWhat programs.now what.now }
 {
     match what {
@@ -82,7 +82,7 @@ fn has_its(what: &What, programs: &Programs) -> bool
 }
 
 /// Whether the program at a place is for the handler and has this version.
-fn is_at(programs: &Programs, place: u32, handler: HandlerId, version: u32) -> bool
+fn is_at(programs: &StoredPrograms, place: u32, handler: HandlerId, version: u32) -> bool
     ensures { IsTrue result ↔ IsSomeAnd (slice_get programs.now place) (λ p. (p.handler ≡ handler) × (p.version ≡ version)) }
 {
     match programs.get(place as usize) {

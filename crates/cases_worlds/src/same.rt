@@ -1,7 +1,8 @@
 //! Whether two reports say the same.
 
 use mate_files::{MemSink, SinkFault};
-use mate_journal::{Aired, Images, NodeLog, Report, StoreRef, Stores};
+use mate_journal::{Aired, NodeLog, Report};
+use mate_num::{Image, Store};
 use report_writer::write_event;
 use std::alloc::Global;
 use vm_shape::Description;
@@ -30,17 +31,11 @@ fn are_same_logs(alloc: Global, desc: &Description, a: &NodeLog, b: &NodeLog) ->
         && are_same_lines(lines(alloc, desc, &[], a), lines(alloc, desc, &[], b))
 }
 
-fn are_same_images(a: &Images, b: &Images) -> bool {
+fn are_same_images(a: &[Image], b: &[Image]) -> bool {
     if a.len() != b.len() {
         return false;
     }
-    for index in 0..a.len() {
-        let Some(one) = a.get(index) else {
-            return false;
-        };
-        let Some(other) = b.get(index) else {
-            return false;
-        };
+    for (one, other) in a.iter().zip(b) {
         if one.as_slice() != other.as_slice() {
             return false;
         }
@@ -48,30 +43,24 @@ fn are_same_images(a: &Images, b: &Images) -> bool {
     true
 }
 
-fn are_same_stores(a: &Stores, b: &Stores) -> bool {
+fn are_same_stores(a: &[Store], b: &[Store]) -> bool {
     if a.len() != b.len() {
         return false;
     }
-    for index in 0..a.len() {
-        let Some(one) = a.get(index) else {
-            return false;
-        };
-        let Some(other) = b.get(index) else {
-            return false;
-        };
-        if !are_same_values(&one, &other) {
+    for (one, other) in a.iter().zip(b) {
+        if !are_same_values(one, other) {
             return false;
         }
     }
     true
 }
 
-fn are_same_values(a: &StoreRef, b: &StoreRef) -> bool {
-    if a.shared() != b.shared() || a.buffers() != b.buffers() {
+fn are_same_values(a: &Store, b: &Store) -> bool {
+    if a.shared.as_slice() != b.shared.as_slice() || a.buffers.len() != b.buffers.len() {
         return false;
     }
-    for buffer in 0..a.buffers() {
-        if a.buffer(buffer) != b.buffer(buffer) {
+    for (one, other) in a.buffers.as_slice().iter().zip(b.buffers.as_slice()) {
+        if one.as_slice() != other.as_slice() {
             return false;
         }
     }

@@ -6,12 +6,12 @@ ghost use Rattle.node_programs.specs.WorldPrograms.{AreProgramsOfWorld};
 use crate::same::are_same;
 use crate::scarce::ScarceSink;
 use mate_files::{FILE_MAX, MemSink};
-use mate_journal::{IntoFault, Programs, Report};
+use mate_journal::{IntoFault, Report, StoredPrograms};
 use report_text::read;
 use script_steps::World;
 use std::alloc::{AllocError, Global};
 use vm_shape::Description;
-use world_sim::run_into;
+use world_sim::run_stored_into;
 
 /// The most writes of a run.
 const WRITES_MAX: u64 = 100_000;
@@ -50,7 +50,7 @@ pub(crate) fn stopped(
     alloc: Global,
     desc: &Description,
     world: &World,
-    programs: &Programs,
+    programs: &StoredPrograms,
     text: &str,
 ) -> Result<String, AllocError>
     requires { AreProgramsOfWorld desc.now world.now programs.now }
@@ -74,7 +74,7 @@ fn failed_at(
     alloc: Global,
     desc: &Description,
     world: &World,
-    programs: &Programs,
+    programs: &StoredPrograms,
     text: &str,
     call: u64,
 ) -> Result<Stop, AllocError>
@@ -82,7 +82,7 @@ fn failed_at(
 {
     let mut sink = MemSink::new(alloc);
     let _ = sink.fail_at(call);
-    match run_into(alloc, desc, world, programs, &mut sink) {
+    match run_stored_into(alloc, desc, world, programs, &mut sink) {
         Ok(_) if sink.bytes() == text.as_bytes() => Ok(Stop::Unstopped),
         Err(IntoFault::Sink(report)) => Stop::by(alloc, desc, text, sink.bytes(), &report),
         _ => Ok(Stop::Wrongly),
@@ -94,7 +94,7 @@ fn refused_at(
     alloc: Global,
     desc: &Description,
     world: &World,
-    programs: &Programs,
+    programs: &StoredPrograms,
     text: &str,
     call: u64,
 ) -> Result<Stop, AllocError>
@@ -102,7 +102,7 @@ fn refused_at(
     requires first { 1 ≤ call }
 {
     let mut sink = ScarceSink::new(alloc, call - 1);
-    match run_into(alloc, desc, world, programs, &mut sink) {
+    match run_stored_into(alloc, desc, world, programs, &mut sink) {
         Ok(_) if sink.bytes() == text.as_bytes() => Ok(Stop::Unstopped),
         Err(IntoFault::NoMemory(report)) => Stop::by(alloc, desc, text, sink.bytes(), &report),
         _ => Ok(Stop::Wrongly),

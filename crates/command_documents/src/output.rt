@@ -2,7 +2,7 @@
 
 use crate::boxed_machine::BoxedMachine;
 use crate::document::Document;
-use mate_journal::Programs;
+use mate_journal::StoredPrograms;
 use report_writer::Summary;
 use script_steps::{Steps, World};
 use std::mem;
@@ -21,9 +21,9 @@ pub enum Output {
 #[derive(Drop)]
 pub enum Run {
     /// The run of a script on one node.
-    Script(BoxedMachine, Steps, Programs),
+    Script(BoxedMachine, Steps, StoredPrograms),
     /// The run of a world.
-    World(BoxedMachine, World, Programs),
+    World(BoxedMachine, World, StoredPrograms),
 }
 
 /// All that has to be dropped is dropped in one function, so each place at which an output ends has one call.

@@ -1,7 +1,7 @@
 -- What a call comes to if nothing is in its way.
-use Rattle.std.specs.Prelude.{◌≡◌, ◌⊎◌, ℕ, true, false, List, Some, Ok, Err, IsTrue}
+use Rattle.std.specs.Prelude.{◌≡◌, ◌⊎◌, ℕ, true, false, List, None, Some, Ok, Err, IsTrue}
 use Rattle.command_laws.specs.Texts.{IsOutputText}
-use Rattle.mate_cli.specs.Ends.{Owes, Sinks, RefusesTo}
+use Rattle.mate_cli.specs.Ends.{Owes, Sinks, TellsEnding}
 use Rattle.command_documents.specs.Owed.{Owed}
 use Rattle.mate_files.specs.Counts.{Rose}
 use Rattle.mate_files.specs.Files.{Names}
@@ -9,7 +9,7 @@ use Rattle.mate_files.specs.Sink.{Sent}
 use Rattle.command_refusals.specs.declared.refusal.Refusal.{Refusal}
 use Rattle.command_refusals.specs.declared.refusal.Refusal.TheVariants.{LogFull, NoMemory}
 use Rattle.command_refusals.specs.declared.status.Status.{Status}
-use Rattle.command_refusals.specs.declared.status.Status.TheVariants.{Ok as AllDone, NoMemory as OutOfMemory}
+use Rattle.command_refusals.specs.declared.status.Status.TheVariants.{NoMemory as OutOfMemory}
 use Rattle.command_steps.specs.OneAnswer.{steady}
 use Rattle.command_steps.specs.Parts.{Folder}
 
@@ -19,15 +19,15 @@ pub record IsUnhindered (f : Folder) (names : Names) (words : List (List ℕ)) (
   pub told : f.told ≡ Some names
   pub owed : (r : Refusal) → Owes (steady names) words (Err r) → r ≡ NoMemory
   pub read : IsTrue f.steady ⊎ (Rose before now → ⊥)
-  pub put : Rose s.out_faults t.out_faults → ⊥
+  pub put : Rose s.out.faults t.out.faults → ⊥
 
 -- How it ends.
 pub data Completes (names : Names) (words : List (List ℕ)) (s t : Sinks) (status : Status) : Type 0 where
   -- the whole text that is owed was written, and no refusal
-  whole : (o : Owed) → Owes (steady names) words (Ok o) → (bs : List ℕ) → IsOutputText false o bs → Sent s.out t.out bs → t.err ≡ s.err
-      → status ≡ AllDone → Completes names words s t status
+  whole : (o : Owed) → Owes (steady names) words (Ok o) → (bs : List ℕ) → IsOutputText false o bs → Sent s.out.written t.out.written bs
+      → TellsEnding None s.err t.err status → Completes names words s t status
   -- the whole text of a run that a full log ended
-  full : (o : Owed) → Owes (steady names) words (Ok o) → (bs : List ℕ) → IsOutputText true o bs → Sent s.out t.out bs
-      → RefusesTo s t LogFull status → Completes names words s t status
+  full : (o : Owed) → Owes (steady names) words (Ok o) → (bs : List ℕ) → IsOutputText true o bs → Sent s.out.written t.out.written bs
+      → TellsEnding (Some LogFull) s.err t.err status → Completes names words s t status
   -- memory ran out
   wanting : status ≡ OutOfMemory → Completes names words s t status

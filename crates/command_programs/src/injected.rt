@@ -10,7 +10,7 @@ ghost use Rattle.node_programs.specs.WorldPrograms.{AreProgramsOfWorld};
 use crate::programs_of;
 use command_refusals::Refusal;
 use mate_files::Files;
-use mate_journal::Programs;
+use mate_journal::StoredPrograms;
 use mate_num::{NoMemory, Text};
 use script_steps::{Planned, Step, Steps, What, World};
 use std::alloc::Global;
@@ -24,7 +24,7 @@ pub fn programs_of_world<F: Files>(
     desc: &Description,
     fold: bool,
     world: &World,
-) -> Result<Programs, Refusal>
+) -> Result<StoredPrograms, Refusal>
     requires right { IsRightWorld desc.now world.now }
     requires in_order { InjectsInOrder world.now }
     ensures does { world_programs (record { told = F.contents files.old; steady = F.steady files.old }) desc.now fold world.now result }

@@ -14,7 +14,7 @@ ghost use Rattle.node_programs.specs.WorldPrograms.{AreProgramsOfWorld};
 use crate::SharedSource;
 use command_refusals::Refusal;
 use command_steps::compiled_bytes;
-use mate_journal::{Program, Programs};
+use mate_journal::{StoredProgram, StoredPrograms};
 use mate_num::{HandlerId, Texts};
 use script_reader::{generate, sources_law};
 use script_steps::World;
@@ -25,7 +25,7 @@ use vm_shape::Description;
 #[derive(Drop)]
 pub struct MadeWorld {
     pub world: World,
-    pub programs: Programs,
+    pub programs: StoredPrograms,
 }
 
 /// The world of a number on the machine, with the programs of its sources, which are folded before they are compiled where
@@ -56,14 +56,14 @@ fn programs_of_sources(
     desc: &Description,
     fold: bool,
     sources: &Texts,
-) -> Result<Programs, Refusal>
+) -> Result<StoredPrograms, Refusal>
     requires { sources.now ≡ made_sources desc.now }
     ensures memory { IfErr result (λ r. r ≡ NoMemory) }
     ensures programs { IfOk result (AreOfVersions desc.now fold) }
 {
     sources_law();
     sources_are_short();
-    let mut programs = Programs::new(alloc);
+    let mut programs = StoredPrograms::new(alloc);
     let handlers = desc.handlers.len();
     let texts = sources.as_slice();
     add_version(alloc, desc, fold, 1, texts[0].as_str(), &mut programs)?;
@@ -85,7 +85,7 @@ fn add_version(
     fold: bool,
     version: u32,
     source: &str,
-    programs: &mut Programs,
+    programs: &mut StoredPrograms,
 ) -> Result<(), Refusal>
     requires sound { IsSoundSource desc.now source.now }
     requires short { length source.now ≤ 1000 }
@@ -102,7 +102,7 @@ fn add_version(
 
 /// Appends a program.
 #[inline(never)]
-fn push(programs: &mut Programs, program: Program) -> Result<(), Refusal>
+fn push(programs: &mut StoredPrograms, program: StoredProgram) -> Result<(), Refusal>
     ensures items { OnOk result (programs.new ≡ programs.old ++ program ∷ []) }
     ensures memory { IfErr result (λ r. r ≡ NoMemory) }
 {
@@ -126,7 +126,7 @@ fn made_program(
     handler: HandlerId,
     version: u32,
     source: &str,
-) -> Result<Program, Refusal>
+) -> Result<StoredProgram, Refusal>
     requires sound { IsSoundSource desc.now source.now }
     requires short { length source.now ≤ 1000 }
     requires handler { handler.0 < length desc.now.handlers.items }

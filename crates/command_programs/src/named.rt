@@ -13,7 +13,7 @@ use crate::{programs_of, script_in};
 use command_refusals::Refusal;
 use command_steps::read_file;
 use mate_files::Files;
-use mate_journal::Programs;
+use mate_journal::StoredPrograms;
 use script_steps::{Lines, Words};
 use std::alloc::Global;
 use vm_shape::Description;
@@ -27,7 +27,7 @@ pub fn programs_named<F: Files>(
     desc: &Description,
     fold: bool,
     name: &str,
-) -> Result<Programs, Refusal>
+) -> Result<StoredPrograms, Refusal>
     ensures does { programs_named (record { told = F.contents files.old; steady = F.steady files.old }) desc.now fold name.now result }
     ensures reads { ReadsFiles (F.contents files.old) (F.steady files.old) (F.faults files.old) (F.contents files.new)
         (F.steady files.new) (F.faults files.new) result }
@@ -49,7 +49,7 @@ fn programs_in_world<F: Files>(
     desc: &Description,
     fold: bool,
     bytes: &[u8],
-) -> Result<Programs, Refusal>
+) -> Result<StoredPrograms, Refusal>
     requires { length bytes.now ≤ FILE_MAX }
     ensures does { programs_by true (record { told = F.contents files.old; steady = F.steady files.old }) desc.now fold bytes.now result }
     ensures reads { ReadsFiles (F.contents files.old) (F.steady files.old) (F.faults files.old) (F.contents files.new)
@@ -68,7 +68,7 @@ fn programs_in_script<F: Files>(
     desc: &Description,
     fold: bool,
     bytes: &[u8],
-) -> Result<Programs, Refusal>
+) -> Result<StoredPrograms, Refusal>
     requires { length bytes.now ≤ FILE_MAX }
     ensures does { programs_by false (record { told = F.contents files.old; steady = F.steady files.old }) desc.now fold bytes.now result }
     ensures reads { ReadsFiles (F.contents files.old) (F.steady files.old) (F.faults files.old) (F.contents files.new)

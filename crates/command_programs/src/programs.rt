@@ -15,7 +15,7 @@ use crate::known::{KnownSources, source_of};
 use command_refusals::Refusal;
 use command_steps::capsule_of;
 use mate_files::Files;
-use mate_journal::{Program, Programs};
+use mate_journal::{StoredProgram, StoredPrograms};
 use mate_num::{HandlerId, Text};
 use script_steps::{Step, Steps};
 use std::alloc::Global;
@@ -29,7 +29,7 @@ pub fn programs_of<F: Files>(
     desc: &Description,
     fold: bool,
     script: &Steps,
-) -> Result<Programs, Refusal>
+) -> Result<StoredPrograms, Refusal>
     requires right { IsRightSteps desc.now script.now }
     requires in_order { NamesInOrder script.now }
     ensures does { script_programs (record { told = F.contents files.old; steady = F.steady files.old }) desc.now fold script.now result }
@@ -37,7 +37,7 @@ pub fn programs_of<F: Files>(
         (F.steady files.new) (F.faults files.new) result }
     ensures programs { IfOk result (AreProgramsOf desc.now script.now) }
 {
-    let mut programs = Programs::new(alloc);
+    let mut programs = StoredPrograms::new(alloc);
     let mut known = KnownSources::new(alloc);
     let names = script.files();
     let steps = script.steps();
@@ -67,7 +67,7 @@ fn names_file(step: &Step) -> bool
 
 /// Appends a program, if there is one.
 #[inline(never)]
-fn push(programs: &mut Programs, program: Option<Program>) -> Result<(), Refusal>
+fn push(programs: &mut StoredPrograms, program: Option<StoredProgram>) -> Result<(), Refusal>
     ensures items { OnOk result (programs.new ≡ programs.old ++ option_to_list program) }
     ensures memory { IfErr result (λ r. r ≡ NoMemory) }
 {
@@ -90,7 +90,7 @@ fn step_program<F: Files>(
     known: &mut KnownSources,
     names: &[Text],
     step: &Step,
-) -> Result<Option<Program>, Refusal>
+) -> Result<Option<StoredProgram>, Refusal>
     requires right { IsRightStep desc.now (length names.now) step.now }
     requires known { AreKnown desc.now fold known.old }
     ensures does { step_program (record { told = F.contents files.old; steady = F.steady files.old }) desc.now fold names.now step.now
@@ -135,7 +135,7 @@ fn installed<F: Files>(
     handler: HandlerId,
     version: u32,
     name: &str,
-) -> Result<Program, Refusal>
+) -> Result<StoredProgram, Refusal>
     requires handler { handler.0 < length desc.now.handlers.items }
     requires version { 1 ≤ version }
     requires known { AreKnown desc.now fold known.old }
@@ -157,7 +157,7 @@ fn loaded<F: Files>(
     files: &mut F,
     desc: &Description,
     name: &str,
-) -> Result<Program, Refusal>
+) -> Result<StoredProgram, Refusal>
     ensures does { loaded (record { told = F.contents files.old; steady = F.steady files.old }) desc.now name.now result }
     ensures reads { ReadsFiles (F.contents files.old) (F.steady files.old) (F.faults files.old) (F.contents files.new)
         (F.steady files.new) (F.faults files.new) result }
@@ -166,10 +166,5 @@ fn loaded<F: Files>(
     let held = capsule_of(alloc, files, desc, name)?;
     let capsule = &held.capsule;
     let image = stored_image(alloc, capsule)?;
-    Ok(Program {
-        handler: capsule.handler,
-        version: capsule.version,
-        source: None,
-        image,
-    })
+    Ok(StoredProgram::loaded(capsule.handler, capsule.version, image))
 }

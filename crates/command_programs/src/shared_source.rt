@@ -13,18 +13,17 @@ use crate::image::stored_in_place;
 use capsule_codec::CapsuleRef;
 use command_refusals::Refusal;
 use command_steps::CompiledScript;
-use mate_journal::{Program, SharedScript};
-use mate_num::{Code, HandlerId};
+use mate_journal::StoredProgram;
+use mate_num::HandlerId;
 use std::alloc::Global;
 use std::marker::Model;
 use std::rc::Rc;
 use vm_shape::Description;
 
-/// A compiled script, whose tree and code are kept once for all programs that it gives. Contracts see the compiled script.
+/// A compiled script, which is kept once for all that it is known for. Contracts see the compiled script.
 #[derive(Drop)]
 pub struct SharedSource {
-    script: SharedScript,
-    code: Rc<Code>,
+    compiled: Rc<CompiledScript>,
 }
 
 impl Model for SharedSource {
@@ -36,35 +35,28 @@ impl Model for SharedSource {
 
     ghost coded = { Prim.hlevel (codes, coded_script) };
 
-    ghost view = { λ s. record { script = s.script; code = s.code.value } };
+    ghost view = { λ s. s.compiled.value };
 }
 
 impl SharedSource {
-    /// The compiled script, with one owner of its tree.
+    /// The compiled script, with one owner.
     pub fn new(alloc: Global, compiled: CompiledScript) -> Result<SharedSource, Refusal>
         ensures { obtained (λ shared. shared ≡ compiled) result }
     {
-        let CompiledScript { script, code } = compiled;
-        let Ok(script) = SharedScript::new(alloc, script) else {
-            return Err(Refusal::NoMemory);
-        };
-        let Ok(code) = Rc::new(alloc, code) else {
-            return Err(Refusal::NoMemory);
-        };
-        Ok(SharedSource { script, code })
+        match Rc::new(alloc, compiled) {
+            Ok(compiled) => Ok(SharedSource { compiled }),
+            Err(_) => Err(Refusal::NoMemory),
+        }
     }
 
     /// The same source, with one more owner.
     pub fn share(&self) -> Result<SharedSource, Refusal>
         ensures { obtained (λ shared. shared ≡ self.now) result }
     {
-        let Ok(script) = self.script.share() else {
-            return Err(Refusal::NoMemory);
-        };
-        let Ok(code) = self.code.clone() else {
-            return Err(Refusal::NoMemory);
-        };
-        Ok(SharedSource { script, code })
+        match self.compiled.clone() {
+            Ok(compiled) => Ok(SharedSource { compiled }),
+            Err(_) => Err(Refusal::NoMemory),
+        }
     }
 
     /// The program that it gives for a handler of the machine, with a version.
@@ -75,7 +67,7 @@ impl SharedSource {
         desc: &Description,
         handler: HandlerId,
         version: u32,
-    ) -> Result<Program, Refusal>
+    ) -> Result<StoredProgram, Refusal>
         requires handler { handler.0 < length desc.now.handlers.items }
         requires version { 1 ≤ version }
         requires filled { 1 ≤ length self.code.items }
@@ -83,19 +75,15 @@ impl SharedSource {
         ensures right { (fold : Bool) (bytes : List ℕ) (tree : Block) → IsAccepted desc.now bytes tree
             → IsCompiledOf (shape_of desc.now) fold tree self → IfOk result (IsRightProgram desc.now) }
     {
-        let SharedSource { script, code } = self;
+        let SharedSource { compiled } = self;
+        let CompiledScript { script, code } = compiled.as_ref();
         let capsule = CapsuleRef {
             vm_id: desc.vm_id,
             handler,
             version,
-            code: code.as_ref().as_slice(),
+            code: code.as_slice(),
         };
         let image = stored_in_place(alloc, &capsule)?;
-        Ok(Program {
-            handler,
-            version,
-            source: Some(script),
-            image,
-        })
+        Ok(StoredProgram::compiled(handler, version, script, image))
     }
 }

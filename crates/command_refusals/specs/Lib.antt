@@ -8,4 +8,3 @@ pub mod CapsuleCauses
 pub mod ScriptCauses
 pub mod Refutations
 pub mod Refusals
-pub mod Endings

@@ -1,5 +1,5 @@
-//! What the programs refuse: the causes, and for each refusal its status and its line. Also what they do before a command
-//! and after it: how they take their words, and how they write what is left in their buffers, and the line of the status.
+//! What the programs refuse: the causes, and for each refusal its status and its line. Also how they
+//! take their words.
 #![tactic(auto)]
 
 pub mod arguments;
@@ -14,7 +14,6 @@ mod script_cause;
 pub mod source_cause;
 pub mod spelling_cause;
 pub mod status;
-pub mod streams;
 
 pub use arguments::words;
 pub use capsule_cause::CapsuleCause;
@@ -27,4 +26,3 @@ pub use refutation::Refutation;
 pub use source_cause::SourceCause;
 pub use spelling_cause::SpellingCause;
 pub use status::Status;
-pub use streams::{buffers, finished};

@@ -1,10 +1,9 @@
 -- A log that goes on stays in the ranges of its types, if what is added is in them.
 use Rattle.std.proofs.Common.{◌≡◌, ◌≤◌, ◌+◌, ◌-◌, ℕ, zero, suc, List, [], ◌∷◌, ◌++◌, length, map, drop, sym, ◌∙◌, ap, subst, arith}
 use Rattle.std.specs.Prelude.{All}
-use Rattle.std.specs.List.{AllWithin}
 use Rattle.std.proofs.Math.Seq.{drop-append_seam, drop-nil}
-use Rattle.std.proofs.lemmas.List.{drop-map, length-append, length-drop, length-map, get_or-drop}
-use Rattle.std.proofs.lemmas.List.Elements.{All-nil, All-cons, All-head, All-tail, All-append, All-from_get_or}
+use Rattle.std.proofs.lemmas.List.{drop-map, length-append, length-drop, length-map}
+use Rattle.std.proofs.lemmas.List.Elements.{All-nil, All-cons, All-head, All-tail, All-append}
 use Rattle.arrayvec.specs.ArrayVec.{ArrayVec}
 use Rattle.mate_num.specs.declared.store.Store.{Store}
 use Rattle.mate_journal.specs.Log.{Log, IsEmpty, IsSameLog, GoesOn}
@@ -23,12 +22,6 @@ pub drop-drop : {A : Type 0} (m n : ℕ) (xs : List A) → drop n (drop m xs) �
 drop-drop zero n xs = let e : n ≡ 0 + n = omega arith in ap (λ (k : ℕ). drop k xs) e
 drop-drop (suc m) n [] = drop-nil n ∙ sym (drop-nil (suc m + n))
 drop-drop (suc m) n (x ∷ xs) = let e : suc (m + n) ≡ suc m + n = omega arith in drop-drop m n xs ∙ ap (λ (k : ℕ). drop k (x ∷ xs)) e
-
--- what holds of each from a place on holds of all behind it
-pub All-behind : {A : Type 0} (P : A → Type 0) (none : A) (xs : List A) (from upto : ℕ) → length xs ≤ upto → AllWithin P xs from upto → All P (drop from xs)
-All-behind P none xs from upto whole all =
-    All-from_get_or P (drop from xs) none
-    (λ i h. subst P (sym (get_or-drop from xs i none)) (all (from + i) none (omega arith) (omega (arith, h, length-drop from xs, whole))))
 
 -- what a list goes on with stands behind what it had
 pub more-is : {A : Type 0} (old new more : List A) → new ≡ old ++ more → drop (length old) new ≡ more

@@ -1,14 +1,14 @@
 //! The law that the numbers of a report are in the ranges of their types, part by part. Each function reads what it
 //! is given, and changes nothing.
 
-ghost use Rattle.std.specs.Prelude.{ℤ, All, drop};
+ghost use Rattle.std.specs.Prelude.{ℤ, All};
 ghost use Rattle.arrayvec.specs.ArrayVec.{ArrayVec};
 ghost use Rattle.mate_journal.specs.Entries.{AreValues};
 ghost use Rattle.mate_journal.specs.Ranges.{IsByteList, HasStampRange, HasAirRanges, HasImageRanges, HasStoreRanges, HasStampedRanges, HasAiredRanges, HasLogRanges, HasReportRanges};
 
 use mate_journal::entry::values_are_in_range;
-use mate_journal::{Air, Aired, ImageRef, Images, NodeLog, Report, Stamped, StoreRef, Stores};
-use mate_num::Stamp;
+use mate_journal::{Air, Aired, NodeLog, Report, Stamped};
+use mate_num::{Image, Payload, Stamp, Store};
 
 /// The numbers of every report are in the ranges of their types. So the text of a tidy report is read as that report.
 pub fn report_is_in_range(report: &Report)
@@ -31,8 +31,8 @@ fn log_is_in_range(log: &NodeLog)
     ensures { HasLogRanges log.now }
 {
     entries_are_in_range(log.entries());
-    images_are_in_range(log.images(), 0);
-    stores_are_in_range(log.stores(), 0);
+    images_are_in_range(log.images());
+    stores_are_in_range(log.stores());
 }
 
 pub(crate) fn entries_are_in_range(entries: &[Stamped])
@@ -64,48 +64,40 @@ fn bytes_are_in_range(bytes: &[u8])
     let _bytes = bytes;
 }
 
-/// The same of the images after the first `from`.
-pub(crate) fn images_are_in_range(images: &Images, from: usize)
-    ensures { All HasImageRanges (drop from images.now.items) }
+pub(crate) fn images_are_in_range(images: &[Image])
+    ensures { All HasImageRanges images.now }
 {
-    for index in from..images.len() {
-        let Some(image) = images.get(index) else {
-            unreachable!()
-        };
-        image_is_in_range(&image);
+    for image in images {
+        image_is_in_range(image);
     }
 }
 
-fn image_is_in_range(image: &ImageRef)
+fn image_is_in_range(image: &Image)
     ensures { HasImageRanges image.now }
 {
     bytes_are_in_range(image.as_slice());
 }
 
-/// The same of the stores after the first `from`.
-pub(crate) fn stores_are_in_range(stores: &Stores, from: usize)
-    ensures { All HasStoreRanges (drop from stores.now.items) }
+pub(crate) fn stores_are_in_range(stores: &[Store])
+    ensures { All HasStoreRanges stores.now }
 {
-    for index in from..stores.len() {
-        let Some(store) = stores.get(index) else {
-            unreachable!()
-        };
-        store_is_in_range(&store);
+    for store in stores {
+        store_is_in_range(store);
     }
 }
 
-fn store_is_in_range(store: &StoreRef)
+fn store_is_in_range(store: &Store)
     ensures { HasStoreRanges store.now }
 {
-    values_are_in_range(store.shared());
-    buffers_are_in_range(store);
+    values_are_in_range(store.shared.as_slice());
+    buffers_are_in_range(store.buffers.as_slice());
 }
 
-fn buffers_are_in_range(store: &StoreRef)
-    ensures { All (λ (b : ArrayVec ℤ). AreValues b.items) store.now.buffers.items }
+fn buffers_are_in_range(buffers: &[Payload])
+    ensures { All (λ (b : ArrayVec ℤ). AreValues b.items) buffers.now }
 {
-    for buffer in 0..store.buffers() {
-        values_are_in_range(store.buffer(buffer));
+    for buffer in buffers {
+        values_are_in_range(buffer.as_slice());
     }
 }
 

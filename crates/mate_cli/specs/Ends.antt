@@ -1,5 +1,6 @@
 -- What a call of the program owes, and how it ends.
-use Rattle.std.specs.Prelude.{◌≡◌, ℕ, Bool, true, false, List, Option, Result, Ok, Err, ⊤, ◌⊎◌}
+use Rattle.std.specs.Prelude.{◌≡◌, ℕ, Bool, true, false, List, Option, None, Some, Result, Ok, Err, ⊤, ⊥, ◌⊎◌}
+use Rattle.std.specs.Io.KnownBytes.{append_known}
 use Rattle.mate_files.specs.Counts.{Rose}
 use Rattle.mate_files.specs.Sink.{Sent, SentPart, SentShort}
 use Rattle.command_line.specs.Commands.{Task, Node, Sim, Gen, Table, Compile, Check, Expand, Feed, Audit, Says, SaysNothing}
@@ -50,62 +51,94 @@ task words = judged (Says words) (λ (_ : ⊤). SaysNothing words) (λ _. Usage)
 abbrev pub Owes : Folder → List (List ℕ) → Result Owed Refusal → Type 0
 Owes f words = task words ▸ command f
 
--- the sinks before the call or after it: what was written, and how many writes failed
-pub record Sinks : Type 0 where
-  pub out : Option (List ℕ)
-  pub out_faults : ℕ
-  pub err : Option (List ℕ)
-  pub err_faults : ℕ
+-- a sink before the call or after it: what was written, and how many writes failed
+pub record SinkState : Type 0 where
+  pub written : Option (List ℕ)
+  pub faults : ℕ
 
--- the refusal's line goes to `err`, and its status comes
-abbrev pub RefusesTo : Sinks → Sinks → Refusal → Status → Type 0
-RefusesTo s t r status = TellsRefusal s.err s.err_faults t.err t.err_faults r status
-
--- How the writing of a text ends that reports a whole run, or one that a full log ended.
-pub data IsTextWritten (bs : List ℕ) (whole : Bool) (s t : Sinks) (status : Status) : Type 0 where
-  -- all of it was written, and no refusal
-  done : whole ≡ true → Sent s.out t.out bs → t.err ≡ s.err → status ≡ AllDone → IsTextWritten bs whole s t status
+-- How the writing of a text ends that reports a whole run, or one that a full log ended: with no refusal, or with this one.
+pub data IsTextWritten (bs : List ℕ) (whole : Bool) (s t : SinkState) (ending : Option Refusal) : Type 0 where
+  -- all of it was written
+  done : whole ≡ true → Sent s.written t.written bs → ending ≡ None → IsTextWritten bs whole s t ending
   -- all of it was written, of a run that a full log ended
-  full : whole ≡ false → Sent s.out t.out bs → RefusesTo s t LogFull status → IsTextWritten bs whole s t status
-  -- `out` failed, and a prefix of it was written that lacks at least its last byte
-  failed : SentShort s.out t.out bs → Rose s.out_faults t.out_faults → RefusesTo s t SinkFault status → IsTextWritten bs whole s t status
+  full : whole ≡ false → Sent s.written t.written bs → ending ≡ Some LogFull → IsTextWritten bs whole s t ending
+  -- the sink failed, and a prefix of it was written that lacks at least its last byte
+  failed : SentShort s.written t.written bs → Rose s.faults t.faults → ending ≡ Some SinkFault → IsTextWritten bs whole s t ending
   -- memory ran out, and a prefix of it was written
-  wanting : SentPart s.out t.out bs → RefusesTo s t NoMemory status → IsTextWritten bs whole s t status
+  wanting : SentPart s.written t.written bs → ending ≡ Some NoMemory → IsTextWritten bs whole s t ending
 
 -- How the writing of a run ends, on nodes of this machine, where these reports are of the run. Its report is that of the events that
 -- ended.
-pub data IsRunWritten (d : Description) (Is : OfRun) (s t : Sinks) (status : Status) : Type 0 where
-  -- the whole text of the report of the whole run was written, and no refusal
-  whole : (r : Report) → Is Whole r → Sent s.out t.out (text d r) → t.err ≡ s.err → status ≡ AllDone
-      → IsRunWritten d Is s t status
+pub data IsRunWritten (d : Description) (Is : OfRun) (s t : SinkState) (ending : Option Refusal) : Type 0 where
+  -- the whole text of the report of the whole run was written
+  whole : (r : Report) → Is Whole r → Sent s.written t.written (text d r) → ending ≡ None → IsRunWritten d Is s t ending
   -- the log was full before an event, and the whole text of the report up to there was written
-  stopped : (r : Report) → Is Full r → Sent s.out t.out (text d r) → RefusesTo s t LogFull status
-      → IsRunWritten d Is s t status
-  -- `out` failed, and a prefix of the report's text was written that lacks at least its last byte, with all lines of its events but those
-  -- of the last one; of a run that was cut no last line was
-  unwritten : (r : Report) → IsWrittenShort d Is s.out t.out r → Rose s.out_faults t.out_faults → RefusesTo s t SinkFault status
-      → IsRunWritten d Is s t status
+  stopped : (r : Report) → Is Full r → Sent s.written t.written (text d r) → ending ≡ Some LogFull → IsRunWritten d Is s t ending
+  -- the sink failed, and a prefix of the report's text was written that lacks at least its last byte, with all lines of its events but
+  -- those of the last one; of a run that was cut no last line was
+  unwritten : (r : Report) → IsWrittenShort d Is s.written t.written r → Rose s.faults t.faults → ending ≡ Some SinkFault
+      → IsRunWritten d Is s t ending
   -- memory ran out; such a prefix was written, or nothing was run
-  cut : (r : Report) → IsNothingRun s.out t.out r ⊎ IsWrittenPart d Is s.out t.out r → RefusesTo s t NoMemory status
-      → IsRunWritten d Is s t status
+  cut : (r : Report) → IsNothingRun s.written t.written r ⊎ IsWrittenPart d Is s.written t.written r → ending ≡ Some NoMemory
+      → IsRunWritten d Is s t ending
 
 -- How the writing of the run's report ends.
-abbrev pub IsReportWritten : Run → Sinks → Sinks → Status → Type 0
-IsReportWritten (run.Script d script ps) s t status = IsRunWritten d (IsReportOf d script ps) s t status
-IsReportWritten (run.World d w ps) s t status = IsRunWritten d (IsReportOfWorld d w ps) s t status
+abbrev pub IsReportWritten : Run → SinkState → SinkState → Option Refusal → Type 0
+IsReportWritten (run.Script d script ps) s t ending = IsRunWritten d (IsReportOf d script ps) s t ending
+IsReportWritten (run.World d w ps) s t ending = IsRunWritten d (IsReportOfWorld d w ps) s t ending
 
 -- How the writing of what is owed ends.
-abbrev pub IsOwedWritten : Owed → Sinks → Sinks → Status → Type 0
-IsOwedWritten (a_text all bs) s t status = IsTextWritten bs all s t status
-IsOwedWritten (a_run r) s t status = IsReportWritten r s t status
+abbrev pub IsOwedWritten : Owed → SinkState → SinkState → Option Refusal → Type 0
+IsOwedWritten (a_text all bs) s t ending = IsTextWritten bs all s t ending
+IsOwedWritten (a_run r) s t ending = IsReportWritten r s t ending
 
--- How a call ends, with the counts of the files' faults before it and after it.
-pub data CallEnds (f : Folder) (words : List (List ℕ)) (before now : ℕ) (s t : Sinks) (status : Status) : Type 0 where
+-- How a call's work ends, with the counts of the files' faults before it and after it.
+pub data WorkEnds (f : Folder) (words : List (List ℕ)) (before now : ℕ) (s t : SinkState) (ending : Option Refusal) : Type 0 where
   -- what is owed was written, as far as it could be
-  written : (o : Owed) → Owes f words (Ok o) → IsOwedWritten o s t status → CallEnds f words before now s t status
+  written : (o : Owed) → Owes f words (Ok o) → IsOwedWritten o s t ending → WorkEnds f words before now s t ending
   -- nothing was written; a file could not be read only if the count rose
-  refused : (r : Refusal) → Owes f words (Err r) → (IsUnreadAnswer {A = Owed} (Err r) → Rose before now) → t.out ≡ s.out
-      → RefusesTo s t r status → CallEnds f words before now s t status
+  refused : (r : Refusal) → Owes f words (Err r) → (IsUnreadAnswer {A = Owed} (Err r) → Rose before now) → t.written ≡ s.written
+      → ending ≡ Some r → WorkEnds f words before now s t ending
+
+-- the status for an ending: if that is a refusal, its line goes to `err`
+abbrev pub TellsEnding : Option Refusal → SinkState → SinkState → Status → Type 0
+TellsEnding None s t status = (t.written ≡ s.written) × (status ≡ AllDone)
+TellsEnding (Some r) s t status = TellsRefusal s.written s.faults t.written t.faults r status
+
+-- the sinks before the call or after it
+pub record Sinks : Type 0 where
+  pub out : SinkState
+  pub err : SinkState
+
+-- How a call ends.
+pub record CallEnds (f : Folder) (words : List (List ℕ)) (before now : ℕ) (s t : Sinks) (status : Status) : Type 0 where
+  pub ending : Option Refusal
+  pub work : WorkEnds f words before now s.out t.out ending
+  pub told : TellsEnding ending s.err t.err status
+
+-- ---- with a buffer before the writer
+
+-- an ending at which all that is owed was written
+abbrev pub IsWhole : Option Refusal → Type 0
+IsWhole ending = (ending ≡ None) ⊎ (ending ≡ Some LogFull)
+
+-- What the writer has got of the bytes that were put: all, or a prefix of them. If all that is owed was put, and the writer may lack some
+-- of it, that is refused.
+pub data IsHandedOn (came : Option Refusal) (put got : Option (List ℕ)) (ending : Option Refusal) : Type 0 where
+  all : got ≡ put → ending ≡ came → IsHandedOn came put got ending
+  lost : (rest : List ℕ) → append_known got rest ≡ put → IsWhole came → ending ≡ Some SinkFault → IsHandedOn came put got ending
+  part : (rest : List ℕ) → append_known got rest ≡ put → (IsWhole came → ⊥) → ending ≡ came → IsHandedOn came put got ending
+
+-- How a call ends that puts its output to a buffer: `out` has what the buffer and the writer held before, and `got` what the writer has at
+-- the end.
+pub record BufferedCallEnds (f : Folder) (words : List (List ℕ)) (before now : ℕ) (out got : Option (List ℕ)) (s t : SinkState)
+    (status : Status) : Type 0 where
+  pub put : SinkState
+  pub came : Option Refusal
+  pub work : WorkEnds f words before now (record { written = out; faults = 0 }) put came
+  pub ending : Option Refusal
+  pub handed_on : IsHandedOn came put.written got ending
+  pub told : TellsEnding ending s t status
 
 -- ---- on the way
 
@@ -115,7 +148,12 @@ run_refusal fault.LogFull = LogFull
 run_refusal fault.NoMemory = NoMemory
 run_refusal fault.Sink = SinkFault
 
--- a fault that ended the writing is reported, and the status comes
-abbrev pub TellsEnd : Result (Unit {0}) WriteFault → Option (List ℕ) → ℕ → Option (List ℕ) → ℕ → Status → Type 0
-TellsEnd (Ok all) err faults err' faults' status = (err' ≡ err) × (status ≡ AllDone)
-TellsEnd (Err why) err faults err' faults' status = TellsRefusal err faults err' faults' (run_refusal why) status
+-- the ending of a writing
+abbrev pub ending_of : Result (Unit {0}) WriteFault → Option Refusal
+ending_of (Ok all) = None
+ending_of (Err why) = Some (run_refusal why)
+
+-- the ending of a call's work
+abbrev pub refusal_in : Result (Unit {0}) Refusal → Option Refusal
+refusal_in (Ok all) = None
+refusal_in (Err r) = Some r

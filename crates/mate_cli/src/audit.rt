@@ -14,7 +14,7 @@ use command_programs::programs_named;
 use command_refusals::{Refusal, Refutation};
 use command_steps::read_file;
 use mate_files::Files;
-use mate_journal::{Programs, Report};
+use mate_journal::{Report, StoredPrograms};
 use report_audit::Verdict;
 use report_text::TextFault;
 use std::alloc::Global;
@@ -57,7 +57,7 @@ fn audit_of<F: Files>(
     alloc: Global,
     files: &mut F,
     desc: &Description,
-    programs: &Programs,
+    programs: &StoredPrograms,
     name: &str,
 ) -> Result<Output, Refusal>
     requires { AreRightPrograms desc.now programs.now }
@@ -108,14 +108,14 @@ fn report_in(alloc: Global, desc: &Description, bytes: &[u8]) -> Result<Report, 
 fn serial(
     alloc: Global,
     desc: &Description,
-    programs: &Programs,
+    programs: &StoredPrograms,
     report: &Report,
 ) -> Result<(), Refusal>
     requires tidy { IsTidy desc.now report.now }
     requires right { AreRightPrograms desc.now programs.now }
     ensures { serial desc.now programs.now report.now result }
 {
-    match report_audit::audit(alloc, desc, programs, report) {
+    match report_audit::audit_stored(alloc, desc, programs, report) {
         Ok(Verdict::Serial) => Ok(()),
         Ok(Verdict::Refuted { node, law }) => Err(Refusal::Refuted(Refutation::Node { node, law })),
         Err(_) => Err(Refusal::NoMemory),

@@ -11,4 +11,4 @@ mod writing;
 
 pub use command_refusals::Status;
 pub use node_runs::{run_steps, run_steps_into};
-pub use top::mate;
+pub use top::{mate, mate_buffered};

@@ -2,7 +2,8 @@
 
 ghost use Rattle.std.specs.Prelude.{◌≡◌, map, string_bytes, IfOk};
 ghost use Rattle.command_line.specs.Commands.{task_held};
-ghost use Rattle.mate_cli.specs.Ends.{CallEnds, Owes, command};
+ghost use Rattle.mate_cli.specs.Ends.{CallEnds, WorkEnds, BufferedCallEnds, Owes, command, refusal_in};
+ghost use Rattle.std.specs.Io.Buffered.{writer_inner, writer_contents};
 ghost use Rattle.command_documents.specs.Outputs.{CanBeWritten, owed_in};
 ghost use Rattle.command_steps.specs.Parts.{ReadsFiles};
 
@@ -11,8 +12,10 @@ use crate::{audit, made, node, sim};
 use command_documents::{Output, check, compile, expand, feed, table};
 use command_line::{Command, WordsFault, command_of};
 use command_refusals::{Refusal, Status};
-use mate_files::{Files, Sink};
+use mate_files::{Files, OsSink, Sink};
+use report_writer::WriteFault;
 use std::alloc::Global;
+use std::io::{BufWriter, Write};
 use std::mem;
 
 /// Runs the command that `words` give, without the program's own name.
@@ -49,16 +52,67 @@ pub fn mate<F: Files, S: Sink, E: Sink>(
 ) -> Status
     ensures { CallEnds (record { told = F.contents files.old; steady = F.steady files.old }) (map string_bytes words.now.items)
         (F.faults files.old) (F.faults files.new)
-        (record { out = S.written out.old; out_faults = S.faults out.old; err = E.written err.old; err_faults = E.faults err.old })
-        (record { out = S.written out.new; out_faults = S.faults out.new; err = E.written err.new; err_faults = E.faults err.new }) result }
+        (record {
+          out = record { written = S.written out.old; faults = S.faults out.old };
+          err = record { written = E.written err.old; faults = E.faults err.old };
+        })
+        (record {
+          out = record { written = S.written out.new; faults = S.faults out.new };
+          err = record { written = E.written err.new; faults = E.faults err.new };
+        }) result }
 {
-    match output_of(alloc, files, words) {
-        Ok(output) => {
-            let status = write_output(alloc, &output, out, err);
-            mem::forget(output);
-            status
-        }
+    match work(alloc, words, files, out) {
+        Ok(()) => Status::Ok,
         Err(refusal) => refusal.refuse(err),
+    }
+}
+
+/// The same call, whose output goes through a buffer to a writer, as to standard output. All of it has come to the writer
+/// at the statuses `Ok` and `LogFull`: if the buffer's last bytes can't be written or flushed, that is a fault of `out`.
+pub fn mate_buffered<F: Files, W: Write + Drop, E: Sink>(
+    alloc: Global,
+    words: &Vec<String>,
+    files: &mut F,
+    out: &mut BufWriter<W>,
+    err: &mut E,
+) -> Status
+    ensures { BufferedCallEnds (record { told = F.contents files.old; steady = F.steady files.old })
+        (map string_bytes words.now.items) (F.faults files.old) (F.faults files.new)
+        (writer_contents W.contents out.old) (W.contents (writer_inner out.new))
+        (record { written = E.written err.old; faults = E.faults err.old })
+        (record { written = E.written err.new; faults = E.faults err.new }) result }
+{
+    let mut sink = OsSink::new(&mut *out);
+    let ended = work(alloc, words, files, &mut sink);
+    let _ = sink.into_inner();
+    let flushed = out.flush().is_ok();
+    match ended {
+        Ok(()) | Err(Refusal::LogFull) if !flushed => Refusal::SinkFault.refuse(err),
+        Ok(()) => Status::Ok,
+        Err(refusal) => refusal.refuse(err),
+    }
+}
+
+/// The work of a call: all but the line for its refusal.
+#[inline(never)]
+fn work<F: Files, S: Sink>(
+    alloc: Global,
+    words: &Vec<String>,
+    files: &mut F,
+    out: &mut S,
+) -> Result<(), Refusal>
+    ensures { WorkEnds (record { told = F.contents files.old; steady = F.steady files.old }) (map string_bytes words.now.items)
+        (F.faults files.old) (F.faults files.new) (record { written = S.written out.old; faults = S.faults out.old })
+        (record { written = S.written out.new; faults = S.faults out.new }) (refusal_in result) }
+{
+    let output = output_of(alloc, files, words)?;
+    let written = write_output(alloc, &output, out);
+    mem::forget(output);
+    match written {
+        Ok(()) => Ok(()),
+        Err(WriteFault::LogFull) => Err(Refusal::LogFull),
+        Err(WriteFault::Sink) => Err(Refusal::SinkFault),
+        Err(WriteFault::NoMemory) => Err(Refusal::NoMemory),
     }
 }
 

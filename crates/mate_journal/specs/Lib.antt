@@ -17,6 +17,4 @@ pub mod Tidy
 pub mod NodeReport
 pub mod OpenLog
 pub mod Ranges
-pub mod Pieces
-pub mod Packed
 pub mod LawWords

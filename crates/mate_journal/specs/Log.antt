@@ -1,5 +1,5 @@
 -- What a contract sees of a node's log: its three lists, and the room that is left in each without memory.
-use Rattle.std.specs.Prelude.{◌≡◌, ◌≤◌, ℕ, List, [], ◌++◌}
+use Rattle.std.specs.Prelude.{◌≡◌, ℕ, List, [], ◌++◌}
 use Rattle.arrayvec.specs.ArrayVec.{ArrayVec}
 use Rattle.mate_num.specs.declared.store.Store.{Store}
 use Rattle.mate_journal.specs.declared.entry.Stamped.{Stamped}
@@ -9,11 +9,6 @@ pub record Log : Type 0 where
   pub images : List (ArrayVec ℕ)
   pub stores : List Store
   pub spare : ℕ
-
--- for so many more images, and for as many more stores, there is room
-pub record HaveReady (ready images stores : ℕ) : Type 0 where
-  pub images_fit : ready ≤ images
-  pub stores_fit : ready ≤ stores
 
 -- the three lists are the same
 pub record IsSameLog (a b : Log) : Type 0 where

@@ -2,31 +2,23 @@
 #![tactic(auto)]
 
 pub mod air;
-mod cuts;
 pub mod entry;
-pub mod has_store;
-pub mod images;
 pub mod law;
 pub mod node_log;
 pub mod open_log;
 pub mod past;
-mod pieces;
 pub mod program;
 pub mod report;
-pub mod shared_script;
 pub mod stored_image;
-pub mod stores;
+pub mod stored_program;
 
 pub use air::{Air, Aired, Airs};
 pub use entry::{DropCause, Entry, Stamped, VoidCause};
-pub use has_store::HasStore;
-pub use images::{ImageRef, Images};
 pub use law::{Law, Verdict};
 pub use node_log::NodeLog;
 pub use open_log::OpenLog;
 pub use past::Past;
 pub use program::{Program, Programs};
 pub use report::{ENTRIES_MAX, IntoFault, NodeLogs, RECORDS_MAX, Report, RunFault};
-pub use shared_script::SharedScript;
 pub use stored_image::StoredImage;
-pub use stores::{StoreRef, Stores};
+pub use stored_program::{StoredProgram, StoredPrograms, stored};

@@ -5,8 +5,7 @@ ghost use Rattle.mate_journal.specs.Log.{Log, IsSameLog};
 ghost use Rattle.mate_journal.specs.declared.entry.Entry.TheVariants as told;
 
 use crate::entry::{Entry, Stamped};
-use crate::{HasStore, Images, Stores};
-use mate_num::{HandlerId, Image, NoMemory, Stamp};
+use mate_num::{HandlerId, Image, NoMemory, Stamp, Store};
 use std::alloc::Global;
 use std::marker::Model;
 use std::mem;
@@ -14,10 +13,8 @@ use std::mem;
 /// What happened on one node, in order. After a `reserve` it is written without memory.
 pub struct NodeLog {
     entries: Vec<Stamped>,
-    images: Images,
-    stores: Stores,
-    /// For so many more images, and for as many more stores, there is room for sure.
-    ready: usize,
+    images: Vec<Image>,
+    stores: Vec<Store>,
 }
 
 impl Drop for NodeLog {
@@ -26,14 +23,13 @@ impl Drop for NodeLog {
             entries: _entries,
             images: _images,
             stores: _stores,
-            ready: _ready,
         } = self;
     }
 }
 
 impl Model for NodeLog {
     ghost use Rattle.std.specs.Prelude.{◌-◌, min, vec_len, vec_capacity};
-    ghost use Rattle.mate_journal.specs.Log.{Log, HaveReady};
+    ghost use Rattle.mate_journal.specs.Log.{Log};
 
     ghost Value = { Log };
 
@@ -41,10 +37,19 @@ impl Model for NodeLog {
       entries = l.entries.items;
       images = l.images.items;
       stores = l.stores.items;
-      spare = min (vec_capacity l.entries - vec_len l.entries) (min l.images.spare l.stores.spare);
+      spare = min (vec_capacity l.entries - vec_len l.entries)
+          (min (vec_capacity l.images - vec_len l.images) (vec_capacity l.stores - vec_len l.stores));
     } };
+}
 
-    ghost invariant = { λ l. HaveReady l.ready l.images.spare l.stores.spare };
+/// A copy of an image. It takes no memory.
+fn copy_of(image: &Image) -> Image
+    ensures { result ≡ image.now }
+{
+    let Ok(copy) = Image::try_from(image.as_slice()) else {
+        unreachable!()
+    };
+    copy
 }
 
 impl NodeLog {
@@ -56,9 +61,8 @@ impl NodeLog {
     {
         NodeLog {
             entries: Vec::new(alloc),
-            images: Images::new(alloc),
-            stores: Stores::new(alloc),
-            ready: 0,
+            images: Vec::new(alloc),
+            stores: Vec::new(alloc),
         }
     }
 
@@ -70,17 +74,17 @@ impl NodeLog {
     }
 
     /// The images that were installed.
-    pub fn images(&self) -> &Images
-        ensures { result.now.items ≡ self.now.images }
+    pub fn images(&self) -> &[Image]
+        ensures { result.now ≡ self.now.images }
     {
-        &self.images
+        self.images.as_slice()
     }
 
     /// The stores that were seen.
-    pub fn stores(&self) -> &Stores
-        ensures { result.now.items ≡ self.now.stores }
+    pub fn stores(&self) -> &[Store]
+        ensures { result.now ≡ self.now.stores }
     {
-        &self.stores
+        self.stores.as_slice()
     }
 
     /// How many more items each of the three lists takes without memory.
@@ -88,7 +92,9 @@ impl NodeLog {
         ensures { result ≡ self.now.spare }
     {
         let entries = self.entries.capacity() - self.entries.len();
-        entries.min(self.images.spare().min(self.stores.spare()))
+        let images = self.images.capacity() - self.images.len();
+        let stores = self.stores.capacity() - self.stores.len();
+        entries.min(images.min(stores))
     }
 
     /// Makes room for `n` more items in each list. `NoMemory` leaves the three lists as they were.
@@ -98,13 +104,8 @@ impl NodeLog {
         ensures room { OnOk result (n ≤ self.new.spare) }
     {
         self.entries.reserve(n)?;
-        // (most events add neither an image nor a store)
-        if n <= self.ready {
-            return Ok(());
-        }
         self.images.reserve(n)?;
         self.stores.reserve(n)?;
-        self.ready = n;
         Ok(())
     }
 
@@ -130,39 +131,36 @@ impl NodeLog {
         ensures spare { self.old.spare ≤ self.new.spare + 1 }
     {
         let position = self.images.len() as u32;
-        self.ready = 0;
-        self.images.push(image);
+        self.images.push_reserved(copy_of(image));
         position
     }
 
     /// Appends a copy of a store, and answers its position.
-    pub fn add_store<S: HasStore>(&mut self, store: &S) -> u32
+    pub fn add_store(&mut self, store: &Store) -> u32
         requires room { 1 ≤ self.old.spare }
         requires count { length self.old.stores < 4100000000 }
         ensures position { result ≡ length self.old.stores }
         ensures entries { self.new.entries ≡ self.old.entries }
         ensures images { self.new.images ≡ self.old.images }
-        ensures stores { self.new.stores ≡ self.old.stores ++ S.store_of store.now ∷ [] }
+        ensures stores { self.new.stores ≡ self.old.stores ++ store.now ∷ [] }
         ensures spare { self.old.spare ≤ self.new.spare + 1 }
     {
         let position = self.stores.len() as u32;
-        self.ready = 0;
-        self.stores.push(store);
+        self.stores.push_reserved(store.copy());
         position
     }
 
-    /// Appends a copy of a store and the entry that shows it. Both take one of the room together.
-    pub fn push_seen<S: HasStore>(&mut self, at: Stamp, store: &S)
+    /// Appends a store and the entry that shows it. Both take one of the room together.
+    pub fn push_seen(&mut self, at: Stamp, store: Store)
         requires room { 1 ≤ self.old.spare }
         requires count { length self.old.stores < 4100000000 }
         ensures entries { self.new.entries ≡ self.old.entries ++ record { stamp = at; entry = told.Seen (length self.old.stores) } ∷ [] }
         ensures images { self.new.images ≡ self.old.images }
-        ensures stores { self.new.stores ≡ self.old.stores ++ S.store_of store.now ∷ [] }
+        ensures stores { self.new.stores ≡ self.old.stores ++ store ∷ [] }
         ensures spare { self.old.spare ≤ self.new.spare + 1 }
     {
         let number = self.stores.len() as u32;
-        self.ready = 0;
-        self.stores.push(store);
+        self.stores.push_reserved(store);
         self.entries.push_reserved(Stamped {
             stamp: at,
             entry: Entry::Seen { store: number },
@@ -180,8 +178,7 @@ impl NodeLog {
         ensures spare { self.old.spare ≤ self.new.spare + 1 }
     {
         let number = self.images.len() as u32;
-        self.ready = 0;
-        self.images.push(image);
+        self.images.push_reserved(copy_of(image));
         self.entries.push_reserved(Stamped {
             stamp: at,
             entry: Entry::Install {
@@ -201,7 +198,6 @@ impl NodeLog {
         mem::swap(&mut self.entries, &mut other.entries);
         mem::swap(&mut self.images, &mut other.images);
         mem::swap(&mut self.stores, &mut other.stores);
-        mem::swap(&mut self.ready, &mut other.ready);
     }
 
     /// Keeps that many of each list from the front, or all if there are fewer.

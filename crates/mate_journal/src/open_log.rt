@@ -6,8 +6,8 @@ ghost use Rattle.mate_journal.specs.declared.entry.Entry.TheVariants as told;
 ghost use Rattle.mate_journal.specs.OpenLog.{nothing_gone, gone_of, NamesNothing, IsKept};
 
 use crate::past::Past;
-use crate::{HasStore, NodeLog, Stamped};
-use mate_num::{HandlerId, Image, NoMemory, Stamp};
+use crate::{NodeLog, Stamped};
+use mate_num::{HandlerId, Image, NoMemory, Stamp, Store};
 use std::alloc::Global;
 use std::marker::Model;
 
@@ -82,14 +82,14 @@ impl OpenLog {
         self.kept.push(stamped);
     }
 
-    /// Appends a copy of a store and the entry that shows it.
-    pub fn push_seen<S: HasStore>(&mut self, at: Stamp, store: &S)
+    /// Appends a store and the entry that shows it.
+    pub fn push_seen(&mut self, at: Stamp, store: Store)
         requires room { 1 ≤ self.old.all.spare }
         requires count { length self.old.all.stores < 4100000000 }
         ensures entries { self.new.all.entries ≡ self.old.all.entries
             ++ record { stamp = at; entry = told.Seen (length self.old.all.stores) } ∷ [] }
         ensures images { self.new.all.images ≡ self.old.all.images }
-        ensures stores { self.new.all.stores ≡ self.old.all.stores ++ S.store_of store.now ∷ [] }
+        ensures stores { self.new.all.stores ≡ self.old.all.stores ++ store ∷ [] }
         ensures spare { self.old.all.spare ≤ self.new.all.spare + 1 }
         ensures gone { self.new.gone ≡ self.old.gone }
     {

@@ -1,17 +1,16 @@
 //! The programs of a run.
 
-use crate::shared_script::SharedScript;
-use crate::stored_image::StoredImage;
-use mate_num::{HandlerId, Items};
+use mate_num::{HandlerId, Image, Items};
+use ts_checked::Checked;
 
 /// A program: the image of a capsule for the handler, with its source if the program was compiled, and without
-/// one if the image was loaded. Programs of one file share their source.
+/// one if the image was loaded.
 pub struct Program {
     pub handler: HandlerId,
     /// 1 to 4294967295.
     pub version: u32,
-    pub source: Option<SharedScript>,
-    pub image: StoredImage,
+    pub source: Option<Checked>,
+    pub image: Image,
 }
 
 /// What is to be dropped of it is dropped in one function, and so by one call wherever a program ends.

@@ -71,7 +71,7 @@ impl<T> Items<T> {
     }
 
     /// Keeps the first `count` items, or all if there are fewer.
-    pub fn truncate(&mut self, count: usize)
+    pub fn cut(&mut self, count: usize)
     where
         T: Drop,
         ensures { self.new ≡ take count self.old }

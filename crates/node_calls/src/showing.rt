@@ -6,35 +6,10 @@ ghost use Rattle.node_state.specs.Keeps.{IsTimely};
 ghost use Rattle.node_state.specs.Starting.{Rests};
 ghost use Rattle.node_calls.specs.Calls.{RestsAgain, TellsStore};
 
-use mate_journal::{Entry, HasStore, VoidCause};
-use mate_num::{BufId, Stamp};
-use node_heap::Heap;
+use mate_journal::{Entry, VoidCause};
+use mate_num::Stamp;
 use node_state::{Parts, tell};
 use vm_shape::Description;
-
-/// The memory of a node, whose store is recorded from where it is.
-#[derive(Drop)]
-struct Shown<'a> {
-    heap: &'a Heap,
-}
-
-impl<'a> HasStore for Shown<'a> {
-    ghost store_of = { λ s. s.heap.now };
-
-    fn shared_values(&self) -> &[i16] {
-        self.heap.variables()
-    }
-
-    fn buffer_count(&self) -> usize {
-        usize::from(self.heap.buffer_count())
-    }
-
-    fn buffer_values(&self, buffer: usize) -> &[i16] {
-        // (there are few)
-        let _count = self.heap.buffer_count();
-        self.heap.buffer_values(BufId(buffer as u8))
-    }
-}
 
 /// Records the shared variables and buffers as they are.
 pub fn seen_in(description: &Description, parts: &mut Parts, at: Stamp)
@@ -47,8 +22,7 @@ pub fn seen_in(description: &Description, parts: &mut Parts, at: Stamp)
     ensures handlers { parts.new.handlers ≡ parts.old.handlers }
 {
     let _description = description;
-    let shown = Shown { heap: &parts.heap };
-    parts.log.push_seen(at, &shown);
+    parts.log.push_seen(at, parts.heap.store());
 }
 
 /// Records why a step did nothing.

@@ -3,7 +3,7 @@
 ghost use Rattle.std.specs.Prelude.{◌≡◌, All, IfOk, OnOk};
 ghost use Rattle.node_calls.specs.Installing.{IsReadyOn};
 
-use mate_journal::Programs;
+use mate_journal::StoredPrograms;
 use mate_num::NoMemory;
 use node_calls::{ReadyCapsule, near, place_among};
 use std::alloc::Global;
@@ -60,7 +60,7 @@ impl SharedMachine {
     pub fn with_programs(
         alloc: Global,
         description: &Description,
-        programs: &Programs,
+        programs: &StoredPrograms,
     ) -> Result<SharedMachine, NoMemory>
         ensures { IfOk result (λ shared. shared ≡ description.now) }
     {
@@ -73,7 +73,7 @@ impl SharedMachine {
     pub fn with_codes(
         alloc: Global,
         description: &Description,
-        programs: &Programs,
+        programs: &StoredPrograms,
     ) -> Result<SharedMachine, NoMemory>
         ensures { IfOk result (λ shared. shared ≡ description.now) }
     {
@@ -169,7 +169,7 @@ fn add_ready(
 fn ready_capsules(
     alloc: Global,
     description: &Description,
-    programs: &Programs,
+    programs: &StoredPrograms,
     alike: Alike,
 ) -> Result<Vec<ReadyCapsule>, NoMemory>
     ensures { IfOk result (λ ready. All (IsReadyOn description.now) ready.items) }

@@ -10,7 +10,7 @@ ghost use Rattle.node_runs.specs.Running.{IsReportOf};
 
 use crate::heap_node::HeapNode;
 use crate::running::is_full;
-use mate_journal::Programs;
+use mate_journal::StoredPrograms;
 use mate_num::{NoMemory, Stamp};
 use node_open::SETTLING_ENTRIES;
 use report_writer::{LogTally, Summary};
@@ -39,7 +39,7 @@ pub fn sum_steps(
     alloc: Global,
     desc: &Description,
     steps: &Steps,
-    programs: &Programs,
+    programs: &StoredPrograms,
 ) -> Result<Summary, NoMemory>
     requires { AreProgramsOf desc.now steps.now programs.now }
     ensures { IfOk result (IsRunSummary desc.now (IsReportOf desc.now steps.now programs.now)) }

@@ -11,14 +11,14 @@ ghost use Rattle.node_programs.specs.Sources.{held_as};
 ghost use Rattle.node_programs.specs.ScriptSteps.{step_of, IsProgramOf, program_at};
 ghost use Rattle.node_runs.specs.Running.{IsReadyFor, MakesOn};
 
-use mate_journal::{Program, Programs, VoidCause};
-use mate_num::{ContextId, HandlerId, Stamp};
+use mate_journal::{StoredProgram, StoredPrograms, VoidCause};
+use mate_num::{ContextId, HandlerId, Payload, Stamp};
 use node_calls::InstallFault;
 use node_open::OpenNode;
-use script_steps::{Message, Step};
+use script_steps::Step;
 
 /// Installs the program, or records that the node holds a version that isn't older.
-fn install(node: &mut OpenNode, program: &Program, at: Stamp)
+fn install(node: &mut OpenNode, program: &StoredProgram, at: Stamp)
     requires ready { IsReadyFor node.old at }
     requires places { HasPlaces node.old }
     requires right { IsRightProgram node.old.description program.now }
@@ -34,12 +34,12 @@ fn install(node: &mut OpenNode, program: &Program, at: Stamp)
 
 /// Posts the payload for the handler. It isn't inlined, so that other steps make no room for a payload.
 #[inline(never)]
-fn post(node: &mut OpenNode, handler: HandlerId, payload: &Message, at: Stamp)
+fn post(node: &mut OpenNode, handler: HandlerId, payload: &Payload, at: Stamp)
     requires ready { IsReadyFor node.old at }
     requires handler { handler.0 < length node.old.description.handlers.items }
     ensures { Tells node.old node.new at (MakesOn node.old (PostStep handler payload.now)) }
 {
-    let _ = node.post(handler, &payload.payload(), at);
+    let _ = node.post(handler, payload, at);
 }
 
 /// Gives the context one turn, or records that no invocation is ready there.
@@ -68,7 +68,7 @@ fn answer(node: &mut OpenNode, ctx: ContextId, value: i16, at: Stamp)
 }
 
 /// Installs the file's program, or records that the node holds a version that isn't older.
-fn install_file(node: &mut OpenNode, programs: &Programs, file: u32, at: Stamp)
+fn install_file(node: &mut OpenNode, programs: &StoredPrograms, file: u32, at: Stamp)
     requires ready { IsReadyFor node.old at }
     requires places { HasPlaces node.old }
     requires below { file < length programs.now }
@@ -79,7 +79,7 @@ fn install_file(node: &mut OpenNode, programs: &Programs, file: u32, at: Stamp)
 }
 
 /// Makes the step, as one event with this stamp.
-pub(crate) fn make_step(node: &mut OpenNode, step: &Step, programs: &Programs, at: Stamp)
+pub(crate) fn make_step(node: &mut OpenNode, step: &Step, programs: &StoredPrograms, at: Stamp)
     requires ready { IsReadyFor node.old at }
     requires places { HasPlaces node.old }
     requires right { IsRightStep node.old.description (length programs.now) step.now }

@@ -23,7 +23,7 @@ ghost use Rattle.node_runs.specs.Keeping.{IsNewNode, StaysAsToldTo};
 
 use crate::events::make_step;
 use journal_laws::{LogSize, log_is_in_range_from, stamp_is_in_range};
-use mate_journal::{NodeLog, Programs};
+use mate_journal::{NodeLog, StoredPrograms};
 use mate_num::{NoMemory, Stamp};
 use node_open::{OpenNode, SharedMachine};
 use report_writer::LogTally;
@@ -60,7 +60,11 @@ impl Model for HeapNode {
 impl HeapNode {
     /// A node on which nothing happened. The codes of the programs are ready on it.
     #[inline(never)]
-    pub fn new(alloc: Global, desc: &Description, programs: &Programs) -> Result<HeapNode, NoMemory>
+    pub fn new(
+        alloc: Global,
+        desc: &Description,
+        programs: &StoredPrograms,
+    ) -> Result<HeapNode, NoMemory>
         ensures { IfOk result (IsNewNode desc.now) }
     {
         let machine = SharedMachine::with_codes(alloc, desc, programs)?;
@@ -83,7 +87,7 @@ impl HeapNode {
     }
 
     /// Makes the step, as one event with this stamp.
-    pub fn make(&mut self, step: &Step, programs: &Programs, at: Stamp)
+    pub fn make(&mut self, step: &Step, programs: &StoredPrograms, at: Stamp)
         requires ready { IsReadyFor self.old at }
         requires right { IsRightStep self.old.description (length programs.now) step.now }
         requires programs { AreRightPrograms self.old.description programs.now }

@@ -9,7 +9,7 @@ ghost use Rattle.node_runs.specs.Running.{RunGives, report_with};
 
 use crate::heap_node::HeapNode;
 use crate::running::is_full;
-use mate_journal::{Airs, NodeLogs, Programs, Report, RunFault};
+use mate_journal::{Airs, NodeLogs, Programs, Report, RunFault, StoredPrograms, stored};
 use mate_num::Stamp;
 use node_open::SETTLING_ENTRIES;
 use script_steps::Steps;
@@ -36,12 +36,26 @@ pub(crate) fn report_of(
 
 /// Runs the steps of a script on a node of this machine, with the programs of its files: the k-th step is event k, at time
 /// 0, and at the end the store is recorded. `LogFull` comes exactly if a step is left after 1,000,000 records or more, with
-/// the report so far.
+/// the report so far. It is for callers from outside: it copies the programs' images, and runs with these.
 pub fn run_steps(
     alloc: Global,
     desc: &Description,
     steps: &Steps,
     programs: &Programs,
+) -> Result<Report, RunFault>
+    requires { AreProgramsOf desc.now steps.now programs.now }
+    ensures { RunGives desc.now steps.now programs.now result }
+{
+    let programs = stored(alloc, programs)?;
+    run_stored_steps(alloc, desc, steps, &programs)
+}
+
+/// Runs the steps as `run_steps` does, with programs that are stored.
+pub fn run_stored_steps(
+    alloc: Global,
+    desc: &Description,
+    steps: &Steps,
+    programs: &StoredPrograms,
 ) -> Result<Report, RunFault>
     requires { AreProgramsOf desc.now steps.now programs.now }
     ensures { RunGives desc.now steps.now programs.now result }

@@ -10,6 +10,6 @@ pub mod writing;
 pub mod written_run;
 
 pub use counting::sum_steps;
-pub use kept_run::run_steps;
+pub use kept_run::{run_steps, run_stored_steps};
 pub use writing::write_steps;
-pub use written_run::run_steps_into;
+pub use written_run::{run_steps_into, run_stored_steps_into};

@@ -15,7 +15,7 @@ ghost use Rattle.report_writer.specs.declared.write_fault.WriteFault.TheVariants
 use crate::heap_node::{HeapNode, Written};
 use crate::running::is_full;
 use mate_files::{Sink, SinkFault};
-use mate_journal::Programs;
+use mate_journal::StoredPrograms;
 use mate_num::Stamp;
 use node_open::SETTLING_ENTRIES;
 use report_writer::{Pass, WriteFault, ended, stopped, write_end, write_event};
@@ -82,7 +82,7 @@ fn write_last<S: Sink>(node: &HeapNode, events: u64, whole: bool, out: &mut S) -
 pub fn write_run<S: Sink>(
     desc: &Description,
     steps: &Steps,
-    programs: &Programs,
+    programs: &StoredPrograms,
     node: &mut HeapNode,
     written: Written,
     out: &mut S,
@@ -145,7 +145,7 @@ pub fn write_steps<S: Sink>(
     alloc: Global,
     desc: &Description,
     steps: &Steps,
-    programs: &Programs,
+    programs: &StoredPrograms,
     out: &mut S,
 ) -> Result<(), WriteFault>
     requires { AreProgramsOf desc.now steps.now programs.now }

@@ -15,7 +15,7 @@ use Rattle.script_steps.specs.declared.world.Link.{Link}
 use Rattle.script_steps.specs.declared.world.World.{World}
 use Rattle.script_steps.specs.World.{AreOtherLinks, IsRightWorld}
 use Rattle.vm_shape.specs.declared.description.Description.{Description}
-use Rattle.radio_sim.specs.declared.event.Event.{Event}
+use Rattle.radio_sim.specs.declared.shared_event.SharedEvent.{SharedEvent}
 use Rattle.radio_sim.specs.declared.wire.Sending.{Sending}
 use Rattle.radio_sim.specs.declared.wire.Wire.{Wire}
 use Rattle.radio_sim.specs.Wires.{wire_after, leaving, turned_wire, losts, delivered}
@@ -134,19 +134,19 @@ match-ok (Ok x) P Q is holds = holds
 match-ok (Err x) P Q is holds = cc
 
 -- the queue, the records and the links that a transmission leaves
-pub sends-so : (e : Ether) (s : Sending) (bytes : ArrayVec ℕ) (past airs new : List Aired) (ws turned : List Wire) (agenda : Agenda Event) → e.air ≡ past ++ airs → ws ≡ wires_of e s.node
+pub sends-so : (e : Ether) (s : Sending) (bytes : ArrayVec ℕ) (past airs new : List Aired) (ws turned : List Wire) (agenda : Agenda SharedEvent) → e.air ≡ past ++ airs → ws ≡ wires_of e s.node
     → agenda ≡ scheduled_all e.agenda (s.at.time + e.delay) (delivered s bytes ws) → new ≡ airs ++ sent_record s bytes ∷ [] ++ losts s ws → turned ≡ map turned_wire ws
     → ◌≡◌ {A = Ether} (record { agenda = agenda; air = past ++ new; gone = e.gone; sent = e.sent + 1; delay = e.delay; wires = set e.wires s.node turned }) (transmitted e s bytes)
 sends-so e s bytes past airs new ws turned agenda air_is ws_is agenda_is new_is turned_is =
     let own = wires_of e s.node in
     let sent = sent_record s bytes ∷ [] in
     let lost = losts s own in
-    let E : Agenda Event → List Aired → List Wire → Ether = λ a xs us. record { agenda = a; air = xs; gone = e.gone; sent = e.sent + 1; delay = e.delay; wires = set e.wires s.node us } in
+    let E : Agenda SharedEvent → List Aired → List Wire → Ether = λ a xs us. record { agenda = a; air = xs; gone = e.gone; sent = e.sent + 1; delay = e.delay; wires = set e.wires s.node us } in
     let due = agenda_is ∙ ap (λ (us : List Wire). scheduled_all e.agenda (s.at.time + e.delay) (delivered s bytes us)) ws_is in
     let told : past ++ new ≡ e.air ++ sent ++ lost =
     ap (λ (xs : List Aired). past ++ xs) (new_is ∙ ap (λ (us : List Wire). airs ++ sent ++ losts s us) ws_is)
     ∙ sym (append_assoc past (airs ++ sent) lost)
     ∙ ap (λ (xs : List Aired). xs ++ lost) (sym (append_assoc past airs sent) ∙ ap (λ (xs : List Aired). xs ++ sent) (sym air_is)) in
-    ap (λ (a : Agenda Event). E a (past ++ new) turned) due
+    ap (λ (a : Agenda SharedEvent). E a (past ++ new) turned) due
     ∙ ap (λ (xs : List Aired). E (scheduled_all e.agenda (s.at.time + e.delay) (delivered s bytes own)) xs turned) told
     ∙ ap (λ (us : List Wire). E (scheduled_all e.agenda (s.at.time + e.delay) (delivered s bytes own)) (e.air ++ sent ++ lost) us) (turned_is ∙ ap (λ (us : List Wire). map turned_wire us) ws_is)

@@ -6,7 +6,7 @@ use Rattle.mate_journal.specs.declared.air.Aired.{Aired}
 use Rattle.script_steps.specs.declared.world.World.{World}
 use Rattle.vm_shape.specs.declared.description.Description.{Description}
 use Rattle.radio_sim.specs.declared.radio.TheConstants.{NODES}
-use Rattle.radio_sim.specs.declared.event.Event.{Event}
+use Rattle.radio_sim.specs.declared.shared_event.SharedEvent.{SharedEvent}
 use Rattle.radio_sim.specs.declared.waiting.Waiting.{Waiting}
 use Rattle.radio_sim.specs.declared.wire.Wire.{Wire}
 use Rattle.radio_sim.specs.declared.wire.Sending.{Sending}
@@ -17,7 +17,7 @@ use Rattle.radio_sim.specs.Sending.{sent_record}
 -- what waits, what happened on the air, how much of that is gone, how many packets were sent, how long each is on its way in ms, and the
 -- links that leave each node
 pub record Ether : Type 0 where
-  pub agenda : Agenda Event
+  pub agenda : Agenda SharedEvent
   pub air : List Aired
   pub gone : ℕ
   pub sent : ℕ

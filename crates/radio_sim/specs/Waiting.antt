@@ -2,18 +2,18 @@
 use Rattle.std.specs.Prelude.{◌≡◌, ℕ, ◌<◌, ◌≤◌, List, [], ◌∷◌, ◌++◌, map, Option}
 use Rattle.event_queue.specs.declared.queue.Timed.{Timed}
 use Rattle.event_queue.specs.Agenda.{Agenda, due_at}
-use Rattle.radio_sim.specs.declared.event.Event.{Event}
-use Rattle.radio_sim.specs.declared.event.Event.TheVariants as event
+use Rattle.radio_sim.specs.declared.shared_event.SharedEvent.{SharedEvent}
+use Rattle.radio_sim.specs.declared.shared_event.SharedEvent.TheVariants as event
 use Rattle.radio_sim.specs.declared.waiting.Delivery.{Delivery}
 use Rattle.radio_sim.specs.declared.waiting.Waiting.{Waiting}
 use Rattle.radio_sim.specs.declared.waiting.Waiting.TheVariants as waiting
 use Rattle.radio_sim.specs.Events.{group_of}
 
-abbrev pub delivery_event : Delivery → Event
+abbrev pub delivery_event : Delivery → SharedEvent
 delivery_event d = event.Deliver d.link d.number d.bytes
 
 -- the event that comes first, and the deliveries behind it
-abbrev pub first_event : Waiting → Event
+abbrev pub first_event : Waiting → SharedEvent
 first_event (waiting.Planned line) = event.Planned line
 first_event (waiting.Period node handler) = event.Period node handler
 first_event (waiting.Fire node) = event.Fire node
@@ -31,23 +31,23 @@ later_deliveries (waiting.Pump node) = []
 later_deliveries (waiting.Due node ctx inv value) = []
 later_deliveries (waiting.Flight f) = f.rest
 
-abbrev pub events_of : Waiting → List Event
+abbrev pub events_of : Waiting → List SharedEvent
 events_of w = first_event w ∷ map delivery_event (later_deliveries w)
 
 abbrev pub waiting_group : Waiting → Option ℕ
 waiting_group w = group_of (first_event w)
 
 -- events at one time
-abbrev pub all_at : ℕ → List Event → List (Timed Event)
+abbrev pub all_at : ℕ → List SharedEvent → List (Timed SharedEvent)
 all_at t es = map (λ e. record { time = t; item = e }) es
 
 -- the events of all that waits
-abbrev pub awaited : List (Timed Waiting) → List (Timed Event)
+abbrev pub awaited : List (Timed Waiting) → List (Timed SharedEvent)
 awaited [] = []
 awaited (x ∷ xs) = all_at x.time (events_of x.item) ++ awaited xs
 
 -- the deliveries that are left of the last transmission that came stand before all that waits in the queue
-abbrev pub radio_agenda : List Delivery → Agenda Waiting → Agenda Event
+abbrev pub radio_agenda : List Delivery → Agenda Waiting → Agenda SharedEvent
 radio_agenda coming q = record { until = q.until; now = q.now; items = all_at q.now (map delivery_event coming) ++ awaited q.items }
 
 -- nothing in the queue comes before the time of the last item that came

@@ -7,8 +7,8 @@ use Rattle.rand_pcg.specs.Pcg.{multiplier_64, pcg32}
 use Rattle.mate_journal.specs.declared.air.Air.TheVariants as air
 use Rattle.mate_journal.specs.declared.air.Aired.{Aired}
 use Rattle.script_steps.specs.declared.world.Link.{Link}
-use Rattle.radio_sim.specs.declared.event.Event.{Event}
-use Rattle.radio_sim.specs.declared.event.Event.TheVariants as event
+use Rattle.radio_sim.specs.declared.shared_event.SharedEvent.{SharedEvent}
+use Rattle.radio_sim.specs.declared.shared_event.SharedEvent.TheVariants as event
 use Rattle.radio_sim.specs.declared.waiting.Delivery.{Delivery}
 use Rattle.radio_sim.specs.declared.wire.Wire.{Wire}
 use Rattle.radio_sim.specs.declared.wire.Sending.{Sending}
@@ -50,7 +50,7 @@ loses w = nat_lt (w.word % 1000) w.loss
 abbrev pub lost_on : Sending → Wire → Option Aired
 lost_on s w = if loses w then Some (record { stamp = s.at; node = s.node; air = air.Lost s.number w.to }) else None
 
-abbrev pub delivered_on : Sending → ArrayVec ℕ → Wire → Option Event
+abbrev pub delivered_on : Sending → ArrayVec ℕ → Wire → Option SharedEvent
 delivered_on s bytes w = if loses w then None else Some (event.Deliver w.link s.number bytes)
 
 abbrev pub carried_on : Sending → ArrayVec ℕ → Wire → Option Delivery
@@ -60,7 +60,7 @@ carried_on s bytes w = if loses w then None else Some (record { link = w.link; n
 abbrev pub losts : Sending → List Wire → List Aired
 losts s ws = filter_map (lost_on s) ws
 
-abbrev pub delivered : Sending → ArrayVec ℕ → List Wire → List Event
+abbrev pub delivered : Sending → ArrayVec ℕ → List Wire → List SharedEvent
 delivered s bytes ws = filter_map (delivered_on s bytes) ws
 
 abbrev pub carried_by : Sending → ArrayVec ℕ → List Wire → List Delivery

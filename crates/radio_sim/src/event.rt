@@ -3,9 +3,7 @@
 ghost use Rattle.std.specs.Prelude.{◌≡◌, ◌<◌};
 ghost use Rattle.event_queue.specs.declared.group.TheConstants.{GROUPS};
 
-use crate::shared::SharedPacket;
-use event_queue::Grouped;
-use mate_num::{ContextId, HandlerId};
+use mate_num::{ContextId, HandlerId, PacketBytes};
 
 /// The cause of an event to come.
 #[derive(Drop)]
@@ -40,7 +38,7 @@ pub enum Event {
     Deliver {
         link: u32,
         number: u32,
-        bytes: SharedPacket,
+        bytes: PacketBytes,
     },
 }
 
@@ -68,42 +66,5 @@ impl Cancel {
             Cancel::Pump(node) => 256 + u16::from(node),
             Cancel::Answers(node) => 512 + u16::from(node),
         }
-    }
-}
-
-impl Event {
-    ghost use Rattle.radio_sim.specs.Events.{cancelled_by};
-
-    /// Which cancel takes the event, if one does.
-    pub fn cancelled_by(&self) -> Option<Cancel>
-        ensures { result ≡ cancelled_by self.now }
-    {
-        match self {
-            Event::Fire { node } | Event::Expire { node } => Some(Cancel::Timer(*node)),
-            Event::Pump { node } => Some(Cancel::Pump(*node)),
-            Event::Due { node, .. } => Some(Cancel::Answers(*node)),
-            Event::Planned(_) | Event::Period { .. } | Event::Deliver { .. } => None,
-        }
-    }
-}
-
-impl Grouped for Event {
-    ghost use Rattle.radio_sim.specs.Events.{group_of};
-    ghost use Rattle.std.specs.Prelude.{refl};
-    ghost use Rattle.radio_sim.specs.declared.event.Event.TheVariants.{Planned};
-
-    ghost group_of = { group_of };
-
-    ghost numbered_of = { λ line. Planned line };
-
-    ghost stays = { λ line. refl };
-
-    fn group(&self) -> Option<u16> {
-        let cancel = self.cancelled_by()?;
-        Some(cancel.number())
-    }
-
-    fn numbered(number: u32) -> Event {
-        Event::Planned(number)
     }
 }

@@ -6,9 +6,11 @@ pub mod past;
 pub mod radio;
 mod rooms;
 pub mod shared;
+pub mod shared_event;
 pub mod waiting;
 pub mod wire;
 
 pub use event::{Cancel, Event};
 pub use radio::Radio;
 pub use shared::SharedPacket;
+pub use shared_event::SharedEvent;

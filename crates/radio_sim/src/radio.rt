@@ -8,7 +8,7 @@ ghost use Rattle.std.specs.List.{All};
 ghost use Rattle.mate_num.specs.declared.bounds.TheConstants.{HOUR};
 ghost use Rattle.script_steps.specs.declared.world.Link.{Link};
 ghost use Rattle.radio_sim.specs.declared.radio.TheConstants.{NODES};
-ghost use Rattle.radio_sim.specs.Events.{group_of, cancel_number};
+ghost use Rattle.radio_sim.specs.Events.{shared, group_of, cancel_number};
 ghost use Rattle.radio_sim.specs.declared.waiting.Delivery.{Delivery as Coming};
 ghost use Rattle.radio_sim.specs.Waiting.{first_event, later_deliveries, radio_agenda, IsOnTime};
 ghost use Rattle.radio_sim.specs.Wires.{losts, delivered};
@@ -17,6 +17,8 @@ ghost use Rattle.radio_sim.specs.Sending.{sent_record, AreLeaving, IsFurther};
 use crate::event::{Cancel, Event};
 use crate::past::PastAir;
 use crate::rooms::Rooms;
+use crate::shared::SharedPacket;
+use crate::shared_event::SharedEvent;
 use crate::waiting::{Deliveries, Flight, Waiting, no_deliveries};
 use crate::wire::{Sending, Wire, Wires, copy_of};
 use event_queue::{Queue, Timed};
@@ -79,7 +81,7 @@ impl Radio {
     ghost use Rattle.std.specs.Prelude.{List};
     ghost use Rattle.script_steps.specs.declared.world.World.{World};
     ghost use Rattle.radio_sim.specs.Radio.{StartsRadio, wires_of, transmitted, IsEtherOf};
-    ghost use Rattle.radio_sim.specs.declared.event.Event.TheVariants.{Planned};
+    ghost use Rattle.radio_sim.specs.declared.shared_event.SharedEvent.TheVariants.{Planned};
 
     /// The radio of a world, in which nothing waits and nothing was sent.
     pub fn new(alloc: Global, world: &World, desc: &Description) -> Result<Radio, NoMemory>
@@ -108,6 +110,18 @@ impl Radio {
     /// `NoMemory` leaves the radio as it was.
     pub fn schedule(&mut self, time: u32, event: Event) -> Result<(), NoMemory>
         requires { self.old.agenda.now ≤ time }
+        ensures list { MatchResult result (λ _. self.new ≡ record self.old { agenda = scheduled self.old.agenda time (shared event) })
+            (λ _. self.new ≡ self.old) }
+        ensures due { OnOk result (Adds self.old.agenda time (shared event) self.new.agenda) }
+        ensures now { self.new.agenda.now ≡ self.old.agenda.now }
+    {
+        let kept = SharedEvent::of(self.alloc, event)?;
+        self.schedule_shared(time, kept)
+    }
+
+    /// Schedules an event, as `schedule` does. A packet is kept as it was read.
+    pub fn schedule_shared(&mut self, time: u32, event: SharedEvent) -> Result<(), NoMemory>
+        requires { self.old.agenda.now ≤ time }
         ensures list { MatchResult result (λ _. self.new ≡ record self.old { agenda = scheduled self.old.agenda time event })
             (λ _. self.new ≡ self.old) }
         ensures due { OnOk result (Adds self.old.agenda time event self.new.agenda) }
@@ -132,15 +146,9 @@ impl Radio {
     }
 
     /// The node sends a packet in the event `at`. It has the next number. On each link that leaves the node, in their
-    /// order, the next word of the link decides: the packet is lost, or it comes `delay` ms later. Its bytes are read once,
-    /// for the machine. `NoMemory` leaves the radio as it was.
-    pub fn transmit(
-        &mut self,
-        desc: &Description,
-        node: u8,
-        bytes: &PacketBytes,
-        at: Stamp,
-    ) -> Result<(), NoMemory>
+    /// order, the next word of the link decides: the packet is lost, or it comes `delay` ms later. `NoMemory` leaves the
+    /// radio as it was.
+    pub fn transmit(&mut self, node: u8, bytes: &PacketBytes, at: Stamp) -> Result<(), NoMemory>
         requires ahead { self.old.agenda.now ≤ at.time }
         requires hour { at.time ≤ HOUR }
         requires few { length self.old.air < 4000000000 }
@@ -152,10 +160,12 @@ impl Radio {
         ensures stands { OnOk result ((world : World) (senders : List ℕ) → IsEtherOf world senders self.old
             → IsEtherOf world (senders ++ node ∷ []) self.new) }
     {
-        self.transmit_own(desc, node, copy_of(bytes), at)
+        let packet = SharedPacket::unread(self.alloc, copy_of(bytes))?;
+        self.transmit_shared(node, copy_of(bytes), packet, at)
     }
 
-    /// The node sends a packet in the event `at`, as `transmit` does. Its bytes are moved into the record, and not copied.
+    /// The node sends a packet in the event `at`, as `transmit` does. Its bytes are read once, for the machine, and moved
+    /// into the record, and not copied.
     pub fn transmit_own(
         &mut self,
         desc: &Description,
@@ -163,6 +173,31 @@ impl Radio {
         bytes: PacketBytes,
         at: Stamp,
     ) -> Result<(), NoMemory>
+        requires ahead { self.old.agenda.now ≤ at.time }
+        requires hour { at.time ≤ HOUR }
+        requires few { length self.old.air < 4000000000 }
+        ensures sends { MatchResult result (λ _. self.new
+            ≡ transmitted self.old (record { at = at; node = node; number = self.old.sent + 1 }) bytes) (λ _. self.new ≡ self.old) }
+        ensures due { OnOk result (AddsAll self.old.agenda (at.time + self.old.delay)
+            (delivered (record { at = at; node = node; number = self.old.sent + 1 }) bytes (wires_of self.old node)) self.new.agenda) }
+        ensures now { self.new.agenda.now ≡ self.old.agenda.now }
+        ensures stands { OnOk result ((world : World) (senders : List ℕ) → IsEtherOf world senders self.old
+            → IsEtherOf world (senders ++ node ∷ []) self.new) }
+    {
+        let packet = self.rooms.packet(desc, &bytes)?;
+        self.transmit_shared(node, bytes, packet, at)
+    }
+
+    // The node sends the bytes, which the packet has, too.
+    #[inline(always)]
+    fn transmit_shared(
+        &mut self,
+        node: u8,
+        bytes: PacketBytes,
+        packet: SharedPacket,
+        at: Stamp,
+    ) -> Result<(), NoMemory>
+        requires same { packet ≡ bytes }
         requires ahead { self.old.agenda.now ≤ at.time }
         requires hour { at.time ≤ HOUR }
         requires few { length self.old.air < 4000000000 }
@@ -183,7 +218,7 @@ impl Radio {
         let wires = &mut self.wires[node as usize];
         let result = send(
             wires,
-            desc,
+            packet,
             sending,
             bytes,
             self.delay,
@@ -192,7 +227,7 @@ impl Radio {
             &mut self.air,
         );
         if result.is_err() {
-            self.air.truncate(before);
+            self.air.cut(before);
             return Err(NoMemory);
         }
         wires.turn();
@@ -203,18 +238,18 @@ impl Radio {
     /// Takes out the first event with its time. None if no event waits, which changes nothing.
     pub fn next(&mut self) -> Option<(u32, Event)>
         ensures first { MatchOption result (self.old.agenda.items ≡ [])
-            (λ first. Comes self.old.agenda (record { time = first.0; item = first.1 }) self.new.agenda) }
+            (λ first. Comes self.old.agenda (record { time = first.0; item = shared first.1 }) self.new.agenda) }
         ensures others { self.new ≡ record self.old { agenda = self.new.agenda } }
         ensures none { IfNone result (self.new ≡ self.old) }
     {
-        let mut event = Event::Planned(0);
+        let mut event = SharedEvent::Planned(0);
         let time = self.next_into(&mut event)?;
-        Some((time, event))
+        Some((time, event.event()))
     }
 
     /// Takes out the first event, in the place of another one: its time. None if no event waits, which changes nothing. So the parts of an
     /// event are written where they are read: a processor waits if it reads as a whole what it just wrote in parts.
-    pub fn next_into(&mut self, event: &mut Event) -> Option<u32>
+    pub fn next_into(&mut self, event: &mut SharedEvent) -> Option<u32>
         ensures first { MatchOption result (self.old.agenda.items ≡ [])
             (λ time. Comes self.old.agenda (record { time = time; item = event.new }) self.new.agenda) }
         ensures others { self.new ≡ record self.old { agenda = self.new.agenda } }
@@ -270,7 +305,7 @@ impl Radio {
     {
         self.gone += self.air.len();
         self.past = PastAir::with(&self.past, &self.air);
-        self.air.truncate(0);
+        self.air.cut(0);
     }
 
     /// Notes what happened on the air. `NoMemory` leaves the radio as it was. It is inlined, so that the record is written in its place
@@ -284,23 +319,23 @@ impl Radio {
 }
 
 /// The event that comes first of what waited; what comes behind it is in `coming` then.
-fn come(waiting: Waiting, coming: &mut Deliveries, rooms: &mut Rooms) -> Event
+fn come(waiting: Waiting, coming: &mut Deliveries, rooms: &mut Rooms) -> SharedEvent
     requires { coming.old.value.items ≡ [] }
     ensures first { result ≡ first_event waiting }
     ensures later { coming.new.value.items ≡ later_deliveries waiting }
 {
     match waiting {
-        Waiting::Planned(line) => Event::Planned(line),
-        Waiting::Period { node, handler } => Event::Period { node, handler },
-        Waiting::Fire { node } => Event::Fire { node },
-        Waiting::Expire { node } => Event::Expire { node },
-        Waiting::Pump { node } => Event::Pump { node },
+        Waiting::Planned(line) => SharedEvent::Planned(line),
+        Waiting::Period { node, handler } => SharedEvent::Period { node, handler },
+        Waiting::Fire { node } => SharedEvent::Fire { node },
+        Waiting::Expire { node } => SharedEvent::Expire { node },
+        Waiting::Pump { node } => SharedEvent::Pump { node },
         Waiting::Due {
             node,
             ctx,
             inv,
             value,
-        } => Event::Due {
+        } => SharedEvent::Due {
             node,
             ctx,
             inv,
@@ -320,7 +355,7 @@ fn come(waiting: Waiting, coming: &mut Deliveries, rooms: &mut Rooms) -> Event
 /// Records the packet and what the links lose, and schedules what they deliver.
 fn send(
     wires: &Wires,
-    desc: &Description,
+    packet: SharedPacket,
     sending: Sending,
     bytes: PacketBytes,
     delay: u32,
@@ -328,6 +363,7 @@ fn send(
     queue: &mut Queue<Waiting>,
     air: &mut Airs,
 ) -> Result<(), NoMemory>
+    requires same { packet ≡ bytes }
     requires ahead { queue.old.now ≤ sending.at.time }
     requires room { sending.at.time + delay < 2 ^ 32 }
     ensures queue { MatchResult result (λ _. (coming : List Coming) → radio_agenda coming queue.new
@@ -340,7 +376,6 @@ fn send(
     ensures now { queue.new.now ≡ queue.old.now }
     ensures ahead { IsOnTime queue.old → IsOnTime queue.new }
 {
-    let packet = rooms.packet(desc, &bytes)?;
     air.push(Aired {
         stamp: sending.at,
         node: sending.node,

@@ -73,6 +73,22 @@ impl SharedPacket {
         }
     }
 
+    /// The bytes, with one owner, read for no machine.
+    pub fn unread(alloc: Global, bytes: PacketBytes) -> Result<SharedPacket, NoMemory>
+        ensures { IfOk result (λ shared. shared ≡ bytes) }
+    {
+        let reading = Reading {
+            bytes,
+            vm_id: 0,
+            handlers: 0,
+            packet: None,
+        };
+        match Rc::new(alloc, reading) {
+            Ok(reading) => Ok(SharedPacket { reading }),
+            Err(_) => Err(NoMemory),
+        }
+    }
+
     /// Whether it has these bytes, and was read for the machine.
     fn is_of(&self, desc: &Description, bytes: &PacketBytes) -> bool
         ensures { IsTrue result → self.now ≡ bytes.now }

@@ -5,8 +5,9 @@ ghost use Rattle.radio_sim.specs.Events.{cancelled_by};
 ghost use Rattle.radio_sim.specs.Flight.{first_and_rest};
 ghost use Rattle.radio_sim.specs.Waiting.{delivery_event, first_event, events_of};
 
-use crate::event::{Cancel, Event};
+use crate::event::Cancel;
 use crate::shared::SharedPacket;
+use crate::shared_event::SharedEvent;
 use event_queue::Grouped;
 use mate_num::{ContextId, HandlerId, NoMemory};
 use std::alloc::Global;
@@ -23,7 +24,7 @@ pub struct Delivery {
 
 impl Delivery {
     /// The event in which it arrives.
-    pub fn into_event(self) -> Event
+    pub fn into_event(self) -> SharedEvent
         ensures { result ≡ delivery_event self }
     {
         let Delivery {
@@ -31,7 +32,7 @@ impl Delivery {
             number,
             bytes,
         } = self;
-        Event::Deliver {
+        SharedEvent::Deliver {
             link,
             number,
             bytes,
@@ -125,16 +126,16 @@ pub enum Waiting {
 
 impl Waiting {
     /// The event waits. Only a delivery takes memory.
-    pub fn of_event(alloc: Global, event: Event) -> Result<Waiting, NoMemory>
+    pub fn of_event(alloc: Global, event: SharedEvent) -> Result<Waiting, NoMemory>
         ensures { IfOk result (λ waiting. events_of waiting ≡ event ∷ []) }
     {
         match event {
-            Event::Planned(line) => Ok(Waiting::Planned(line)),
-            Event::Period { node, handler } => Ok(Waiting::Period { node, handler }),
-            Event::Fire { node } => Ok(Waiting::Fire { node }),
-            Event::Expire { node } => Ok(Waiting::Expire { node }),
-            Event::Pump { node } => Ok(Waiting::Pump { node }),
-            Event::Due {
+            SharedEvent::Planned(line) => Ok(Waiting::Planned(line)),
+            SharedEvent::Period { node, handler } => Ok(Waiting::Period { node, handler }),
+            SharedEvent::Fire { node } => Ok(Waiting::Fire { node }),
+            SharedEvent::Expire { node } => Ok(Waiting::Expire { node }),
+            SharedEvent::Pump { node } => Ok(Waiting::Pump { node }),
+            SharedEvent::Due {
                 node,
                 ctx,
                 inv,
@@ -145,7 +146,7 @@ impl Waiting {
                 inv,
                 value,
             }),
-            Event::Deliver {
+            SharedEvent::Deliver {
                 link,
                 number,
                 bytes,

@@ -12,7 +12,7 @@ use crate::images::images_right;
 use crate::runs::first_failed_of;
 use audit_programs::{ReadyRoll, Trial};
 use audit_rules::{Law, Verdict, entries_follow};
-use mate_journal::{NodeLog, Programs, Report};
+use mate_journal::{NodeLog, Programs, Report, StoredPrograms, stored};
 use mate_num::NoMemory;
 use std::alloc::Global;
 use vm_shape::Description;
@@ -21,7 +21,7 @@ use vm_shape::Description;
 fn first_failed<'a>(
     alloc: Global,
     desc: &'a Description,
-    programs: &'a Programs,
+    programs: &'a StoredPrograms,
     log: &'a NodeLog,
     roll: &mut ReadyRoll<'a>,
 ) -> Result<Option<Law>, NoMemory>
@@ -50,11 +50,27 @@ fn first_failed<'a>(
 
 /// Whether a report shows serial behaviour of the programs: `Serial` exactly if each node's journal keeps each law, and otherwise the
 /// first node whose journal fails one, with the first law that it fails, in their order. `NoMemory` comes only if memory is refused: for
-/// what is live on a node at a time, for programs that are made ready, and for the calls of runs.
+/// what is live on a node at a time, for programs that are made ready, for the calls of runs, and for a copy of the programs' images. It
+/// is for callers from outside.
 pub fn audit(
     alloc: Global,
     desc: &Description,
     programs: &Programs,
+    report: &Report,
+) -> Result<Verdict, NoMemory>
+    requires tidy { IsTidy desc.now report.now }
+    requires right { AreRightPrograms desc.now programs.now }
+    ensures { IfOk result (λ v. IsVerdict desc.now programs.now report.now v) }
+{
+    let programs = stored(alloc, programs)?;
+    audit_stored(alloc, desc, &programs, report)
+}
+
+/// The same for programs that are stored. They aren't copied.
+pub fn audit_stored(
+    alloc: Global,
+    desc: &Description,
+    programs: &StoredPrograms,
     report: &Report,
 ) -> Result<Verdict, NoMemory>
     requires tidy { IsTidy desc.now report.now }

@@ -13,18 +13,18 @@ ghost use Rattle.audit_rules.specs.Views.{HasHandlerBelow};
 ghost use Rattle.report_audit.specs.Versions.{HasVersions};
 
 use audit_programs::find_program;
-use mate_journal::{Entry, ImageRef, NodeLog, Programs};
-use mate_num::{HANDLERS_MAX, HandlerId};
+use mate_journal::{Entry, NodeLog, StoredPrograms};
+use mate_num::{HANDLERS_MAX, HandlerId, Image};
 use vm_shape::Description;
 
 /// Whether one of the programs has this handler, version and image. The search begins at `place`, which then is the position of the
 /// program.
 fn is_one_of(
-    programs: &Programs,
+    programs: &StoredPrograms,
     place: &mut usize,
     handler: HandlerId,
     version: u32,
-    image: &ImageRef,
+    image: &Image,
 ) -> bool
     ensures { result ≡ list_any (is_held_as record { handler = handler; version = version; image = image.now }) programs.now }
 {
@@ -40,7 +40,7 @@ fn is_one_of(
 /// Whether what the entry installs, if it installs something, is one of the programs, and newer than what was installed. The search
 /// begins at `place`. `held` has the version that is installed for each handler, 0 for none, and gets the new one.
 fn installs_right(
-    programs: &Programs,
+    programs: &StoredPrograms,
     place: &mut usize,
     log: &NodeLog,
     held: &mut [u32; HANDLERS_MAX],
@@ -59,16 +59,14 @@ fn installs_right(
     else {
         return true;
     };
-    let Some(bytes) = log.images().get(*image as usize) else {
-        unreachable!()
-    };
+    let bytes = &log.images()[*image as usize];
     let before = held[usize::from(handler.0)];
     held[usize::from(handler.0)] = *version;
-    is_one_of(programs, place, *handler, *version, &bytes) && before < *version
+    is_one_of(programs, place, *handler, *version, bytes) && before < *version
 }
 
 /// Whether each install is of one of the programs, and newer than what was installed for its handler.
-pub(crate) fn images_right(desc: &Description, programs: &Programs, log: &NodeLog) -> bool
+pub(crate) fn images_right(desc: &Description, programs: &StoredPrograms, log: &NodeLog) -> bool
     requires few { length desc.now.handlers.items ≤ HANDLERS_MAX }
     requires tidy { IsTidyLog desc.now log.now }
     ensures { result ≡ told.images_right programs.now nobody (journal_of log.now) }

@@ -14,7 +14,7 @@ pub mod stores;
 pub mod waiting;
 
 pub use audit_rules::{Law, Verdict};
-pub use auditing::audit;
+pub use auditing::{audit, audit_stored};
 pub use granting::{is_granted, start_of};
 pub use replay::{run_at, zero_store};
 pub use rerun::all_so_far;

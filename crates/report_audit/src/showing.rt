@@ -16,7 +16,6 @@ ghost use Rattle.report_audit.specs.Waiting.{waiting_store};
 use crate::same::same_values;
 use audit_programs::{ReadyRoll, Trial};
 use audit_rules::{Seat, Stage};
-use mate_journal::StoreRef;
 use mate_num::{BufId, NoMemory, Resource, Store, VarId};
 use std::alloc::Global;
 
@@ -42,30 +41,11 @@ fn values_at(store: &Store, at: Resource) -> &[i16]
     }
 }
 
-/// The values that a store that is seen has in a variable or buffer.
-fn values_seen<'a>(seen: &StoreRef<'a>, at: Resource) -> &'a [i16]
-    ensures { result.now ≡ journal.values_at seen.now at }
-{
-    match at {
-        Resource::Shared(var) => {
-            let place = usize::from(var.0);
-            let shared = seen.shared();
-            if place < shared.len() {
-                &shared[place..place + 1]
-            } else {
-                &[]
-            }
-        }
-        Resource::Buffer(buf) => seen.buffer(usize::from(buf.0)),
-        Resource::Device(_) => &[],
-    }
-}
-
 /// Whether a store that is seen has the same values there as another store.
-fn same_at(seen: &StoreRef, store: &Store, at: Resource) -> bool
+fn same_at(seen: &Store, store: &Store, at: Resource) -> bool
     ensures { result ≡ are_same (journal.values_at seen.now at) (journal.values_at store.now at) }
 {
-    same_values(values_seen(seen, at), values_at(store, at))
+    same_values(values_at(seen, at), values_at(store, at))
 }
 
 /// The store that the run of the invocation leaves up to the call that it waits for; None if it doesn't wait.
@@ -140,7 +120,7 @@ fn shows_unwritten(
     trial: &Trial,
     roll: &ReadyRoll,
     store: &Store,
-    seen: &StoreRef,
+    seen: &Store,
     at: Resource,
 ) -> bool
     requires tried { IsTried trial.now }
@@ -160,7 +140,7 @@ fn agrees_at(
     store: &Store,
     seat: &Seat,
     left: &Option<Store>,
-    seen: &StoreRef,
+    seen: &Store,
     at: Resource,
 ) -> bool
     requires tried { IsTried trial.now }
@@ -182,7 +162,7 @@ fn all_agree(
     roll: &ReadyRoll,
     store: &Store,
     stores: &[Option<Store>],
-    seen: &StoreRef,
+    seen: &Store,
     at: Resource,
 ) -> bool
     requires tried { IsTried trial.now }
@@ -208,7 +188,7 @@ fn is_shown_at(
     roll: &ReadyRoll,
     store: &Store,
     stores: &[Option<Store>],
-    seen: &StoreRef,
+    seen: &Store,
     at: Resource,
 ) -> bool
     requires tried { IsTried trial.now }
@@ -227,7 +207,7 @@ fn all_variables_shown(
     roll: &ReadyRoll,
     store: &Store,
     stores: &[Option<Store>],
-    seen: &StoreRef,
+    seen: &Store,
     count: usize,
 ) -> bool
     requires tried { IsTried trial.now }
@@ -259,7 +239,7 @@ fn all_buffers_shown(
     roll: &ReadyRoll,
     store: &Store,
     stores: &[Option<Store>],
-    seen: &StoreRef,
+    seen: &Store,
     count: usize,
 ) -> bool
     requires tried { IsTried trial.now }
@@ -291,7 +271,7 @@ pub(crate) fn is_store_shown(
     trial: &Trial,
     roll: &ReadyRoll,
     store: &Store,
-    seen: &StoreRef,
+    seen: &Store,
 ) -> Result<bool, NoMemory>
     requires tried { IsTried trial.now }
     requires ready { All (IsSeatReady trial.now roll.now) roll.now.roll.seats.items }

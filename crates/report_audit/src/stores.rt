@@ -35,8 +35,6 @@ pub fn shows_right(
     let Entry::Seen { store: number } = entry else {
         return Ok(true);
     };
-    let Some(seen) = trial.log.stores().get(*number as usize) else {
-        unreachable!()
-    };
-    is_store_shown(alloc, trial, roll, store, &seen)
+    let seen = &trial.log.stores()[*number as usize];
+    is_store_shown(alloc, trial, roll, store, seen)
 }

@@ -75,7 +75,7 @@ fn add_to_log(log: &mut NodeLog, stamp: Stamp, told: LightTold, bulk: &Bulk) -> 
         LightTold::Installed { handler, version } => {
             log.push_install(stamp, handler, version, &bulk.image);
         }
-        LightTold::Shown => log.push_seen(stamp, &bulk.store),
+        LightTold::Shown => log.push_seen(stamp, bulk.store.copy()),
     }
     Ok(())
 }

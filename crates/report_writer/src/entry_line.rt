@@ -277,7 +277,7 @@ fn shown_in_front<const ROOM: usize>(
     ensures fits { length line.new ≤ length line.old + 24 * length desc.now.shared.items + 89 * length desc.now.buffers.items }
 {
     if let Some(store) = log.stores().get(store as usize) {
-        store_in_front(line, desc, &store);
+        store_in_front(line, desc, store);
     }
 }
 

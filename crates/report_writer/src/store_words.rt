@@ -8,8 +8,7 @@ ghost use Rattle.report_writer.specs.Words.{spaced, shared_word, buffer_word, st
 
 use crate::chunk::Chunk;
 use crate::front::values_in_front;
-use mate_journal::StoreRef;
-use mate_num::Name;
+use mate_num::{Name, Payload, Store};
 use vm_shape::Description;
 
 /// Room for each line that shows a store, in bytes: 24 for each shared variable, 89 for each buffer, and 41, which are at most
@@ -17,17 +16,13 @@ use vm_shape::Description;
 pub const STORE_LINE: usize = 1144;
 
 /// `NAME=V` per shared variable, and then `NAME=[V V]` per buffer.
-pub fn store_in_front<const ROOM: usize>(
-    line: &mut Chunk<ROOM>,
-    desc: &Description,
-    store: &StoreRef,
-)
+pub fn store_in_front<const ROOM: usize>(line: &mut Chunk<ROOM>, desc: &Description, store: &Store)
     requires { length line.old + 24 * length desc.now.shared.items + 89 * length desc.now.buffers.items ≤ ROOM }
     ensures adds { IsInFront line.old line.new (store_words desc.now store.now) }
     ensures fits { length line.new ≤ length line.old + 24 * length desc.now.shared.items + 89 * length desc.now.buffers.items }
 {
-    buffers_in_front(line, desc.buffers.as_slice(), store);
-    shared_in_front(line, desc.shared.as_slice(), store.shared());
+    buffers_in_front(line, desc.buffers.as_slice(), store.buffers.as_slice());
+    shared_in_front(line, desc.shared.as_slice(), store.shared.as_slice());
 }
 
 fn shared_in_front<const ROOM: usize>(line: &mut Chunk<ROOM>, names: &[Name], values: &[i16])
@@ -53,15 +48,15 @@ fn shared_word<const ROOM: usize>(line: &mut Chunk<ROOM>, name: &Name, value: i1
     line.byte(b' ');
 }
 
-fn buffers_in_front<const ROOM: usize>(line: &mut Chunk<ROOM>, names: &[Name], store: &StoreRef)
+fn buffers_in_front<const ROOM: usize>(line: &mut Chunk<ROOM>, names: &[Name], buffers: &[Payload])
     requires { length line.old + 89 * length names.now ≤ ROOM }
-    ensures adds { IsInFront line.old line.new (flat_map buffer_word (zip names.now store.now.buffers.items)) }
+    ensures adds { IsInFront line.old line.new (flat_map buffer_word (zip names.now buffers.now)) }
     ensures fits { length line.new ≤ length line.old + 89 * length names.now }
 {
-    let mut left = names.len().min(store.buffers());
+    let mut left = names.len().min(buffers.len());
     while left > 0 {
         left -= 1;
-        buffer_word(line, &names[left], store.buffer(left));
+        buffer_word(line, &names[left], buffers[left].as_slice());
     }
 }
 

@@ -3,7 +3,6 @@
 
 pub mod fault;
 pub mod lines;
-pub mod message;
 pub mod newest;
 pub mod node;
 pub mod steps;
@@ -12,7 +11,6 @@ pub mod world;
 
 pub use fault::{Cause, ScriptFault};
 pub use lines::Lines;
-pub use message::Message;
 pub use newest::{newest_of, note_newest};
 pub use node::node_script;
 pub use steps::{Step, Steps};

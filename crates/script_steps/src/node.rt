@@ -14,7 +14,6 @@ ghost use Rattle.vm_shape.specs.declared.description.Description.{Description};
 
 use crate::fault::{Cause, ScriptFault};
 use crate::lines::Lines;
-use crate::message::Message;
 use crate::newest::{newest_of, note_newest};
 use crate::steps::{Step, Steps};
 use crate::words::{Words, spells};
@@ -240,24 +239,12 @@ fn post_in<'a>(desc: &Description, words: &mut Words<'a>, said: &mut Said<'a>) -
     ensures right { IfOk result (λ _. (newest : List ℕ) (files : ℕ) → IsRightSaid desc.now newest files (said_of said.new)) }
 {
     let handler = words.handler(desc)?;
-    let payload = values_in(words)?;
+    let payload = words.payload()?;
     *said = Said {
         step: Step::Post { handler, payload },
         file: None,
     };
     Ok(())
-}
-
-// The values of a post. Most have none: then no payload is made to be copied.
-fn values_in(words: &mut Words<'_>) -> Result<Message, Cause>
-    ensures value { ReadsWords (λ m. m) a_payload (split_words words.old) result (split_words words.new) }
-    ensures few { IfOk result (λ m. length m.items ≤ PAYLOAD_MAX) }
-{
-    if words.is_done() {
-        return Ok(Message::none());
-    }
-    let payload = words.payload()?;
-    Ok(Message::of(&payload))
 }
 
 #[tactic(auto, unfolding(crate::specs::NodeScript::a_step))]

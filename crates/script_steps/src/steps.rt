@@ -3,8 +3,7 @@
 ghost use Rattle.std.specs.Prelude.{◌≡◌, ◌∷◌, ◌++◌, [], OnErr, OnOk};
 ghost use Rattle.script_steps.specs.declared.steps.Step.{Step};
 
-use crate::message::Message;
-use mate_num::{ContextId, HandlerId, Items, NoMemory, Text, Texts};
+use mate_num::{ContextId, HandlerId, Items, NoMemory, Payload, Text, Texts};
 use std::alloc::Global;
 use std::marker::Model;
 
@@ -24,7 +23,7 @@ pub enum Step {
     /// Post an event for the handler.
     Post {
         handler: HandlerId,
-        payload: Message,
+        payload: Payload,
     },
     /// Give the context a turn of at most `n` instructions, from 1 to 1,000,000.
     Step {
@@ -45,7 +44,7 @@ pub enum Step {
 }
 
 // A script has up to hundreds of thousands of steps.
-const _: () = prove!(size_of::<Step>() <= 24);
+const _: () = prove!(size_of::<Step>() <= 40);
 
 /// The steps of a script in order, and the names of the files of its installs and loads, in order.
 #[derive(Drop)]

@@ -6,7 +6,7 @@ use mate_journal::{
     Air, Aired, Airs, DropCause, Entry, NodeLog, NodeLogs, Program, Programs, Report, RunFault,
     Stamped, VoidCause,
 };
-use mate_num::{Image, NoMemory, Stamp};
+use mate_num::{Image, NoMemory, Stamp, Store};
 use std::alloc::Global;
 
 /// The number of the invocation that an entry is of, if it is of one.
@@ -61,19 +61,27 @@ pub fn packet_of(aired: &Aired) -> Option<u32> {
     }
 }
 
-/// A log with one entry, and an image.
-pub fn a_log(alloc: Global, stamp: Stamp, image: &Image) -> Result<NodeLog, NoMemory> {
+/// A log with one entry, an image and a store.
+pub fn a_log(
+    alloc: Global,
+    stamp: Stamp,
+    image: &Image,
+    store: &Store,
+) -> Result<NodeLog, NoMemory> {
     let mut log = NodeLog::new(alloc);
-    log.reserve(2)?;
-    if log.spare() < 2 {
+    log.reserve(3)?;
+    if log.spare() < 3 {
         return Ok(log);
     }
     log.push(Stamped {
         stamp,
         entry: Entry::Reset,
     });
-    let _number: u32 = log.add_image(image);
+    let _image: u32 = log.add_image(image);
+    let _store: u32 = log.add_store(store);
     let _entries: &[Stamped] = log.entries();
+    let _images: &[Image] = log.images();
+    let _stores: &[Store] = log.stores();
     log.cut(1, 1, 0);
     Ok(log)
 }
@@ -90,6 +98,7 @@ pub fn a_report(alloc: Global, log: NodeLog) -> Result<(usize, usize, u64, bool)
         node: 0,
         air: Air::Keep,
     })?;
+    air.cut(1);
     let report = Report::new(logs, air, 1, true);
     let nodes: &[NodeLog] = report.nodes();
     let air: &[Aired] = report.air();

@@ -8,6 +8,7 @@ pub mod capsules;
 pub mod code;
 pub mod commands;
 pub mod descriptions;
+pub mod exchanges;
 pub mod files;
 pub mod journals;
 pub mod language;

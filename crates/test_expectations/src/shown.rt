@@ -2,37 +2,47 @@
 
 ghost use Rattle.std.specs.Prelude.{◌≡◌, ◌≤◌, ◌<◌, ◌+◌, ◌^◌, fold};
 ghost use Rattle.std.specs.List.{list_all};
-ghost use Rattle.std.specs.Option.{option_to_list};
+ghost use Rattle.std.specs.Option.{option_copied, option_to_list};
+ghost use Rattle.mate_num.specs.Store.{buffer_at};
 ghost use Rattle.test_expectations.specs.Shown.{place_holds, shown_in, shown_by, at_first, with_next, log_shows, live_after, is_at_rest};
 ghost use Rattle.test_expectations.specs.Facts.{on_nodes};
 
 use crate::fact::{Place, When};
 use crate::pattern::in_ranges;
-use mate_journal::stores::StoreRef;
-use mate_journal::{Entry, NodeLog, Stamped, Stores};
+use mate_journal::{Entry, NodeLog, Stamped};
+use mate_num::{BufId, Store};
+
+/// The values in a buffer, or no values if there is no such buffer.
+fn values_in(store: &Store, buffer: BufId) -> &[i16]
+    ensures { result.now ≡ buffer_at store.now buffer.0 }
+{
+    match store.buffers.as_slice().get(usize::from(buffer.0)) {
+        Some(values) => values.as_slice(),
+        None => &[],
+    }
+}
 
 impl Place {
-    fn holds(&self, store: &StoreRef<'_>) -> bool
+    fn holds(&self, store: &Store) -> bool
         ensures { result ≡ place_holds self.now store.now }
     {
         match self {
             Place::Variable { variable, range } => {
-                match store.shared().get(usize::from(variable.0)) {
+                match store.shared.as_slice().get(usize::from(variable.0)) {
                     Some(value) => range.has(*value),
                     None => false,
                 }
             }
-            Place::Buffer { buffer, ranges } => in_ranges(
-                ranges.as_slice(),
-                store.buffer(usize::from(buffer.0)),
-            ),
+            Place::Buffer { buffer, ranges } => {
+                in_ranges(ranges.as_slice(), values_in(store, *buffer))
+            }
         }
     }
 }
 
 /// The store that an entry shows.
-fn shown_in<'a>(stores: &'a Stores, entry: &Entry) -> Option<StoreRef<'a>>
-    ensures { result ≡ shown_in stores.now.items entry.now }
+fn shown_in<'a>(stores: &'a [Store], entry: &Entry) -> Option<&'a Store>
+    ensures { option_copied result ≡ shown_in stores.now entry.now }
 {
     match entry {
         Entry::Seen { store } => stores.get(*store as usize),
@@ -41,8 +51,8 @@ fn shown_in<'a>(stores: &'a Stores, entry: &Entry) -> Option<StoreRef<'a>>
 }
 
 /// The store that an entry of a log shows up to a time.
-fn shown_by<'a>(by: u32, log: &'a NodeLog, stamped: &Stamped) -> Option<StoreRef<'a>>
-    ensures { result ≡ shown_by by log.now.stores stamped.now }
+fn shown_by<'a>(by: u32, log: &'a NodeLog, stamped: &Stamped) -> Option<&'a Store>
+    ensures { option_copied result ≡ shown_by by log.now.stores stamped.now }
 {
     if stamped.stamp.time <= by {
         shown_in(log.stores(), &stamped.entry)
@@ -72,11 +82,11 @@ impl When {
 }
 
 /// What held of the stores so far, with one more, if there is one.
-fn held_after(place: &Place, when: When, held: bool, store: Option<StoreRef<'_>>) -> bool
-    ensures { result ≡ fold (λ before s. with_next when before (place_holds place.now s)) held (option_to_list store.entry) }
+fn held_after(place: &Place, when: When, held: bool, store: Option<&Store>) -> bool
+    ensures { result ≡ fold (λ before s. with_next when before (place_holds place.now s)) held (option_to_list (option_copied store)) }
 {
     match store {
-        Some(store) => when.with_next(held, place.holds(&store)),
+        Some(store) => when.with_next(held, place.holds(store)),
         None => held,
     }
 }

@@ -90,7 +90,7 @@ impl<'a> Scanner<'a> {
         if self.tokens.len() < KEPT {
             return;
         }
-        self.tokens.truncate(0);
+        self.tokens.cut(0);
     }
 
     /// Reads blanks, a comment or a token; `first` is its first byte. It is inlined into the loops that call it: a source has many

@@ -28,7 +28,7 @@ use Rattle.mate_journal.specs.declared.air.Aired.{Aired}
 use Rattle.event_queue.specs.declared.queue.Timed.{Timed}
 use Rattle.event_queue.specs.Agenda.{Agenda, item_at, due_at, inserted, scheduled, scheduled_all, AddsAll}
 use Rattle.packet_codec.specs.declared.packet.Packet.{Packet}
-use Rattle.radio_sim.specs.declared.event.Event.{Event}
+use Rattle.radio_sim.specs.declared.shared_event.SharedEvent.{SharedEvent}
 use Rattle.radio_sim.specs.declared.wire.Wire.{Wire}
 use Rattle.radio_sim.specs.declared.wire.Sending.{Sending as Transmission}
 use Rattle.radio_sim.specs.Wires.{leaving, turned_wire, losts, delivered, lost_on}
@@ -44,13 +44,13 @@ use Rattle.world_air.proofs.WalkLemmas.{losts-are, delivered-are, due-own, due-e
 pub grows-nothing : (e : Ether) → EtherGrows e e [] []
 grows-nothing e = record { air = sym (append-nil e.air); gone = refl; due = λ t le. sym (append-nil (due_at t e.agenda.items)); until = refl; now = refl }
 
-pub grows-both : (old mid new : Ether) (fs bs : List Aired) (xs ys : List (Timed Event)) → EtherGrows old mid fs xs → EtherGrows mid new bs ys → EtherGrows old new (fs ++ bs) (xs ++ ys)
+pub grows-both : (old mid new : Ether) (fs bs : List Aired) (xs ys : List (Timed SharedEvent)) → EtherGrows old mid fs xs → EtherGrows mid new bs ys → EtherGrows old new (fs ++ bs) (xs ++ ys)
 grows-both old mid new fs bs xs ys a b = record {
   air = b.air ∙ ap (λ (rs : List Aired). rs ++ bs) a.air ∙ append_assoc old.air fs bs;
   gone = b.gone ∙ a.gone;
   due = λ t le.
-      b.due t (subst (λ (u : ℕ). t ≤ u) (sym a.until) le) ∙ ap (λ (es : List Event). es ++ due_at t ys) (a.due t le) ∙ append_assoc (due_at t old.agenda.items) (due_at t xs) (due_at t ys)
-      ∙ ap (λ (es : List Event). due_at t old.agenda.items ++ es) (sym (filter_map-append (item_at t) xs ys));
+      b.due t (subst (λ (u : ℕ). t ≤ u) (sym a.until) le) ∙ ap (λ (es : List SharedEvent). es ++ due_at t ys) (a.due t le) ∙ append_assoc (due_at t old.agenda.items) (due_at t xs) (due_at t ys)
+      ∙ ap (λ (es : List SharedEvent). due_at t old.agenda.items ++ es) (sym (filter_map-append (item_at t) xs ys));
   until = b.until ∙ a.until;
   now = b.now ∙ a.now;
 }
@@ -102,10 +102,10 @@ sends-both w node at senders ps qs old mid new a b =
     ap (map (aired_at at node)) (flat_map-append (air_of_sending w node) xs ys) ∙ map-append (aired_at at node) (air_of_all w node xs) (air_of_all w node ys) in
     let items : timed_events w (deliveries_of_all w node at.time (xs ++ ys)) ≡ timed_events w (deliveries_of_all w node at.time xs) ++ timed_events w (deliveries_of_all w node at.time ys) =
     ap (timed_events w) (flat_map-append (deliveries w node at.time) xs ys) ∙ map-append (timed_event w) (deliveries_of_all w node at.time xs) (deliveries_of_all w node at.time ys) in
-    let G : List Aired → List (Timed Event) → Type 0 = λ rs es. EtherGrows old new rs es in
+    let G : List Aired → List (Timed SharedEvent) → Type 0 = λ rs es. EtherGrows old new rs es in
     let both : G (map (aired_at at node) (air_of_all w node (xs ++ ys))) (timed_events w (deliveries_of_all w node at.time (xs ++ ys))) =
     subst (λ (rs : List Aired). G rs (timed_events w (deliveries_of_all w node at.time (xs ++ ys)))) (sym airs)
-    (subst (λ (es : List (Timed Event)). G (map (aired_at at node) (air_of_all w node xs) ++ map (aired_at at node) (air_of_all w node ys)) es) (sym items) (grows-both old mid new _ _ _ _ a.grows b.grows)) in
+    (subst (λ (es : List (Timed SharedEvent)). G (map (aired_at at node) (air_of_all w node xs) ++ map (aired_at at node) (air_of_all w node ys)) es) (sym items) (grows-both old mid new _ _ _ _ a.grows b.grows)) in
     record {
       grows = subst (λ (zs : List Sending). G (map (aired_at at node) (air_of_all w node zs)) (timed_events w (deliveries_of_all w node at.time zs))) (sym all) both;
       stands = subst (λ (ss : List ℕ). IsAirOf w ss new) (append_assoc senders (map (λ (p : Packet). node) ps) (map (λ (p : Packet). node) qs) ∙ ap (λ (ns : List ℕ). senders ++ ns) (sym (map-append (λ (p : Packet). node) ps qs))) b.stands;
@@ -115,24 +115,24 @@ sends-both w node at senders ps qs old mid new a b =
 -- ---- one transmission
 
 -- what comes at a time behind an addition at one time
-pub adds-due : (old new : Agenda Event) (at : ℕ) (es : List Event) → AddsAll old at es new → (t : ℕ) → t ≤ old.until
-    → due_at t new.items ≡ due_at t old.items ++ due_at t (map (λ (e : Event). let y : Timed Event = record { time = at; item = e } in y) es)
+pub adds-due : (old new : Agenda SharedEvent) (at : ℕ) (es : List SharedEvent) → AddsAll old at es new → (t : ℕ) → t ≤ old.until
+    → due_at t new.items ≡ due_at t old.items ++ due_at t (map (λ (e : SharedEvent). let y : Timed SharedEvent = record { time = at; item = e } in y) es)
 adds-due old new at es adds t le = elim (cases_eq t at) [
   | inl same ↦
       ap (λ (u : ℕ). due_at u new.items) same ∙ adds.last (subst (λ (u : ℕ). u ≤ old.until) same le)
-      ∙ ap (λ (xs : List Event). due_at at old.items ++ xs) (sym (due-own at es))
-      ∙ ap (λ (u : ℕ). due_at u old.items ++ due_at u (map (λ (e : Event). let y : Timed Event = record { time = at; item = e } in y) es)) (sym same)
+      ∙ ap (λ (xs : List SharedEvent). due_at at old.items ++ xs) (sym (due-own at es))
+      ∙ ap (λ (u : ℕ). due_at u old.items ++ due_at u (map (λ (e : SharedEvent). let y : Timed SharedEvent = record { time = at; item = e } in y) es)) (sym same)
   | inr other ↦
-      adds.others t other ∙ sym (append-nil (due_at t old.items)) ∙ ap (λ (xs : List Event). due_at t old.items ++ xs) (sym (due-elsewhere at t es (λ same. other (sym same))))
+      adds.others t other ∙ sym (append-nil (due_at t old.items)) ∙ ap (λ (xs : List SharedEvent). due_at t old.items ++ xs) (sym (due-elsewhere at t es (λ same. other (sym same))))
 ]
 
-pub scheduled-same : (q : Agenda Event) (t : ℕ) (x : Event) → ((scheduled q t x).until ≡ q.until) × ((scheduled q t x).now ≡ q.now)
+pub scheduled-same : (q : Agenda SharedEvent) (t : ℕ) (x : SharedEvent) → ((scheduled q t x).until ≡ q.until) × ((scheduled q t x).now ≡ q.now)
 scheduled-same q t x = by (nat_le t q.until) where
-  by : (b : Bool) → (let r : Agenda Event = if b then record q { items = inserted (record { time = t; item = x }) q.items } else q in (r.until ≡ q.until) × (r.now ≡ q.now))
+  by : (b : Bool) → (let r : Agenda SharedEvent = if b then record q { items = inserted (record { time = t; item = x }) q.items } else q in (r.until ≡ q.until) × (r.now ≡ q.now))
   by true = (refl, refl)
   by false = (refl, refl)
 
-all-same : (q : Agenda Event) (t : ℕ) (xs : List Event) → ((scheduled_all q t xs).until ≡ q.until) × ((scheduled_all q t xs).now ≡ q.now)
+all-same : (q : Agenda SharedEvent) (t : ℕ) (xs : List SharedEvent) → ((scheduled_all q t xs).until ≡ q.until) × ((scheduled_all q t xs).now ≡ q.now)
 all-same q t [] = (refl, refl)
 all-same q t (x ∷ xs) = let rest = all-same (scheduled q t x) t xs in let one = scheduled-same q t x in (rest.0 ∙ one.0, rest.1 ∙ one.1)
 
@@ -153,7 +153,7 @@ sends-one w node at senders packet bytes old new low stood fit bytes_are is adds
     gone = ap (λ (e : Ether). e.gone) same;
     due = λ t le.
         adds-due old.agenda new.agenda (at.time + w.description.radio.delay) (delivered s (sent_bytes w packet) (leaving w.random x.before node 0 w.links)) adding t le
-        ∙ ap (λ (es : List (Timed Event)). due_at t old.agenda.items ++ due_at t es) (delivered-are w node at x)
+        ∙ ap (λ (es : List (Timed SharedEvent)). due_at t old.agenda.items ++ due_at t es) (delivered-are w node at x)
         ∙ ap (λ (ds : List Scheduled). due_at t old.agenda.items ++ due_at t (timed_events w ds)) (sym (append-nil (deliveries w node at.time x)));
     until = ap (λ (e : Ether). e.agenda.until) same ∙ (all-same old.agenda (at.time + old.delay) (delivered s (sent_bytes w packet) (wires_of old node))).0;
     now = ap (λ (e : Ether). e.agenda.now) same ∙ (all-same old.agenda (at.time + old.delay) (delivered s (sent_bytes w packet) (wires_of old node))).1;

@@ -8,8 +8,8 @@ use Rattle.mate_journal.specs.declared.air.Aired.{Aired}
 use Rattle.event_queue.specs.declared.queue.Timed.{Timed}
 use Rattle.event_queue.specs.Agenda.{due_at, scheduled, Adds}
 use Rattle.event_queue.specs.Group.{is_in}
-use Rattle.radio_sim.specs.declared.event.Event.{Event}
-use Rattle.radio_sim.specs.declared.event.Event.TheVariants as radio
+use Rattle.radio_sim.specs.declared.shared_event.SharedEvent.{SharedEvent}
+use Rattle.radio_sim.specs.declared.shared_event.SharedEvent.TheVariants as radio
 use Rattle.radio_sim.specs.Events.{group_of}
 use Rattle.radio_sim.specs.Radio.{Ether}
 use Rattle.world_air.specs.declared.changes.Ends.{Ends}
@@ -21,7 +21,7 @@ use Rattle.world_air.proofs.AirLemmas.{grows-nothing, grows-both, adds-due, sche
 pub adds-nothing : (e : Ether) → AddsToAir e e [] []
 adds-nothing e = record { grows = grows-nothing e; sent = refl; wires = refl; delay = refl }
 
-pub adds-both : (old mid new : Ether) (fs bs : List Aired) (xs ys : List (Timed Event)) → AddsToAir old mid fs xs → AddsToAir mid new bs ys → AddsToAir old new (fs ++ bs) (xs ++ ys)
+pub adds-both : (old mid new : Ether) (fs bs : List Aired) (xs ys : List (Timed SharedEvent)) → AddsToAir old mid fs xs → AddsToAir mid new bs ys → AddsToAir old new (fs ++ bs) (xs ++ ys)
 adds-both old mid new fs bs xs ys a b = record { grows = grows-both old mid new fs bs xs ys a.grows b.grows; sent = b.sent ∙ a.sent; wires = b.wires ∙ a.wires; delay = b.delay ∙ a.delay }
 
 pub adds-record : (old new : Ether) (r : Aired) → new ≡ record old { air = old.air ++ r ∷ [] } → AddsToAir old new (r ∷ []) []
@@ -38,7 +38,7 @@ adds-record old new r is = record {
   delay = ap (λ (e : Ether). e.delay) is;
 }
 
-pub adds-event : (old new : Ether) (time : ℕ) (x : Event) → new ≡ record old { agenda = scheduled old.agenda time x } → Adds old.agenda time x new.agenda → AddsToAir old new [] (record { time = time; item = x } ∷ [])
+pub adds-event : (old new : Ether) (time : ℕ) (x : SharedEvent) → new ≡ record old { agenda = scheduled old.agenda time x } → Adds old.agenda time x new.agenda → AddsToAir old new [] (record { time = time; item = x } ∷ [])
 adds-event old new time x is adds =
     let same = scheduled-same old.agenda time x in record {
       grows = record {
@@ -56,47 +56,47 @@ adds-event old new time x is adds =
 -- ---- what ends
 
 -- not of the group, where it is cancelled
-outlasts : Bool → ℕ → Event → Bool
+outlasts : Bool → ℕ → SharedEvent → Bool
 outlasts b g e = not (b && is_in group_of g e)
 
-filter-all : (p : Event → Bool) (es : List Event) → ((e : Event) → p e ≡ true) → filter p es ≡ es
+filter-all : (p : SharedEvent → Bool) (es : List SharedEvent) → ((e : SharedEvent) → p e ≡ true) → filter p es ≡ es
 filter-all p [] all = refl
-filter-all p (e ∷ es) all = ap (λ (b : Bool). cond b (e ∷ filter p es) (filter p es)) (all e) ∙ ap (λ (fs : List Event). e ∷ fs) (filter-all p es all)
+filter-all p (e ∷ es) all = ap (λ (b : Bool). cond b (e ∷ filter p es) (filter p es)) (all e) ∙ ap (λ (fs : List SharedEvent). e ∷ fs) (filter-all p es all)
 
-filter-twice : (p q : Event → Bool) (es : List Event) → filter p (filter q es) ≡ filter (λ e. q e && p e) es
+filter-twice : (p q : SharedEvent → Bool) (es : List SharedEvent) → filter p (filter q es) ≡ filter (λ e. q e && p e) es
 filter-twice p q [] = refl
 filter-twice p q (e ∷ es) = by (q e) (filter-twice p q es) where
   by : (b : Bool) → filter p (filter q es) ≡ filter (λ e. q e && p e) es → filter p (cond b (e ∷ filter q es) (filter q es)) ≡ cond (b && p e) (e ∷ filter (λ e. q e && p e) es) (filter (λ e. q e && p e) es)
-  by true rest = ap (λ (fs : List Event). cond (p e) (e ∷ fs) fs) rest
+  by true rest = ap (λ (fs : List SharedEvent). cond (p e) (e ∷ fs) fs) rest
   by false rest = rest
 
-filter-near : (p q : Event → Bool) (es : List Event) → AreNear es → ((e : Event) → IsNear e → p e ≡ q e) → filter p es ≡ filter q es
+filter-near : (p q : SharedEvent → Bool) (es : List SharedEvent) → AreNear es → ((e : SharedEvent) → IsNear e → p e ≡ q e) → filter p es ≡ filter q es
 filter-near p q [] near same = refl
 filter-near p q (e ∷ es) near same =
-    ap (λ (b : Bool). cond b (e ∷ filter p es) (filter p es)) (same e near.0) ∙ ap (λ (fs : List Event). cond (q e) (e ∷ fs) fs) (filter-near p q es near.1 same)
+    ap (λ (b : Bool). cond b (e ∷ filter p es) (filter p es)) (same e near.0) ∙ ap (λ (fs : List SharedEvent). cond (q e) (e ∷ fs) fs) (filter-near p q es near.1 same)
 
 -- what comes at a time, of those that pass a test
-due-filter : (q : Event → Bool) (t : ℕ) (xs : List (Timed Event)) → due_at t (filter (λ (y : Timed Event). q y.item) xs) ≡ filter q (due_at t xs)
+due-filter : (q : SharedEvent → Bool) (t : ℕ) (xs : List (Timed SharedEvent)) → due_at t (filter (λ (y : Timed SharedEvent). q y.item) xs) ≡ filter q (due_at t xs)
 due-filter q t [] = refl
 due-filter q t (x ∷ xs) = by (q x.item) (x.time == t) refl refl (due-filter q t xs) where
-  first : (b : Bool) → q x.item ≡ b → due_at t (filter (λ (y : Timed Event). q y.item) (x ∷ xs)) ≡ due_at t (cond b (x ∷ filter (λ (y : Timed Event). q y.item) xs) (filter (λ (y : Timed Event). q y.item) xs))
-  first b e = ap (λ (z : Bool). due_at t (cond z (x ∷ filter (λ (y : Timed Event). q y.item) xs) (filter (λ (y : Timed Event). q y.item) xs))) e
+  first : (b : Bool) → q x.item ≡ b → due_at t (filter (λ (y : Timed SharedEvent). q y.item) (x ∷ xs)) ≡ due_at t (cond b (x ∷ filter (λ (y : Timed SharedEvent). q y.item) xs) (filter (λ (y : Timed SharedEvent). q y.item) xs))
+  first b e = ap (λ (z : Bool). due_at t (cond z (x ∷ filter (λ (y : Timed SharedEvent). q y.item) xs) (filter (λ (y : Timed SharedEvent). q y.item) xs))) e
 
-  comes : (c : Bool) (ys : List (Timed Event)) → (x.time == t) ≡ c → due_at t (x ∷ ys) ≡ cons_option (if c then Some x.item else None) (due_at t ys)
+  comes : (c : Bool) (ys : List (Timed SharedEvent)) → (x.time == t) ≡ c → due_at t (x ∷ ys) ≡ cons_option (if c then Some x.item else None) (due_at t ys)
   comes c ys f = ap (λ (z : Bool). cons_option (if z then Some x.item else None) (due_at t ys)) f
 
-  passes : (b : Bool) (es : List Event) → q x.item ≡ b → filter q (x.item ∷ es) ≡ cond b (x.item ∷ filter q es) (filter q es)
+  passes : (b : Bool) (es : List SharedEvent) → q x.item ≡ b → filter q (x.item ∷ es) ≡ cond b (x.item ∷ filter q es) (filter q es)
   passes b es e = ap (λ (z : Bool). cond z (x.item ∷ filter q es) (filter q es)) e
 
-  by : (b c : Bool) → q x.item ≡ b → (x.time == t) ≡ c → due_at t (filter (λ (y : Timed Event). q y.item) xs) ≡ filter q (due_at t xs)
-      → due_at t (filter (λ (y : Timed Event). q y.item) (x ∷ xs)) ≡ filter q (due_at t (x ∷ xs))
+  by : (b c : Bool) → q x.item ≡ b → (x.time == t) ≡ c → due_at t (filter (λ (y : Timed SharedEvent). q y.item) xs) ≡ filter q (due_at t xs)
+      → due_at t (filter (λ (y : Timed SharedEvent). q y.item) (x ∷ xs)) ≡ filter q (due_at t (x ∷ xs))
   by true true e f rest =
-      first true e ∙ comes true (filter (λ (y : Timed Event). q y.item) xs) f ∙ ap (λ (es : List Event). x.item ∷ es) rest ∙ sym (ap (filter q) (comes true xs f) ∙ passes true (due_at t xs) e)
-  by true false e f rest = first true e ∙ comes false (filter (λ (y : Timed Event). q y.item) xs) f ∙ rest ∙ sym (ap (filter q) (comes false xs f))
+      first true e ∙ comes true (filter (λ (y : Timed SharedEvent). q y.item) xs) f ∙ ap (λ (es : List SharedEvent). x.item ∷ es) rest ∙ sym (ap (filter q) (comes true xs f) ∙ passes true (due_at t xs) e)
+  by true false e f rest = first true e ∙ comes false (filter (λ (y : Timed SharedEvent). q y.item) xs) f ∙ rest ∙ sym (ap (filter q) (comes false xs f))
   by false true e f rest = first false e ∙ rest ∙ sym (ap (filter q) (comes true xs f) ∙ passes false (due_at t xs) e)
   by false false e f rest = first false e ∙ rest ∙ sym (ap (filter q) (comes false xs f))
 
-left-due : (b : Bool) (g t : ℕ) (xs : List (Timed Event)) → due_at t (left_items b g xs) ≡ filter (outlasts b g) (due_at t xs)
+left-due : (b : Bool) (g t : ℕ) (xs : List (Timed SharedEvent)) → due_at t (left_items b g xs) ≡ filter (outlasts b g) (due_at t xs)
 unfolding outlasts
 left-due true g t xs = due-filter (λ e. not (is_in group_of g e)) t xs
 left-due false g t xs = sym (filter-all (λ e. not (false && is_in group_of g e)) (due_at t xs) (λ e. refl))
@@ -138,7 +138,7 @@ shifted n k node = elim (eqb_tells k node) [
   | inr e ↦ ne_eqb (n + k) (n + node) (λ same. e.1 (omega (arith, same))) ∙ sym e.0
 ]
 
-tests : (node : ℕ) (ends : Ends) (e : Event) → node < 256 → IsNear e → ((outlasts ends.interval node e && outlasts ends.pump (256 + node) e) && outlasts ends.answers (512 + node) e) ≡ stays node ends e
+tests : (node : ℕ) (ends : Ends) (e : SharedEvent) → node < 256 → IsNear e → ((outlasts ends.interval node e && outlasts ends.pump (256 + node) e) && outlasts ends.answers (512 + node) e) ≡ stays node ends e
 unfolding outlasts
 tests node ends (radio.Fire k) low near = first-of (not (ends.interval && k == node)) ends.pump ends.answers (k == 256 + node) (k == 512 + node) (ne_eqb k (256 + node) (λ same. omega (arith, same, near))) (ne_eqb k (512 + node) (λ same. omega (arith, same, near)))
 tests node ends (radio.Expire k) low near = first-of (not (ends.interval && k == node)) ends.pump ends.answers (k == 256 + node) (k == 512 + node) (ne_eqb k (256 + node) (λ same. omega (arith, same, near))) (ne_eqb k (512 + node) (λ same. omega (arith, same, near)))
@@ -163,7 +163,7 @@ cancels-three node ends old one two new low a b c =
     c ∙ ap (left_in ends.answers (512 + node)) (b ∙ ap (left_in ends.pump (256 + node)) a) in
     record {
       due = λ t near.
-          let xs : List (Timed Event) = old.agenda.items in
+          let xs : List (Timed SharedEvent) = old.agenda.items in
           ap (λ (e : Ether). due_at t e.agenda.items) all
           ∙ left-due ends.answers (512 + node) t (left_items ends.pump (256 + node) (left_items ends.interval node xs))
           ∙ ap (filter (outlasts ends.answers (512 + node))) (left-due ends.pump (256 + node) t (left_items ends.interval node xs) ∙ ap (filter (outlasts ends.pump (256 + node))) (left-due ends.interval node t xs))

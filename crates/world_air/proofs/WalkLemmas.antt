@@ -11,8 +11,8 @@ use Rattle.event_queue.specs.declared.queue.Timed.{Timed}
 use Rattle.event_queue.specs.Agenda.{due_at}
 use Rattle.event_queue.proofs.AgendaLemmas.{due_at-own, due_at-other}
 use Rattle.script_steps.specs.declared.world.Link.{Link}
-use Rattle.radio_sim.specs.declared.event.Event.{Event}
-use Rattle.radio_sim.specs.declared.event.Event.TheVariants as radio
+use Rattle.radio_sim.specs.declared.shared_event.SharedEvent.{SharedEvent}
+use Rattle.radio_sim.specs.declared.shared_event.SharedEvent.TheVariants as radio
 use Rattle.radio_sim.specs.declared.wire.Wire.{Wire}
 use Rattle.radio_sim.specs.Wires.{wire_after, leaving, lost_on, delivered_on, losts, delivered}
 use Rattle.world_rules.specs.Cause as event
@@ -79,17 +79,17 @@ module _ (w : World) (node : ℕ) (at : Stamp) (x : Sending) where
 
   -- ---- what is delivered
 
-  delivered-if : (b : Bool) (j : ℕ) → map (λ (e : Event). let y : Timed Event = record { time = at.time + w.description.radio.delay; item = e } in y) (option_to_list (if b then None else Some (radio.Deliver j x.number (sent_bytes w x.packet))))
+  delivered-if : (b : Bool) (j : ℕ) → map (λ (e : SharedEvent). let y : Timed SharedEvent = record { time = at.time + w.description.radio.delay; item = e } in y) (option_to_list (if b then None else Some (radio.Deliver j x.number (sent_bytes w x.packet))))
       ≡ timed_events w (if b then [] else record { time = at.time + w.description.radio.delay; cause = event.Deliver j x.number x.packet } ∷ [])
   delivered-if true j = refl
   delivered-if false j = refl
 
-  pub delivered-are : map (λ (e : Event). let y : Timed Event = record { time = at.time + w.description.radio.delay; item = e } in y) (delivered (record { at = at; node = node; number = x.number }) (sent_bytes w x.packet) (leaving w.random x.before node 0 w.links))
+  pub delivered-are : map (λ (e : SharedEvent). let y : Timed SharedEvent = record { time = at.time + w.description.radio.delay; item = e } in y) (delivered (record { at = at; node = node; number = x.number }) (sent_bytes w x.packet) (leaving w.random x.before node 0 w.links))
       ≡ timed_events w (deliveries w node at.time x)
   delivered-are =
-      let put : Event → Timed Event = λ e. record { time = at.time + w.description.radio.delay; item = e } in
-      let f : Wire → List (Timed Event) = λ v. map put (option_to_list (delivered_on (record { at = at; node = node; number = x.number }) (sent_bytes w x.packet) v)) in
-      let g : ℕ → List (Timed Event) = λ j. timed_events w (if is_lost w x j then [] else record { time = at.time + w.description.radio.delay; cause = event.Deliver j x.number x.packet } ∷ []) in
+      let put : SharedEvent → Timed SharedEvent = λ e. record { time = at.time + w.description.radio.delay; item = e } in
+      let f : Wire → List (Timed SharedEvent) = λ v. map put (option_to_list (delivered_on (record { at = at; node = node; number = x.number }) (sent_bytes w x.packet) v)) in
+      let g : ℕ → List (Timed SharedEvent) = λ j. timed_events w (if is_lost w x j then [] else record { time = at.time + w.description.radio.delay; cause = event.Deliver j x.number x.packet } ∷ []) in
       let each : (j : ℕ) (l : Link) → slice_get w.links j ≡ Some l → f (wire_after w.random x.before j l) ≡ g j =
       λ j l e. delivered-if (nat_lt (stream_word w (128 + j) x.before % 1000) l.loss) j
       ∙ ap (λ (o : Option Link). timed_events w (if nat_lt (stream_word w (128 + j) x.before % 1000) (option_map_or (λ (y : Link). y.loss) o 0) then [] else record { time = at.time + w.description.radio.delay; cause = event.Deliver j x.number x.packet } ∷ [])) (sym e) in
@@ -99,10 +99,10 @@ module _ (w : World) (node : ℕ) (at : Stamp) (x : Sending) where
 
 -- ---- items at one time
 
-pub due-own : (t : ℕ) (es : List Event) → due_at t (map (λ (e : Event). let y : Timed Event = record { time = t; item = e } in y) es) ≡ es
+pub due-own : (t : ℕ) (es : List SharedEvent) → due_at t (map (λ (e : SharedEvent). let y : Timed SharedEvent = record { time = t; item = e } in y) es) ≡ es
 due-own t [] = refl
-due-own t (e ∷ es) = due_at-own (record { time = t; item = e }) (map (λ (e : Event). let y : Timed Event = record { time = t; item = e } in y) es) t refl ∙ ap (λ (xs : List Event). e ∷ xs) (due-own t es)
+due-own t (e ∷ es) = due_at-own (record { time = t; item = e }) (map (λ (e : SharedEvent). let y : Timed SharedEvent = record { time = t; item = e } in y) es) t refl ∙ ap (λ (xs : List SharedEvent). e ∷ xs) (due-own t es)
 
-pub due-elsewhere : (s t : ℕ) (es : List Event) → s ≢ t → due_at t (map (λ (e : Event). let y : Timed Event = record { time = s; item = e } in y) es) ≡ []
+pub due-elsewhere : (s t : ℕ) (es : List SharedEvent) → s ≢ t → due_at t (map (λ (e : SharedEvent). let y : Timed SharedEvent = record { time = s; item = e } in y) es) ≡ []
 due-elsewhere s t [] other = refl
-due-elsewhere s t (e ∷ es) other = due_at-other (record { time = s; item = e }) (map (λ (e : Event). let y : Timed Event = record { time = s; item = e } in y) es) t other ∙ due-elsewhere s t es other
+due-elsewhere s t (e ∷ es) other = due_at-other (record { time = s; item = e }) (map (λ (e : SharedEvent). let y : Timed SharedEvent = record { time = s; item = e } in y) es) t other ∙ due-elsewhere s t es other

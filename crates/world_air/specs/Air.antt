@@ -9,8 +9,8 @@ use Rattle.event_queue.specs.declared.queue.Timed.{Timed}
 use Rattle.event_queue.specs.Agenda.{due_at}
 use Rattle.packet_codec.specs.declared.packet.Packet.{Packet}
 use Rattle.packet_codec.specs.Packet.{IsRightPacket, HasPacketRanges}
-use Rattle.radio_sim.specs.declared.event.Event.{Event}
-use Rattle.radio_sim.specs.declared.event.Event.TheVariants as radio
+use Rattle.radio_sim.specs.declared.shared_event.SharedEvent.{SharedEvent}
+use Rattle.radio_sim.specs.declared.shared_event.SharedEvent.TheVariants as radio
 use Rattle.radio_sim.specs.Radio.{Ether, wires_of, IsEtherOf}
 use Rattle.script_steps.specs.declared.world.World.{World as Script}
 use Rattle.world_rules.specs.Cause.{Cause}
@@ -21,7 +21,7 @@ use Rattle.world_rules.specs.State.{Scheduled, Sending, sent_bytes, numbered_sen
 -- ---- causes as events of the radio
 
 -- the event of a cause: a packet as its bytes
-abbrev pub radio_event : World → Cause → Event
+abbrev pub radio_event : World → Cause → SharedEvent
 radio_event w (event.Planned line) = radio.Planned line
 radio_event w (event.Period node h) = radio.Period node h
 radio_event w (event.Fire node) = radio.Fire node
@@ -30,11 +30,11 @@ radio_event w (event.Pump node) = radio.Pump node
 radio_event w (event.Due node c inv value) = radio.Due node c inv value
 radio_event w (event.Deliver link number packet) = radio.Deliver link number (sent_bytes w packet)
 
-abbrev pub timed_event : World → Scheduled → Timed Event
+abbrev pub timed_event : World → Scheduled → Timed SharedEvent
 timed_event w x = record { time = x.time; item = radio_event w x.cause }
 
 -- what is scheduled, as items of the radio's agenda
-abbrev pub timed_events : World → List Scheduled → List (Timed Event)
+abbrev pub timed_events : World → List Scheduled → List (Timed SharedEvent)
 timed_events w xs = map (timed_event w) xs
 
 -- records of one event
@@ -61,7 +61,7 @@ pub record IsAirOf (w : World) (senders : List ℕ) (e : Ether) : Type 0 where
   pub delay : e.delay ≡ w.description.radio.delay
 
 -- more records, and at each time more items after those that came there
-pub record EtherGrows (old new : Ether) (airs : List Aired) (items : List (Timed Event)) : Type 0 where
+pub record EtherGrows (old new : Ether) (airs : List Aired) (items : List (Timed SharedEvent)) : Type 0 where
   pub air : new.air ≡ old.air ++ airs
   pub gone : new.gone ≡ old.gone
   pub due : (t : ℕ) → t ≤ old.agenda.until → due_at t new.agenda.items ≡ due_at t old.agenda.items ++ due_at t items

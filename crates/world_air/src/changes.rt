@@ -5,11 +5,11 @@ ghost use Rattle.std.specs.Option.{option_to_list};
 ghost use Rattle.radio_sim.specs.Events.{cancel_number};
 ghost use Rattle.world_air.specs.Air.{aired_at};
 ghost use Rattle.world_air.specs.Changes.{AddsToAir, CancelsAll, left_items, if_begins};
-ghost use Rattle.radio_sim.specs.declared.event.Event.TheVariants as radio_event;
+ghost use Rattle.radio_sim.specs.declared.shared_event.SharedEvent.TheVariants as radio_event;
 
 use mate_journal::{Air, Aired};
 use mate_num::{NoMemory, Stamp};
-use radio_sim::{Cancel, Event, Radio};
+use radio_sim::{Cancel, Radio, SharedEvent};
 
 /// Which events of a node end with what comes to it.
 #[derive(Clone, Copy)]
@@ -89,11 +89,11 @@ pub fn note_interval(
 }
 
 /// Schedules an event.
-pub fn schedule(radio: &mut Radio, time: u32, event: Event) -> Result<(), NoMemory>
+pub fn schedule(radio: &mut Radio, time: u32, event: SharedEvent) -> Result<(), NoMemory>
     requires { radio.old.agenda.now ≤ time }
     ensures { OnOk result (AddsToAir radio.old radio.new [] (record { time = time; item = event } ∷ [])) }
 {
-    radio.schedule(time, event)?;
+    radio.schedule_shared(time, event)?;
     Ok(())
 }
 
@@ -104,7 +104,7 @@ pub fn schedule_interval(radio: &mut Radio, node: u8, point: u32, end: u32) -> R
     ensures { OnOk result (AddsToAir radio.old radio.new [] (record { time = point; item = radio_event.Fire node }
         ∷ record { time = end; item = radio_event.Expire node } ∷ [])) }
 {
-    schedule(radio, point, Event::Fire { node })?;
-    schedule(radio, end, Event::Expire { node })?;
+    schedule(radio, point, SharedEvent::Fire { node })?;
+    schedule(radio, end, SharedEvent::Expire { node })?;
     Ok(())
 }

@@ -3,13 +3,13 @@
 ghost use Rattle.std.specs.Prelude.{◌≡◌, ◌<◌, ◌≤◌, ◌∷◌, [], length, OnOk};
 ghost use Rattle.mate_journal.specs.declared.air.Air.TheVariants as air;
 ghost use Rattle.world_air.specs.Air.{aired_at};
-ghost use Rattle.radio_sim.specs.declared.event.Event.TheVariants as radio_event;
+ghost use Rattle.radio_sim.specs.declared.shared_event.SharedEvent.TheVariants as radio_event;
 ghost use Rattle.world_air.specs.Changes.{AddsToAir};
 ghost use Rattle.world_air.specs.Starting.{beginning, planned_items, first_items, first_periods, period_item};
 
 use crate::changes::{note_interval, schedule, schedule_interval};
 use mate_num::{HandlerId, NoMemory, Stamp};
-use radio_sim::{Event, Radio};
+use radio_sim::{Radio, SharedEvent};
 use script_steps::World;
 use trickle_timer::Trickle;
 use vm_shape::{Description, HandlerKind};
@@ -79,7 +79,7 @@ fn schedule_period(
     match kind {
         HandlerKind::Plain => Ok(()),
         HandlerKind::Timer { period } => {
-            schedule(radio, period, Event::Period { node, handler })
+            schedule(radio, period, SharedEvent::Period { node, handler })
         }
         HandlerKind::Receive => Ok(()),
         HandlerKind::Once => Ok(()),

@@ -11,7 +11,7 @@ use Rattle.world_laws.proofs.Bounds.{airs-more}
 use Rattle.mate_journal.specs.Tidy.{NumbersInOrder}
 use Rattle.mate_journal.specs.declared.air.Aired.{Aired}
 use Rattle.mate_journal.specs.declared.program.Program.{Program}
-use Rattle.radio_sim.specs.declared.event.Event.{Event}
+use Rattle.radio_sim.specs.declared.shared_event.SharedEvent.{SharedEvent}
 use Rattle.vm_shape.specs.declared.description.Description.{Description}
 use Rattle.world_rules.specs.World.{World}
 use Rattle.world_rules.specs.Effect.{event_node}
@@ -57,7 +57,7 @@ event-airs w ms m old new was is =
     subst P (sym was) (subst Q (sym is) (airs-more w m ms))
 
 -- an event's lines, on the node that it came to
-pub piece-adds : (w : World) (law : EventsAddTheirLines w) (d : Description) (script : Script) (ps : List Program) (e : Event) (at : Stamp) (s : Simulation) (number : ℕ) (x y : Mote) (radio : Ether)
+pub piece-adds : (w : World) (law : EventsAddTheirLines w) (d : Description) (script : Script) (ps : List Program) (e : SharedEvent) (at : Stamp) (s : Simulation) (number : ℕ) (x y : Mote) (radio : Ether)
     (b : StandsAtNext w e at s) → (may : MayPerform w b.moments b.cause number e at s.radio x) → (p : Performed w b.moments b.cause number at s.radio radio x y) → number < length s.motes.items → NumbersInOrder x.node.log → NumbersInOrder y.node.log
     → get_or s.motes.items number x ≡ x → (new : Simulation) → new.radio ≡ radio → new.motes.items ≡ set s.motes.items number y → AddsEvent at.event s new number
 piece-adds w law d script ps e at s number x y radio b may p low xn yn found new radio_is motes_is =

@@ -21,8 +21,8 @@ use Rattle.packet_codec.specs.Bytes.{packet_bytes}
 use Rattle.packet_codec.specs.Packet.{IsRightPacket, HasPacketRanges}
 use Rattle.packet_codec.specs.declared.packet.Packet.{Packet}
 use Rattle.packet_codec.specs.declared.packet.Packet.TheVariants.{Vector, App}
-use Rattle.radio_sim.specs.declared.event.Event.{Event}
-use Rattle.radio_sim.specs.declared.event.Event.TheVariants as radio
+use Rattle.radio_sim.specs.declared.shared_event.SharedEvent.{SharedEvent}
+use Rattle.radio_sim.specs.declared.shared_event.SharedEvent.TheVariants as radio
 use Rattle.trickle_timer.specs.Intervals.{at_point, Expired}
 use Rattle.trickle_timer.specs.declared.timer.Fire.{Fire}
 use Rattle.trickle_timer.specs.declared.timer.Fire.TheVariants as fire
@@ -52,7 +52,7 @@ use Rattle.world_event.proofs.LineLemmas.{never, answering, does-answer}
 -- ---- the cause of an event of the radio
 
 -- with the packet of a delivery in place of its bytes
-cause_by : Event → Packet → Cause
+cause_by : SharedEvent → Packet → Cause
 cause_by (radio.Planned line) p = event.Planned line
 cause_by (radio.Period node h) p = event.Period node h
 cause_by (radio.Fire node) p = event.Fire node
@@ -70,17 +70,17 @@ unfolding cause_by packet_of
 its-cause w (event.Planned line) = refl
 its-cause w _ = refl
 
-abbrev is_delivery : Event → Bool
+abbrev is_delivery : SharedEvent → Bool
 is_delivery (radio.Deliver link number bytes) = true
 is_delivery _ = false
 
-no-delivery : (e : Event) (link number : ℕ) (bytes : ArrayVec ℕ) → is_delivery e ≡ false → e ≡ radio.Deliver link number bytes → ⊥
+no-delivery : (e : SharedEvent) (link number : ℕ) (bytes : ArrayVec ℕ) → is_delivery e ≡ false → e ≡ radio.Deliver link number bytes → ⊥
 no-delivery e link number bytes other is = false≢true (sym other ∙ ap is_delivery is)
 
 abbrev HandledIf : World → ℕ → Node → Stamp → Mote → Mote → Effect → Cause → Type 0
 HandledIf w k n at old new r c = MayComeTo w n at.time c → Handled w k n c at old new r
 
-abbrev pub HandlesEvent : Description → Script → List Program → Event → Stamp → Mote → Mote → Effect → Type 0
+abbrev pub HandlesEvent : Description → Script → List Program → SharedEvent → Stamp → Mote → Mote → Effect → Type 0
 HandlesEvent d script ps e at old new r =
     (k : ℕ) (n : Node) (c : Cause) → IsMoteOf (code_world d script ps) k n old → radio_event (code_world d script ps) c ≡ e → MayComeTo (code_world d script ps) n at.time c
     → Handled (code_world d script ps) k n c at old new r
@@ -140,8 +140,8 @@ module _ (d : Description) (script : Script) (ps : List Program) (at : Stamp) (o
   w = code_world d script ps
 
   -- a cause whose event is that of this one, but for the packet
-  as-cause : (k : ℕ) (n : Node) (e : Event) (c : Cause) → radio_event w c ≡ e → HandledIf w k n at old new r (cause_by e (packet_of c)) → HandledIf w k n at old new r c
-  as-cause k n e c is done = subst (HandledIf w k n at old new r) (ap (λ (x : Event). cause_by x (packet_of c)) (sym is) ∙ its-cause w c) done
+  as-cause : (k : ℕ) (n : Node) (e : SharedEvent) (c : Cause) → radio_event w c ≡ e → HandledIf w k n at old new r (cause_by e (packet_of c)) → HandledIf w k n at old new r c
+  as-cause k n e c is done = subst (HandledIf w k n at old new r) (ap (λ (x : SharedEvent). cause_by x (packet_of c)) (sym is) ∙ its-cause w c) done
 
   pub handles-planned : (line : ℕ) (planned : Planned) → slice_get script.events line ≡ Some planned → DoesBy at (λ _ _. of_line (want_of (program_at ps) planned.what)) old new r
       → HandlesEvent d script ps (radio.Planned line) at old new r
@@ -207,7 +207,7 @@ module _ (d : Description) (script : Script) (ps : List Program) (at : Stamp) (o
         by-effect d script ps k n (event.Deliver place number p) (λ v x. record (of_packet v x.exchange p) { first = air.Got number link.from ∷ [] }) at old new r effect_is refl is
         (does p may.expected.1.right may.expected.1.ranges same) may
 
-    bytes_in : Event → ArrayVec ℕ
+    bytes_in : SharedEvent → ArrayVec ℕ
     bytes_in (radio.Planned line) = bytes
     bytes_in (radio.Period node h) = bytes
     bytes_in (radio.Fire node) = bytes
@@ -217,7 +217,7 @@ module _ (d : Description) (script : Script) (ps : List Program) (at : Stamp) (o
     bytes_in (radio.Deliver link number b) = b
 
     delivered : (c : Cause) → radio_event w c ≡ radio.Deliver place number bytes → HandledIf w k n at old new r c
-    delivered (event.Deliver j m p) e = as-cause k n (radio.Deliver place number bytes) (event.Deliver j m p) e (at-packet p (ap (λ (x : Event). (bytes_in x).items) (sym e)))
+    delivered (event.Deliver j m p) e = as-cause k n (radio.Deliver place number bytes) (event.Deliver j m p) e (at-packet p (ap (λ (x : SharedEvent). (bytes_in x).items) (sym e)))
     delivered (event.Planned line) e = absurd (no-delivery (radio.Planned line) place number bytes refl e)
     delivered (event.Period node h) e = absurd (no-delivery (radio.Period node h) place number bytes refl e)
     delivered (event.Fire node) e = absurd (no-delivery (radio.Fire node) place number bytes refl e)

@@ -11,7 +11,7 @@ use Rattle.mate_journal.specs.declared.air.Aired.{Aired}
 use Rattle.event_queue.specs.declared.queue.Timed.{Timed}
 use Rattle.event_queue.specs.Agenda.{due_at}
 use Rattle.packet_codec.specs.declared.packet.Packet.{Packet}
-use Rattle.radio_sim.specs.declared.event.Event.{Event}
+use Rattle.radio_sim.specs.declared.shared_event.SharedEvent.{SharedEvent}
 use Rattle.radio_sim.specs.Radio.{Ether}
 use Rattle.trickle_timer.specs.Timer.{Timer}
 use Rattle.world_rules.specs.Cause.{Cause}
@@ -63,9 +63,9 @@ five : (w : World) (p i d u a : List Scheduled) → (timed_events w p ++ timed_e
 five w p i d u a =
     append_assoc (timed_events w p) (timed_events w i) (timed_events w d ++ (timed_events w u ++ timed_events w a))
     ∙ sym (map-append (timed_event w) p (i ++ (d ++ (u ++ a)))
-    ∙ ap (λ (xs : List (Timed Event)). timed_events w p ++ xs) (map-append (timed_event w) i (d ++ (u ++ a))
-    ∙ ap (λ (xs : List (Timed Event)). timed_events w i ++ xs) (map-append (timed_event w) d (u ++ a)
-    ∙ ap (λ (xs : List (Timed Event)). timed_events w d ++ xs) (map-append (timed_event w) u a))))
+    ∙ ap (λ (xs : List (Timed SharedEvent)). timed_events w p ++ xs) (map-append (timed_event w) i (d ++ (u ++ a))
+    ∙ ap (λ (xs : List (Timed SharedEvent)). timed_events w i ++ xs) (map-append (timed_event w) d (u ++ a)
+    ∙ ap (λ (xs : List (Timed SharedEvent)). timed_events w d ++ xs) (map-append (timed_event w) u a))))
 
 -- what is left where the event cancelled
 left-there : (w : World) (s : WorldState) (m : Moment) (old mid new : Ether) (airs : List Aired) → HasDues w s m old → AddsToAir old mid airs []
@@ -97,12 +97,12 @@ grown-there w s m event old noted cancelled timed sent pumped new x =
     let all = grows-both cancelled timed new [] (airs ++ ([] ++ [])) _ _ x.times.grows (grows-both timed sent new airs ([] ++ []) _ _ x.sends.grows (grows-both sent pumped new [] [] _ _ x.pumps.grows x.answers.grows)) in
     let items : (period_items w.description (radio_event w m.cause) m.time ++ interval_items (begins w s m) node (timer_next w s m)) ++ (timed_events w D ++ (pump_items w.description node m.time (not (still_pumps m.cause (effect_at w s m) (node_at w s m)) && is_owing w next.exchange) ++ timed_events w A))
     ≡ timed_events w (P ++ (I ++ (D ++ (U ++ A)))) =
-    ap (λ (xs : List (Timed Event)). (xs ++ interval_items (begins w s m) node (timer_next w s m)) ++ (timed_events w D ++ (pump_items w.description node m.time (not (still_pumps m.cause (effect_at w s m) (node_at w s m)) && is_owing w next.exchange) ++ timed_events w A))) period
-    ∙ ap (λ (xs : List (Timed Event)). (timed_events w P ++ xs) ++ (timed_events w D ++ (pump_items w.description node m.time (not (still_pumps m.cause (effect_at w s m) (node_at w s m)) && is_owing w next.exchange) ++ timed_events w A))) interval
-    ∙ ap (λ (xs : List (Timed Event)). (timed_events w P ++ timed_events w I) ++ (timed_events w D ++ (xs ++ timed_events w A))) pump
+    ap (λ (xs : List (Timed SharedEvent)). (xs ++ interval_items (begins w s m) node (timer_next w s m)) ++ (timed_events w D ++ (pump_items w.description node m.time (not (still_pumps m.cause (effect_at w s m) (node_at w s m)) && is_owing w next.exchange) ++ timed_events w A))) period
+    ∙ ap (λ (xs : List (Timed SharedEvent)). (timed_events w P ++ xs) ++ (timed_events w D ++ (pump_items w.description node m.time (not (still_pumps m.cause (effect_at w s m) (node_at w s m)) && is_owing w next.exchange) ++ timed_events w A))) interval
+    ∙ ap (λ (xs : List (Timed SharedEvent)). (timed_events w P ++ timed_events w I) ++ (timed_events w D ++ (xs ++ timed_events w A))) pump
     ∙ five w P I D U A in
-    let G : List Aired → List (Timed Event) → Type 0 = λ rs xs. EtherGrows cancelled new rs xs in
-    subst (λ (rs : List Aired). G rs (timed_events w (schedules w s m))) (append-nil airs) (subst (λ (xs : List (Timed Event)). G (airs ++ []) xs) items all)
+    let G : List Aired → List (Timed SharedEvent) → Type 0 = λ rs xs. EtherGrows cancelled new rs xs in
+    subst (λ (rs : List Aired). G rs (timed_events w (schedules w s m))) (append-nil airs) (subst (λ (xs : List (Timed SharedEvent)). G (airs ++ []) xs) items all)
 
 fit-behind : (w : World) (ps qs : List Packet) → AreFitPackets w (ps ++ qs) → AreFitPackets w qs
 fit-behind w [] qs fit = fit
@@ -122,8 +122,8 @@ left-stamped w s m event old noted cancelled timed sent pumped new had stood x =
     record {
       due = λ t le.
           grown.due t (subst (λ (u : ℕ). t ≤ u) (sym (until ∙ had.until)) le)
-          ∙ ap (λ (es : List Event). es ++ due_at t (timed_events w (schedules w s m))) (left-there w s m old noted cancelled _ had x.notes x.cancels t le)
-          ∙ ap (λ (es : List Event). map (radio_event w) (left_due w s m t) ++ es) (due-timed w t (schedules w s m))
+          ∙ ap (λ (es : List SharedEvent). es ++ due_at t (timed_events w (schedules w s m))) (left-there w s m old noted cancelled _ had x.notes x.cancels t le)
+          ∙ ap (λ (es : List SharedEvent). map (radio_event w) (left_due w s m t) ++ es) (due-timed w t (schedules w s m))
           ∙ sym (map-append (radio_event w) (left_due w s m t) (of_time t (schedules w s m)));
       air =
           grown.air ∙ ap (λ (rs : List Aired). rs ++ map (aired_at at node) flat) (x.cancels.air ∙ x.notes.grows.air)

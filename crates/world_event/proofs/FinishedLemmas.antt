@@ -13,7 +13,7 @@ use Rattle.packet_codec.specs.declared.packet.Packet.{Packet}
 use Rattle.capsule_exchange.specs.Happenings.{Happening, is_marked_slot, slots_from}
 use Rattle.capsule_exchange.specs.Knowledge.{knowledge}
 use Rattle.node_open.specs.View.{heard_of}
-use Rattle.radio_sim.specs.declared.event.Event.{Event}
+use Rattle.radio_sim.specs.declared.shared_event.SharedEvent.{SharedEvent}
 use Rattle.radio_sim.specs.Radio.{Ether}
 use Rattle.trickle_timer.specs.Timer.{Timer}
 use Rattle.world_rules.specs.World.{World, handlers}
@@ -35,7 +35,7 @@ use Rattle.world_event.proofs.FinishLemmas.{begins, HasPieces, IsLeft, left-by}
 use Rattle.world_event.proofs.QuietLemmas.{messages-quiet, calls-quiet, answers-quiet}
 
 -- what the calls answered, one behind the other
-pub record HasEnded (w : World) (s : WorldState) (m : Moment) (from : ℕ) (at : Stamp) (node : ℕ) (event : Event) (x : Mote) (r : Effect) (marked pumps : Bool) (calls : Calls) (old noted cancelled timed sent pumped new : Ether) : Type 0 where
+pub record HasEnded (w : World) (s : WorldState) (m : Moment) (from : ℕ) (at : Stamp) (node : ℕ) (event : SharedEvent) (x : Mote) (r : Effect) (marked pumps : Bool) (calls : Calls) (old noted cancelled timed sent pumped new : Ether) : Type 0 where
   pub notes : AddsToAir old noted (map (aired_at at node) (option_to_list r.first) ++ map (aired_at at node) (if_begins (length_of r.begins x.timer))) []
   pub cancels : CancelsAll node (record { interval = r.begins; pump = r.resets; answers = r.cuts }) noted cancelled
   pub times : AddsToAir cancelled timed [] (period_items w.description event at.time ++ interval_items r.begins node x.timer)
@@ -78,7 +78,7 @@ module _ (w : World) (s : WorldState) (m : Moment) (from : ℕ) (at : Stamp) (x 
             subst (λ (a : Bool). P a (is_owing w (node_after w (node_at w s m) m).exchange)) settled.pumps (subst (λ (b : Bool). P x.pumps b) owes e.pumps_added);
         answers =
             let P : NodeState → List JournalEntry → Type 0 = λ reading told. AddsToAir pumped new [] (timed_events w (answers_due w (event_node w m.cause) at.time reading (node_at w s m).called told)) in
-            let Q : List (Timed Event) → Type 0 = λ xs. AddsToAir pumped new [] xs in
+            let Q : List (Timed SharedEvent) → Type 0 = λ xs. AddsToAir pumped new [] xs in
             subst (λ (reading : NodeState). P reading m.told) settled.reading
             (subst Q (ap (timed_events w) (sym (ap (answers_due w (event_node w m.cause) at.time (heard_of x.node) (node_at w s m).called) settled.told
             ∙ answers-quiet w (event_node w m.cause) at.time (heard_of x.node) (node_at w s m).called settled.front (told_from from x.node.log) settled.quiet))) e.answers);
@@ -106,9 +106,9 @@ module _ (w : World) (s : WorldState) (m : Moment) (from : ℕ) (at : Stamp) (x 
       }
 
   -- of a node and an event by other names
-  pub finished-by : (node : ℕ) (event : Event) → m.time ≡ at.time → radio_event w m.cause ≡ event → event_node w m.cause ≡ node → IsTakenFrom w s m old → HasSettled w s m from x r
+  pub finished-by : (node : ℕ) (event : SharedEvent) → m.time ≡ at.time → radio_event w m.cause ≡ event → event_node w m.cause ≡ node → IsTakenFrom w s m old → HasSettled w s m from x r
       → HasEnded w s m from at node event x r marked pumps calls old noted cancelled timed sent pumped new → IsFinished w s m at old new x (record x { pumps = pumps; calls = calls })
   finished-by node event same same_event same_node taken settled e =
       finished same taken settled
       (subst (λ (k : ℕ). HasEnded w s m from at k (radio_event w m.cause) x r marked pumps calls old noted cancelled timed sent pumped new) (sym same_node)
-      (subst (λ (v : Event). HasEnded w s m from at node v x r marked pumps calls old noted cancelled timed sent pumped new) (sym same_event) e))
+      (subst (λ (v : SharedEvent). HasEnded w s m from at node v x r marked pumps calls old noted cancelled timed sent pumped new) (sym same_event) e))

@@ -19,7 +19,7 @@ use Rattle.capsule_exchange.specs.Knowledge.{Knowledge, knowledge, state_after}
 use Rattle.script_steps.specs.declared.world.World.{World as Script}
 use Rattle.trickle_timer.specs.Timer.{Timer}
 use Rattle.vm_shape.specs.declared.description.Description.{Description}
-use Rattle.radio_sim.specs.declared.event.Event.{Event}
+use Rattle.radio_sim.specs.declared.shared_event.SharedEvent.{SharedEvent}
 use Rattle.radio_sim.specs.Radio.{Ether, wires_of}
 use Rattle.radio_sim.proofs.RadioLemmas.{few_links}
 use Rattle.script_steps.specs.World.{IsRightWorld}
@@ -44,7 +44,7 @@ use Rattle.world_state.proofs.RoomLemmas.{records-high, wires-few, next-timely}
 use Rattle.world_event.proofs.TurnLemmas.{IsFormed}
 
 -- what is expected is right as an event of the radio
-pub right-event : (d : Description) (script : Script) (ps : List Program) (n : Node) (t : Timer) (time : ℕ) (c : Cause) (e : Event) → t ≡ n.timer → radio_event (code_world d script ps) c ≡ e → IsExpected (code_world d script ps) n time c → IsFitEvent d script t time e
+pub right-event : (d : Description) (script : Script) (ps : List Program) (n : Node) (t : Timer) (time : ℕ) (c : Cause) (e : SharedEvent) → t ≡ n.timer → radio_event (code_world d script ps) c ≡ e → IsExpected (code_world d script ps) n time c → IsFitEvent d script t time e
 right-event d script ps n t time c e timer is expected = subst (IsFitEvent d script t time) is (by c expected) where
   by : (c : Cause) → IsExpected (code_world d script ps) n time c → IsFitEvent d script t time (radio_event (code_world d script ps) c)
   by (event.Planned line) x = subst (λ (k : ℕ). line < k) (length-map script.events (line_planned (program_at ps))) x
@@ -67,7 +67,7 @@ pub begins-now : (n : Node) (e : NodeEffect) (time : ℕ) → is_some_length (be
 begins-now n e time begins = let x = some-length (begun_length n e) begins in ap (λ (t : Timer). t.running.begin) (timer_begun n e time x.0 x.1)
 
 -- of the node by its number
-pub mote-at : (w : World) (ms : List Moment) (c : Cause) (number : ℕ) (event : Event) (at : Stamp) (old : Ether) (x : Mote) → MayPerform w ms c number event at old x → IsMoteAfter w ms (event_node w c) x
+pub mote-at : (w : World) (ms : List Moment) (c : Cause) (number : ℕ) (event : SharedEvent) (at : Stamp) (old : Ether) (x : Mote) → MayPerform w ms c number event at old x → IsMoteAfter w ms (event_node w c) x
 mote-at w ms c number event at old x may = subst (λ (j : ℕ). IsMoteAfter w ms j x) (sym may.node) may.mote
 
 -- ---- what the calls of an event find
@@ -79,7 +79,7 @@ pub record HasNeeds (w : World) (ms : List Moment) (c : Cause) (time : ℕ) : Ty
   pub comes : MayComeTo w ((state w ms).nodes (event_node w c)) time c
   pub sound : IsSoundNode w ((state w ms).nodes (event_node w c)) (last_time ms)
 
-module _ (d : Description) (script : Script) (ps : List Program) (ms : List Moment) (c : Cause) (at : Stamp) (event : Event) (number : ℕ) (old : Ether) (x : Mote)
+module _ (d : Description) (script : Script) (ps : List Program) (ms : List Moment) (c : Cause) (at : Stamp) (event : SharedEvent) (number : ℕ) (old : Ether) (x : Mote)
     (may : MayPerform (code_world d script ps) ms c number event at old x) (formed : IsFormed x.node) (next : NextMayCome (code_world d script ps)) (nodes : NodesAreSound (code_world d script ps)) where
   own : IsMoteAfter (code_world d script ps) ms (event_node (code_world d script ps) c) x
   own = mote-at (code_world d script ps) ms c number event at old x may

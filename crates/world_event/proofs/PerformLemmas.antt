@@ -11,7 +11,7 @@ use Rattle.node_state.specs.Keeps.{event_at}
 use Rattle.node_open.specs.View.{NodeView, heard_of, HasPace, Tells}
 use Rattle.script_steps.specs.declared.world.World.{World as Script}
 use Rattle.vm_shape.specs.declared.description.Description.{Description}
-use Rattle.radio_sim.specs.declared.event.Event.{Event}
+use Rattle.radio_sim.specs.declared.shared_event.SharedEvent.{SharedEvent}
 use Rattle.radio_sim.specs.Radio.{Ether}
 use Rattle.journal_laws.specs.Waiting.{WaitApart, AreAwaited}
 use Rattle.world_rules.specs.Cause.{Cause}
@@ -41,7 +41,7 @@ use Rattle.world_event.proofs.ToldLemmas.{tells-heard, told-behind, heard-both, 
 abbrev pub came : ℕ → Cause → List JournalEntry → List JournalEntry → Pace → Moment
 came time c front rest pace = record { time = time; cause = c; told = front ++ rest; pace = pace }
 
-module _ (d : Description) (script : Script) (ps : List Program) (ms : List Moment) (c : Cause) (at : Stamp) (event : Event) (number : ℕ) (old : Ether) (x0 x1 : Mote) (r : Effect) (v : NodeView)
+module _ (d : Description) (script : Script) (ps : List Program) (ms : List Moment) (c : Cause) (at : Stamp) (event : SharedEvent) (number : ℕ) (old : Ether) (x0 x1 : Mote) (r : Effect) (v : NodeView)
     (may : MayPerform (code_world d script ps) ms c number event at old x0)
     (mote : IsMoteAfter (code_world d script ps) ms (event_node (code_world d script ps) c) x0)
     (handled : Handled (code_world d script ps) (event_node (code_world d script ps) c) ((state (code_world d script ps) ms).nodes (event_node (code_world d script ps) c)) c at x0 x1 r)
@@ -171,7 +171,7 @@ module _ (d : Description) (script : Script) (ps : List Program) (ms : List Mome
       log_gone = ap (λ (x : Mote). x.node.gone) finished.same ∙ settled.gone ∙ handled.tells.gone;
     }
 
-pub performed-by : (d : Description) (script : Script) (ps : List Program) (ms : List Moment) (c : Cause) (at : Stamp) (event : Event) (number : ℕ) (old new : Ether) (x0 x1 x4 : Mote) (r : Effect) (v : NodeView)
+pub performed-by : (d : Description) (script : Script) (ps : List Program) (ms : List Moment) (c : Cause) (at : Stamp) (event : SharedEvent) (number : ℕ) (old new : Ether) (x0 x1 x4 : Mote) (r : Effect) (v : NodeView)
     → MayPerform (code_world d script ps) ms c number event at old x0
     → (handled : Handled (code_world d script ps) (event_node (code_world d script ps) c) ((state (code_world d script ps) ms).nodes (event_node (code_world d script ps) c)) c at x0 x1 r)
     → (settled : Tells x1.node v at (Settles (machine_in x1.node.description) (heard_of x1.node)))

@@ -11,7 +11,7 @@ use Rattle.vm_shape.specs.Limits.{is_handler, is_kind}
 use Rattle.vm_shape.specs.declared.handler.Handler.{Handler}
 use Rattle.vm_shape.specs.declared.handler.HandlerKind.{HandlerKind}
 use Rattle.vm_shape.specs.declared.handler.HandlerKind.TheVariants as kind
-use Rattle.radio_sim.specs.declared.event.Event.{Event}
+use Rattle.radio_sim.specs.declared.shared_event.SharedEvent.{SharedEvent}
 use Rattle.trickle_timer.specs.Timer.{Timer}
 use Rattle.world_rules.specs.Cause.{Cause}
 use Rattle.world_rules.specs.Cause as event
@@ -42,7 +42,7 @@ kept-are w node e begins (c ∷ cs) =
       by : (b : Bool) → filter (stays node (ends_of e begins)) (map (radio_event w) cs) ≡ map (radio_event w) (filter (is_kept node e begins) cs)
           → cond b (radio_event w c ∷ filter (stays node (ends_of e begins)) (map (radio_event w) cs)) (filter (stays node (ends_of e begins)) (map (radio_event w) cs))
           ≡ map (radio_event w) (cond b (c ∷ filter (is_kept node e begins) cs) (filter (is_kept node e begins) cs))
-      by true rest = ap (λ (es : List Event). radio_event w c ∷ es) rest
+      by true rest = ap (λ (es : List SharedEvent). radio_event w c ∷ es) rest
       by false rest = rest
 
 -- ---- what is scheduled

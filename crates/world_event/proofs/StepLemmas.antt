@@ -22,7 +22,7 @@ use Rattle.node_state.specs.Keeps.{event_at}
 use Rattle.node_state.specs.Meaning.{machine_in}
 use Rattle.node_open.specs.View.{NodeView}
 use Rattle.node_open.specs.Journal.{KeepsJournal}
-use Rattle.radio_sim.specs.declared.event.Event.{Event}
+use Rattle.radio_sim.specs.declared.shared_event.SharedEvent.{SharedEvent}
 use Rattle.radio_sim.specs.Radio.{Ether}
 use Rattle.world_rules.specs.Cause.{Cause}
 use Rattle.world_rules.specs.Cause as event
@@ -50,7 +50,7 @@ node-some : (f : ℕ → HeldProgram) (o : Option Planned) → option_map_or (λ
 node-some f None = refl
 node-some f (Some p) = refl
 
-pub named-is : (d : Description) (script : Script) (ps : List Program) (c : Cause) (e : Event) → radio_event (code_world d script ps) c ≡ e → named_node script e ≡ event_node (code_world d script ps) c
+pub named-is : (d : Description) (script : Script) (ps : List Program) (c : Cause) (e : SharedEvent) → radio_event (code_world d script ps) c ≡ e → named_node script e ≡ event_node (code_world d script ps) c
 named-is d script ps c e is = ap (named_node script) (sym is) ∙ by c where
   by : (c : Cause) → named_node script (radio_event (code_world d script ps) c) ≡ event_node (code_world d script ps) c
   by (event.Planned line) = node-some (program_at ps) (slice_get script.events line) ∙ ap (λ (o : Option PlannedLine). option_map_or (λ (l : PlannedLine). l.node) o 0) (sym (slice_get-map (line_planned (program_at ps)) script.events line))
@@ -61,7 +61,7 @@ named-is d script ps c e is = ap (named_node script) (sym is) ∙ by c where
   by (event.Due node context inv value) = refl
   by (event.Deliver link number packet) = refl
 
-pub names-part : (d : Description) (script : Script) (ps : List Program) (n : Node) (time : ℕ) (c : Cause) (e : Event) → radio_event (code_world d script ps) c ≡ e → IsExpected (code_world d script ps) n time c → NamesPart script e
+pub names-part : (d : Description) (script : Script) (ps : List Program) (n : Node) (time : ℕ) (c : Cause) (e : SharedEvent) → radio_event (code_world d script ps) c ≡ e → IsExpected (code_world d script ps) n time c → NamesPart script e
 names-part d script ps n time c e is expected = subst (NamesPart script) is (by c expected) where
   by : (c : Cause) → IsExpected (code_world d script ps) n time c → NamesPart script (radio_event (code_world d script ps) c)
   by (event.Planned line) x = subst (λ (k : ℕ). line < k) (length-map script.events (line_planned (program_at ps))) x
@@ -73,11 +73,11 @@ names-part d script ps n time c e is expected = subst (NamesPart script) is (by 
   by (event.Deliver link number packet) x = x.0
 
 -- what comes next is of a node of the world
-pub record IsPlaced (d : Description) (script : Script) (ps : List Program) (e : Event) : Type 0 where
+pub record IsPlaced (d : Description) (script : Script) (ps : List Program) (e : SharedEvent) : Type 0 where
   pub names : NamesPart script e
   pub low : named_node script e < script.nodes
 
-pub placed : (d : Description) (script : Script) (ps : List Program) (e : Event) (at : Stamp) (s : Simulation) → NextMayCome (code_world d script ps) → DuesAreOfNodes (code_world d script ps)
+pub placed : (d : Description) (script : Script) (ps : List Program) (e : SharedEvent) (at : Stamp) (s : Simulation) → NextMayCome (code_world d script ps) → DuesAreOfNodes (code_world d script ps)
     → StandsAtNext (code_world d script ps) e at s → IsPlaced d script ps e
 placed d script ps e at s next dues b =
     let low : event_node (code_world d script ps) b.cause < script.nodes = first-low (code_world d script ps) ((state (code_world d script ps) b.moments).due at.time) b.cause b.next.others b.next.due (dues b.moments at.time b.come b.in_time) in
@@ -90,7 +90,7 @@ placed d script ps e at s next dues b =
       first-low w cs c others is are = (subst (AreOfNodes w) is are).0
 
 -- the event of the node's number may be performed
-may-perform : (d : Description) (script : Script) (ps : List Program) (e : Event) (at : Stamp) (s : Simulation) (number : ℕ) (x : Mote) (b : StandsAtNext (code_world d script ps) e at s) → number ≡ named_node script e → number < script.nodes
+may-perform : (d : Description) (script : Script) (ps : List Program) (e : SharedEvent) (at : Stamp) (s : Simulation) (number : ℕ) (x : Mote) (b : StandsAtNext (code_world d script ps) e at s) → number ≡ named_node script e → number < script.nodes
     → slice_get s.motes.items number ≡ Some x → MayPerform (code_world d script ps) b.moments b.cause number e at s.radio x
 may-perform d script ps e at s number x b is low found = record {
   come = b.come;
@@ -110,11 +110,11 @@ found-at : (motes : List Mote) (from number : ℕ) (x : Mote) → from ≡ numbe
 found-at motes from number x same below is = slice_get-get_or motes number x below ∙ ap (λ (y : Mote). Some y) (ap (λ (n : ℕ). get_or motes n x) (sym same) ∙ sym is)
 
 -- the mote at the event's node, on which the event may be performed
-pub record IsOfMote (d : Description) (script : Script) (ps : List Program) (e : Event) (at : Stamp) (s : Simulation) (number : ℕ) (x : Mote) (b : StandsAtNext (code_world d script ps) e at s) : Type 0 where
+pub record IsOfMote (d : Description) (script : Script) (ps : List Program) (e : SharedEvent) (at : Stamp) (s : Simulation) (number : ℕ) (x : Mote) (b : StandsAtNext (code_world d script ps) e at s) : Type 0 where
   pub low : number < script.nodes
   pub may : MayPerform (code_world d script ps) b.moments b.cause number e at s.radio x
 
-pub of-mote : (d : Description) (script : Script) (ps : List Program) (e : Event) (at : Stamp) (s : Simulation) (from number : ℕ) (x : Mote) → NextMayCome (code_world d script ps) → DuesAreOfNodes (code_world d script ps)
+pub of-mote : (d : Description) (script : Script) (ps : List Program) (e : SharedEvent) (at : Stamp) (s : Simulation) (from number : ℕ) (x : Mote) → NextMayCome (code_world d script ps) → DuesAreOfNodes (code_world d script ps)
     → (b : StandsAtNext (code_world d script ps) e at s) → number ≡ named_node script e → from ≡ number → x ≡ get_or s.motes.items from x → IsOfMote d script ps e at s number x b
 of-mote d script ps e at s from number x next dues b is same found =
     let below = (placed d script ps e at s next dues b).low in
@@ -139,7 +139,7 @@ pub record HasMore (w : World) (ms : List Moment) (m : Moment) (told aired : ℕ
   pub aired_more : length f.air ≡ length e.air + aired
   pub records : (state w (m ∷ ms)).records ≡ (state w ms).records + (told + aired)
 
-pub has-more : (w : World) (ms : List Moment) (c : Cause) (number : ℕ) (event : Event) (at : Stamp) (e f : Ether) (old new : Mote) → MayPerform w ms c number event at e old → (p : Performed w ms c number at e f old new)
+pub has-more : (w : World) (ms : List Moment) (c : Cause) (number : ℕ) (event : SharedEvent) (at : Stamp) (e f : Ether) (old new : Mote) → MayPerform w ms c number event at e old → (p : Performed w ms c number at e f old new)
     → HasMore w ms p.moment (length p.moment.told) (length (air_made w (state w ms) p.moment)) old new e f
 has-more w ms c number event at e f old new may p = record {
   told_more =
@@ -171,7 +171,7 @@ some-other : (w : World) (m : Moment) (ms : List Moment) (k : ℕ) (o : Option M
 some-other w m ms k None other was = absurd was
 some-other w m ms k (Some x) other was = other-mote w m ms k x other was
 
-pub stands-after : (d : Description) (script : Script) (ps : List Program) (e : Event) (at : Stamp) (s new : Simulation) (number : ℕ) (x y : Mote) (b : StandsAtNext (code_world d script ps) e at s) → number < script.nodes
+pub stands-after : (d : Description) (script : Script) (ps : List Program) (e : SharedEvent) (at : Stamp) (s new : Simulation) (number : ℕ) (x y : Mote) (b : StandsAtNext (code_world d script ps) e at s) → number < script.nodes
     → MayPerform (code_world d script ps) b.moments b.cause number e at s.radio x → (p : Performed (code_world d script ps) b.moments b.cause number at s.radio new.radio x y)
     → HasWellFormed (code_world d script ps) number (p.moment ∷ b.moments)
     → new.motes.items ≡ set s.motes.items number y → new.records ≡ (state (code_world d script ps) (p.moment ∷ b.moments)).records → StandsAfter (code_world d script ps) at.event new

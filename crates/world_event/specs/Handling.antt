@@ -16,8 +16,8 @@ use Rattle.packet_codec.specs.declared.packet.Packet.{Packet}
 use Rattle.packet_codec.specs.declared.packet.Packet.TheVariants.{Vector, Status, Fragment, App}
 use Rattle.vm_shape.specs.declared.description.Description.{Description}
 use Rattle.script_steps.specs.declared.world.World.{World as Script}
-use Rattle.radio_sim.specs.declared.event.Event.{Event}
-use Rattle.radio_sim.specs.declared.event.Event.TheVariants as radio
+use Rattle.radio_sim.specs.declared.shared_event.SharedEvent.{SharedEvent}
+use Rattle.radio_sim.specs.declared.shared_event.SharedEvent.TheVariants as radio
 use Rattle.world_rules.specs.Cause.{Cause}
 use Rattle.world_rules.specs.World.{World, handlers, handler_id, is_receiver}
 use Rattle.world_rules.specs.Effect.{Node, NodeEffect, Installing, node_effect, resets}
@@ -32,7 +32,7 @@ use Rattle.world_state.specs.Standing.{IsMoteOf, IsEffectBy, IsEffectOf}
 -- ---- what an event finds
 
 -- an event of the radio names a line of the script, a handler or a context of the machine, or a link; an interval ends at its end
-abbrev pub IsFitEvent : Description → Script → Timer → ℕ → Event → Type 0
+abbrev pub IsFitEvent : Description → Script → Timer → ℕ → SharedEvent → Type 0
 IsFitEvent d script t time (radio.Planned line) = line < length script.events
 IsFitEvent d script t time (radio.Period node h) = h.0 < length d.handlers.items
 IsFitEvent d script t time (radio.Fire node) = Unit {0}

@@ -3,7 +3,7 @@ use Rattle.std.specs.Prelude.{◌≡◌, ℕ, suc, ◌<◌, ◌≤◌, List, ◌
 use Rattle.mate_num.specs.declared.call.Stamp.{Stamp}
 use Rattle.mate_journal.specs.NodeScript.{records_max}
 use Rattle.radio_sim.specs.Radio.{Ether}
-use Rattle.radio_sim.specs.declared.event.Event.{Event}
+use Rattle.radio_sim.specs.declared.shared_event.SharedEvent.{SharedEvent}
 use Rattle.world_rules.specs.Cause.{Cause}
 use Rattle.world_rules.specs.World.{World}
 use Rattle.world_rules.specs.Effect.{event_node}
@@ -16,7 +16,7 @@ use Rattle.world_state.specs.declared.mote.Mote.{Mote}
 use Rattle.world_state.specs.StandingAfter.{IsRadioAfter, IsMoteAfter, coming}
 
 -- the event is the next that is due after these events, it was taken from the radio, and it has room
-pub record MayPerform (w : World) (ms : List Moment) (c : Cause) (number : ℕ) (event : Event) (at : Stamp) (e : Ether) (x : Mote) : Type
+pub record MayPerform (w : World) (ms : List Moment) (c : Cause) (number : ℕ) (event : SharedEvent) (at : Stamp) (e : Ether) (x : Mote) : Type
     0 where
   pub come : HaveCome w ms
   pub next : IsNext (state w ms) at.time c

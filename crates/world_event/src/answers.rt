@@ -22,7 +22,7 @@ ghost use Rattle.world_event.specs.Answering.{answer_item, answer_items, with_ca
 use mate_journal::{Entry, Stamped};
 use mate_num::{CONTEXTS_MAX, ContextId, FunId, NoMemory};
 use node_open::OpenNode;
-use radio_sim::{Event, Radio};
+use radio_sim::{Radio, SharedEvent};
 use script_steps::Series;
 use vm_shape::Description;
 use world_air::{Calls, schedule};
@@ -80,7 +80,7 @@ fn answer_call(
     let answer = calls.answer(desc, series, number, fun, now);
     match context_of(node, inv) {
         Some(ctx) => {
-            let event = Event::Due {
+            let event = SharedEvent::Due {
                 node: number,
                 ctx,
                 inv,

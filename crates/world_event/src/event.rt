@@ -11,9 +11,9 @@ ghost use Rattle.world_state.specs.Motes.{plain_effect};
 use crate::finish::finish;
 use crate::handling::handle;
 use crate::turns::{have_turns, is_well_formed};
-use mate_journal::Programs;
+use mate_journal::StoredPrograms;
 use mate_num::{NoMemory, Stamp};
-use radio_sim::{Event, Radio};
+use radio_sim::{Radio, SharedEvent};
 use script_steps::World;
 use vm_shape::Description;
 use world_run_laws::states_are_sound;
@@ -26,9 +26,9 @@ pub fn perform(
     mote: &mut Mote,
     desc: &Description,
     world: &World,
-    programs: &Programs,
+    programs: &StoredPrograms,
     number: u8,
-    event: &Event,
+    event: &SharedEvent,
     at: Stamp,
     effect: &mut Effect,
 ) -> Result<(), NoMemory>

@@ -17,7 +17,7 @@ ghost use Rattle.world_event.specs.Finishing.{HasSettled, IsFinished};
 use crate::answers::schedule_answers;
 use crate::pieces::{note_all, schedule_pump, schedule_timed, send_packets};
 use mate_num::{NoMemory, Stamp};
-use radio_sim::{Event, Radio};
+use radio_sim::{Radio, SharedEvent};
 use script_steps::World;
 use vm_shape::Description;
 use world_air::{Ends, cancel};
@@ -31,7 +31,7 @@ pub fn finish(
     desc: &Description,
     world: &World,
     number: u8,
-    event: &Event,
+    event: &SharedEvent,
     effect: &mut Effect,
     from: usize,
     at: Stamp,

@@ -22,10 +22,10 @@ ghost use Rattle.world_run_laws.specs.Coming.{code_world, MayComeTo};
 ghost use Rattle.world_state.specs.Standing.{IsMoteOf};
 ghost use Rattle.world_event.specs.Handling.{IsFitEvent, IsOpenExchange, IsPaced, Handled, DoesBy, IsFragmentOf, receivers_below};
 
-use mate_journal::Programs;
+use mate_journal::StoredPrograms;
 use mate_num::{HandlerId, Image, NoMemory, Payload, Stamp};
 use packet_codec::{Packet, decode};
-use radio_sim::{Event, SharedPacket};
+use radio_sim::{SharedEvent, SharedPacket};
 use script_steps::{Link, What, World};
 use vm_shape::{Description, HandlerKind};
 use world_state::{Effect, Mote};
@@ -36,8 +36,8 @@ pub fn handle(
     mote: &mut Mote,
     desc: &Description,
     world: &World,
-    programs: &Programs,
-    event: &Event,
+    programs: &StoredPrograms,
+    event: &SharedEvent,
     at: Stamp,
     effect: &mut Effect,
 ) -> Result<(), NoMemory>
@@ -61,25 +61,25 @@ pub fn handle(
     ensures right { OnOk result (All (IsRightPacket (length desc.now.handlers.items)) effect.new.sends.items) }
 {
     match event {
-        Event::Planned(line) => {
+        SharedEvent::Planned(line) => {
             let planned = &world.events.as_slice()[*line as usize];
             follow(mote, &planned.what, programs, at, effect)
         }
-        Event::Period { handler, .. } => mote.post(*handler, &Payload::new(), at),
-        Event::Fire { .. } => {
+        SharedEvent::Period { handler, .. } => mote.post(*handler, &Payload::new(), at),
+        SharedEvent::Fire { .. } => {
             mote.fire(world.suppress, effect);
             Ok(())
         }
-        Event::Expire { .. } => {
+        SharedEvent::Expire { .. } => {
             mote.expire(at.time, effect);
             Ok(())
         }
-        Event::Pump { .. } => {
+        SharedEvent::Pump { .. } => {
             mote.pump(effect);
             Ok(())
         }
-        Event::Due { ctx, value, .. } => mote.answer(*ctx, *value, at),
-        Event::Deliver {
+        SharedEvent::Due { ctx, value, .. } => mote.answer(*ctx, *value, at),
+        SharedEvent::Deliver {
             link,
             number,
             bytes,
@@ -95,7 +95,7 @@ pub fn handle(
 fn follow(
     mote: &mut Mote,
     what: &What,
-    programs: &Programs,
+    programs: &StoredPrograms,
     at: Stamp,
     effect: &mut Effect,
 ) -> Result<(), NoMemory>

@@ -17,7 +17,7 @@ use mate_journal::{Air, Stamped};
 use mate_num::{HandlerId, NoMemory, Stamp};
 use packet_codec::Packet;
 use radio_sim::wire::copy_of;
-use radio_sim::{Event, Radio};
+use radio_sim::{Radio, SharedEvent};
 use trickle_timer::Trickle;
 use vm_shape::{Description, HandlerKind};
 use world_air::{note_first, note_interval, schedule, schedule_interval, send_all, send_messages};
@@ -70,7 +70,7 @@ pub(crate) fn schedule_timed(
     radio: &mut Radio,
     desc: &Description,
     node: u8,
-    event: &Event,
+    event: &SharedEvent,
     begins: bool,
     timer: &Trickle,
     now: u32,
@@ -108,7 +108,7 @@ fn schedule_begun(
 fn schedule_period(
     radio: &mut Radio,
     desc: &Description,
-    event: &Event,
+    event: &SharedEvent,
     now: u32,
 ) -> Result<(), NoMemory>
     requires ahead { radio.old.agenda.now ≤ now }
@@ -116,13 +116,13 @@ fn schedule_period(
     ensures { OnOk result (AddsToAir radio.old radio.new [] (period_items desc.now event.now now)) }
 {
     match event {
-        Event::Planned(_) => Ok(()),
-        Event::Period { node, handler } => schedule_next(radio, desc, *node, *handler, now),
-        Event::Fire { .. } => Ok(()),
-        Event::Expire { .. } => Ok(()),
-        Event::Pump { .. } => Ok(()),
-        Event::Due { .. } => Ok(()),
-        Event::Deliver { .. } => Ok(()),
+        SharedEvent::Planned(_) => Ok(()),
+        SharedEvent::Period { node, handler } => schedule_next(radio, desc, *node, *handler, now),
+        SharedEvent::Fire { .. } => Ok(()),
+        SharedEvent::Expire { .. } => Ok(()),
+        SharedEvent::Pump { .. } => Ok(()),
+        SharedEvent::Due { .. } => Ok(()),
+        SharedEvent::Deliver { .. } => Ok(()),
     }
 }
 
@@ -139,7 +139,7 @@ fn schedule_next(
     ensures { OnOk result (AddsToAir radio.old radio.new [] (next_items (handler_period desc.now handler) node handler now)) }
 {
     match period_of(desc, handler) {
-        Some(period) => schedule(radio, now + period, Event::Period { node, handler }),
+        Some(period) => schedule(radio, now + period, SharedEvent::Period { node, handler }),
         None => Ok(()),
     }
 }
@@ -205,7 +205,7 @@ pub(crate) fn schedule_pump(
     ensures adds { IfOk result (λ _. AddsToAir radio.old radio.new [] (pump_items desc.now node now (not pumps && marked))) }
 {
     if !pumps && marked {
-        schedule(radio, now + desc.radio.gap, Event::Pump { node })?;
+        schedule(radio, now + desc.radio.gap, SharedEvent::Pump { node })?;
         return Ok(true);
     }
     Ok(pumps)

@@ -12,9 +12,9 @@ ghost use Rattle.world_event.specs.Placing.{NamesPart, named_node};
 
 use crate::event::perform;
 use journal_laws::{LogSize, air_is_in_range_from, log_is_in_range_from};
-use mate_journal::{NodeLog, Programs};
+use mate_journal::{NodeLog, StoredPrograms};
 use mate_num::{NoMemory, Stamp};
-use radio_sim::Event;
+use radio_sim::SharedEvent;
 use script_steps::World;
 use vm_shape::Description;
 use world_laws::text_grows_by_events;
@@ -29,8 +29,8 @@ pub fn step(
     sim: &mut Simulation,
     desc: &Description,
     world: &World,
-    programs: &Programs,
-    event: &Event,
+    programs: &StoredPrograms,
+    event: &SharedEvent,
     at: Stamp,
     written: Written,
     trades: bool,
@@ -79,18 +79,18 @@ pub fn step(
 }
 
 /// The node that an event is of.
-fn node_of(world: &World, event: &Event) -> u8
+fn node_of(world: &World, event: &SharedEvent) -> u8
     requires { NamesPart world.now event.now }
     ensures { result ≡ named_node world.now event.now }
 {
     match event {
-        Event::Planned(line) => world.events.as_slice()[*line as usize].node,
-        Event::Period { node, .. } => *node,
-        Event::Fire { node } => *node,
-        Event::Expire { node } => *node,
-        Event::Pump { node } => *node,
-        Event::Due { node, .. } => *node,
-        Event::Deliver { link, .. } => world.links.as_slice()[*link as usize].to,
+        SharedEvent::Planned(line) => world.events.as_slice()[*line as usize].node,
+        SharedEvent::Period { node, .. } => *node,
+        SharedEvent::Fire { node } => *node,
+        SharedEvent::Expire { node } => *node,
+        SharedEvent::Pump { node } => *node,
+        SharedEvent::Due { node, .. } => *node,
+        SharedEvent::Deliver { link, .. } => world.links.as_slice()[*link as usize].to,
     }
 }
 

@@ -372,7 +372,7 @@ got-sends w s m j number p q is among =
 abbrev pub own_status : Version → ℕ → Packet
 own_status v missing = Status (record { 0 = v.handler }) v.version missing
 
-among-map : {X Y : Type 0} (f : X → Y) (x : X) (xs : List X) → Among x xs → Among (f x) (map f xs)
+pub among-map : {X Y : Type 0} (f : X → Y) (x : X) (xs : List X) → Among x xs → Among (f x) (map f xs)
 among-map f x [] a = absurd a
 among-map f x (y ∷ xs) (inl e) = inl (ap f e)
 among-map f x (y ∷ xs) (inr a) = inr (among-map f x xs a)

@@ -29,7 +29,7 @@ deed-installs m r q (Installing x) told p is a = by (subst (λ (ts : List Journa
   by (inr (inr b)) = absurd (none-installs is.rest p (installs-rest m r q x told is) b)
 deed-installs m r q d told p is a = absurd (none-installs told p (deed-none m r q d told is) a)
 
-tells-among : (told : List JournalEntry) (p : HeldProgram) → TellsInstall told p → Among (Installed p) told
+pub tells-among : (told : List JournalEntry) (p : HeldProgram) → TellsInstall told p → Among (Installed p) told
 tells-among told p t = subst (λ (ts : List JournalEntry). Among (Installed p) ts) (sym t.split) (among-right (Installed p) t.front (Installed p ∷ t.rest) (inl refl))
 
 pub installs_its_own : (w : World) → InstallsItsOwn w

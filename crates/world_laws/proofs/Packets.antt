@@ -66,7 +66,7 @@ sends-for w s m p (event.Pump node) is a = at-slot w s m p node (next_slot (hand
 sends-for w s m p (event.Deliver link number packet) is a = at-packet w s m p link number packet is a
 sends-for w s m p _ is a = absurd a
 
-split-at : {X : Type 0} (x : X) (xs : List X) → Among x xs → (front : List X) × (rest : List X) × (xs ≡ front ++ x ∷ rest)
+pub split-at : {X : Type 0} (x : X) (xs : List X) → Among x xs → (front : List X) × (rest : List X) × (xs ≡ front ++ x ∷ rest)
 split-at x [] a = absurd a
 split-at {X} x (y ∷ ys) (inl e) = ([], ys, ap (λ (z : X). z ∷ ys) e)
 split-at {X} x (y ∷ ys) (inr a) = let s = split-at x ys a in (y ∷ s.0, s.1, ap (λ (zs : List X). y ∷ zs) s.2)

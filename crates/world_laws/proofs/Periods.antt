@@ -22,7 +22,7 @@ period_event node h = event.Period node (handler_id h)
 
 -- ---- what is scheduled
 
-among-in_filter_map : {X Y : Type 0} (f : X → Option Y) (y : Y) (x : X) (xs : List X) → Among x xs → f x ≡ Some y → Among y (filter_map f xs)
+pub among-in_filter_map : {X Y : Type 0} (f : X → Option Y) (y : Y) (x : X) (xs : List X) → Among x xs → f x ≡ Some y → Among y (filter_map f xs)
 among-in_filter_map f y x [] h is = absurd h
 among-in_filter_map {X} {Y} f y x (z ∷ zs) (inl e) is = rw (ap f e ∙ is) (inl refl)
 among-in_filter_map {X} {Y} f y x (z ∷ zs) (inr h) is = by (f z) (among-in_filter_map f y x zs h is) where

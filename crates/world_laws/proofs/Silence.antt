@@ -1,8 +1,9 @@
--- What a node that keeps silent has heard.
-use Rattle.std.proofs.Common.{◌≡◌, ◌≤◌, ℕ, min, Bool, true, false, List, [], ◌∷◌, ◌++◌, refl, sym, ◌∙◌, ap, subst, arith, inl, inr, ◌⊎◌}
-use Rattle.std.specs.Prelude.{Option, Some, None, nat_lt, nat_le, bytes_eq, ◌&&◌, if◌then◌else◌, slice_get}
+-- What a node that keeps silent has heard, and from whom.
+use Rattle.std.proofs.Common.{◌≡◌, ◌<◌, ◌≤◌, ℕ, min, map, Bool, true, false, List, [], ◌∷◌, ◌++◌, refl, sym, ◌∙◌, ap, subst, arith, inl, inr, ◌⊎◌}
+use Rattle.std.specs.Prelude.{Option, Some, None, nat_lt, nat_le, bytes_eq, ◌&&◌, if◌then◌else◌, slice_get, slice_index}
 use Rattle.std.specs.Option.{option_map_or}
-use Rattle.std.proofs.lemmas.Bool.{leb-true}
+use Rattle.std.specs.List.{filter, range_with_len}
+use Rattle.std.proofs.lemmas.Bool.{leb-true, lt-ltb}
 use Rattle.std.proofs.lemmas.Bool.Decides.{eqb_tells}
 use Rattle.std.proofs.lemmas.Slice.Eq.{bytes_eq-Decides}
 use Rattle.arrayvec.specs.ArrayVec.{ArrayVec}
@@ -14,16 +15,24 @@ use Rattle.trickle_timer.specs.Intervals as trickle
 use Rattle.trickle_timer.specs.Timer.{begun_timer, packet_event}
 use Rattle.trickle_timer.specs.declared.timer.Fire.{Fire}
 use Rattle.trickle_timer.specs.declared.timer.Fire.TheVariants as fire
-use Rattle.capsule_exchange.specs.Happenings.{Happening, held_versions, completed_by, next_slot}
+use Rattle.capsule_exchange.specs.Happenings.{Happening, Hears, held_version, held_versions, ask_for, asks_after, completed_by, next_slot}
 use Rattle.world_rules.specs.Cause.{Cause}
 use Rattle.world_rules.specs.Cause as event
-use Rattle.world_rules.specs.World.{World, PlannedLine, Want, Inject, handlers}
+use Rattle.world_rules.specs.World.{World, PlannedLine, Want, Inject, handlers, links_from}
 use Rattle.world_rules.specs.Effect.{Node, NodeEffect, no_effect, node_effect, of_line, of_packet, of_fragment, of_point, of_slot, event_node}
-use Rattle.world_rules.specs.State.{Moment, node_at, effect_at, node_after, timer_after, state}
+use Rattle.world_rules.specs.State.{Moment, WorldState, messages, node_at, effect_at, packets_of, node_after, timer_after, state}
 use Rattle.world_rules.specs.Run.{HaveCome}
 use Rattle.world_laws.specs.Times.{IsRightSet}
-use Rattle.world_laws.specs.Silence.{HeardItsOwn, CountedIsHeard, SilentHeardTheirOwn}
-use Rattle.world_laws.proofs.Points.{nodes-here, nodes-other, run-timed}
+use Rattle.world_laws.specs.Silence.{HeardItsOwn, CountedIsHeard, SilentHeardTheirOwn, WasToldBy, VectorsComeFromHolders, HearersAsk}
+use Rattle.mate_num.specs.Lists.{Among}
+use Rattle.mate_num.proofs.ListLemmas.{among-filter, among-left}
+use Rattle.world_laws.specs.Arrivals.{sent_by, WasSent}
+use Rattle.world_laws.specs.Packets.{SendsFor, TellsVersions, AsksFor, OwesFragment, IsMessage}
+use Rattle.world_laws.proofs.Points.{nodes-here, nodes-other, run-timed, among-range}
+use Rattle.world_laws.proofs.Origins.{among-get, place-of, arrivals_were_sent}
+use Rattle.world_laws.proofs.Packets.{packets_have_reasons}
+use Rattle.world_laws.proofs.Tame.{numbered-among}
+use Rattle.world_laws.proofs.Hop.{among-map}
 
 -- ---- which event is counted
 
@@ -168,3 +177,64 @@ silent_heard_their_own w set ms k below come low keeps = counted_is_heard w set 
       omega (arith, most, constant, low)
   by true false is given = cc
   by false b is given = cc
+
+-- ---- from whom
+
+abbrev is_told : Packet → Bool
+is_told (Vector versions) = true
+is_told _ = false
+
+abbrev told_items : Packet → List ℕ
+told_items (Vector versions) = versions.items
+told_items _ = []
+
+-- what is asked for is no Vector
+no-vector : (hs : List Happening) (hds : List ℕ) (versions : ArrayVec ℕ) → Among (Vector versions) (map (ask_for hs) hds) → ⊥
+no-vector hs [] versions a = a
+no-vector hs (h ∷ hds) versions (inl e) = let clash : false ≡ true = ap is_told e in cc
+no-vector hs (h ∷ hds) versions (inr a) = no-vector hs hds versions a
+
+asks-no-vector : (n : ℕ) (heard : Packet) (hs : List Happening) (versions : ArrayVec ℕ) → Among (Vector versions) (asks_after n heard hs) → ⊥
+asks-no-vector n (Vector told) hs versions a = no-vector (Hears (Vector told) ∷ hs) (filter (λ h. nat_lt (held_version h hs) (slice_index told.items h)) (range_with_len 0 n)) versions a
+asks-no-vector n (Status g version missing) hs versions a = a
+asks-no-vector n (Fragment g version index count large bytes) hs versions a = a
+asks-no-vector n (App payload) hs versions a = a
+
+pub vectors_come_from_holders : (w : World) → VectorsComeFromHolders w
+vectors_come_from_holders w before x link number versions come cause = by (arrivals_were_sent w before x link number (Vector versions) come cause) where
+  by : WasSent w before x.time link number (Vector versions) → WasToldBy w before x.time link versions
+  by was = reason (packets_have_reasons w (state w was.older) was.moment place.0 (Vector versions) place.1) where
+    place : (i : ℕ) × (slice_get (packets_of w (state w was.older) was.moment) i ≡ Some (Vector versions))
+    place = place-of (packets_of w (state w was.older) was.moment) (Vector versions)
+        (numbered-among (record { number = number; before = was.before; packet = Vector versions }) _ _ (packets_of w (state w was.older) was.moment)
+        (among-get (sent_by w (state w was.older) was.moment) was.place (record { number = number; before = was.before; packet = Vector versions }) was.sent))
+
+    here : (node : ℕ) → was.moment.cause ≡ event.Fire node → node_at w (state w was.older) was.moment ≡ (state w was.older).nodes node
+    here node is = ap (λ (c : Cause). (state w was.older).nodes (event_node w c)) is
+
+    reason : SendsFor w (state w was.older) was.moment (Vector versions) → WasToldBy w before x.time link versions
+    reason (TellsVersions node is sends told) = record {
+      newer = was.newer;
+      moment = was.moment;
+      older = was.older;
+      split = was.split;
+      holder = node;
+      cause = is;
+      sends = subst (λ (n : Node). trickle.at_point n.timer.set n.timer.running w.suppress ≡ fire.Send) (here node is) sends;
+      leaves_there = subst (λ (c : Cause). Among link (links_from w (event_node w c))) is (among-get (links_from w (event_node w was.moment.cause)) was.link link was.leaves_there);
+      own = ap told_items told ∙ ap (λ (n : Node). held_versions (handlers w) n.exchange) (here node is);
+      in_time = was.in_time;
+    }
+    reason (AsksFor from n i heard is asked) = absurd (asks-no-vector (handlers w) heard (node_at w (state w was.older) was.moment).exchange versions
+        (among-get (asks_after (handlers w) heard (node_at w (state w was.older) was.moment).exchange) i (Vector versions) asked))
+    reason (OwesFragment node slot is next told) = let clash : true ≡ false = ap is_told told in cc
+    reason (IsMessage front rest n f args told send is) = let clash : true ≡ false = ap is_told is in cc
+
+pub hearers_ask : (w : World) → HearersAsk w
+hearers_ask w s x link number h versions cause low less =
+    among-left asked (effect_at w s x).sends (messages w x.told)
+    (subst (λ (c : Cause). Among asked (node_effect w (node_at w s x) c).sends) (sym cause)
+    (among-map (ask_for (Hears (Vector versions) ∷ (node_at w s x).exchange)) h (filter (λ g. nat_lt (held_version g (node_at w s x).exchange) (slice_index versions.items g)) (range_with_len 0 (handlers w)))
+    (among-filter (λ g. nat_lt (held_version g (node_at w s x).exchange) (slice_index versions.items g)) h (range_with_len 0 (handlers w)) (lt-ltb _ _ less) (among-range 0 (handlers w) h (omega arith) (omega (arith, low)))))) where
+      asked : Packet
+      asked = ask_for (Hears (Vector versions) ∷ (node_at w s x).exchange) h

@@ -5,18 +5,21 @@ ghost use Rattle.world_laws.specs.HopBound.{HopBound, IsRightPlan};
 ghost use Rattle.world_laws.specs.Premises.{CapsulesHaveFewFragments, InjectedAreVersions, InjectedIsInstalled, OpenScriptsAreOpen};
 ghost use Rattle.world_laws.specs.Premises.{RightScriptsAreNetworks, RightScriptsPlanRightly, ScriptsInstallsAreNewer};
 ghost use Rattle.world_laws.specs.Passing.{InjectionsPass, IsRightNetwork, PathsPass, WindowsPass};
-ghost use Rattle.world_laws.specs.Silence.{SilentHeardTheirOwn};
+ghost use Rattle.world_laws.specs.Silence.{HearersAsk, SilentHeardTheirOwn, VectorsComeFromHolders};
 ghost use Rattle.world_laws.specs.Spread.{HopsInTime, IsOpenWorld, SpreadsInTime};
 ghost use Rattle.world_laws.specs.Newest.{IsWorldVersion, Version};
 
 /// Whatever is lost, reset, injected or suppressed elsewhere or before: what the sender of a hop holds when a window opens, the
 /// receiver holds when it closes, or something newer; and so the end of a path at the end of its last window. A node that keeps silent
-/// at a point heard its own versions in that interval.
+/// at a point heard its own versions in that interval. A Vector that is heard came from a point of a node that held what it names,
+/// and whoever hears it asks for what is newer in it.
 pub fn versions_pass()
     ensures window { (w : World) → IsRightNetwork w → WindowsPass w }
     ensures path { (w : World) → IsRightNetwork w → PathsPass w }
     ensures injection { (w : World) → IsRightNetwork w → InjectionsPass w }
     ensures silent { (w : World) → IsRightNetwork w → SilentHeardTheirOwn w }
+    ensures holders { (w : World) → VectorsComeFromHolders w }
+    ensures hearers { (w : World) → HearersAsk w }
 {}
 
 /// With suppression off and no loss, a node holds a version that a neighbour held, three of the longest intervals later,

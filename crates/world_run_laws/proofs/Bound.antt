@@ -136,7 +136,7 @@ away-node w a b (suc d) ends low away = omega (arith, (ends away.2.link away.2.a
 
 -- ---- the bound
 
-some-and : {X : Type 0} (P Q : X → Type 0) (o : Option X) → ((x : X) → P x → Q x) → IsSomeAnd o P → IsSomeAnd o Q
+pub some-and : {X : Type 0} (P Q : X → Type 0) (o : Option X) → ((x : X) → P x → Q x) → IsSomeAnd o P → IsSomeAnd o Q
 some-and P Q None step is = absurd is
 some-and P Q (Some x) step is = step x is
 

@@ -39,7 +39,7 @@ use Rattle.world_run_laws.specs.Sound.{HaveFitMessages}
 
 -- ---- what is held is of an injected version
 
-held-fits : (w : World) (k h : ℕ) (ms : List Moment) → IsOneImage w → AreProgramsFit w → HaveCome w ms → held_version h ((state w ms).nodes k).exchange < 2 ^ 32
+pub held-fits : (w : World) (k h : ℕ) (ms : List Moment) → IsOneImage w → AreProgramsFit w → HaveCome w ms → held_version h ((state w ms).nodes k).exchange < 2 ^ 32
 held-fits w k h ms one programs come = elim (cases_lt 0 (held_version h ((state w ms).nodes k).exchange)) [
   | inr none ↦ omega (arith, none)
   | inl some ↦ by (held_was_installed w k h ms come (omega (arith, some)))

@@ -86,7 +86,7 @@ since-fit w h (Forgets ∷ hs) fit p a = absurd a
 
 -- ---- versions
 
-index-fits : (xs : List ℕ) (i : ℕ) → All (λ (v : ℕ). v < 2 ^ 32) xs → slice_index xs i < 2 ^ 32
+pub index-fits : (xs : List ℕ) (i : ℕ) → All (λ (v : ℕ). v < 2 ^ 32) xs → slice_index xs i < 2 ^ 32
 index-fits [] i all = omega arith
 index-fits (x ∷ xs) zero all = All-head (λ (v : ℕ). v < 2 ^ 32) x xs all
 index-fits (x ∷ xs) (suc i) all = index-fits xs i (All-tail (λ (v : ℕ). v < 2 ^ 32) x xs all)

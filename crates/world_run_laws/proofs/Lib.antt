@@ -14,6 +14,11 @@ pub mod Journals
 pub mod Lines
 pub mod Reached
 pub mod Bound
+pub mod Shown
+pub mod Since
+pub mod Promised
+pub mod Windows
+pub mod Lossless
 pub mod Stamps
 pub mod AirRecords
 pub mod AirOrder

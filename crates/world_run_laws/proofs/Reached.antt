@@ -42,7 +42,7 @@ among-map f y (x ∷ xs) (inl e) = (x, e)
 among-map f y (x ∷ xs) (inr a) = among-map f y xs a
 
 -- the last time doesn't fall
-last-rises : (w : World) (m : Moment) (before : List Moment) → HaveCome w (m ∷ before) → last_time before ≤ m.time
+pub last-rises : (w : World) (m : Moment) (before : List Moment) → HaveCome w (m ∷ before) → last_time before ≤ m.time
 last-rises w m before come = last-before (state w before) (last_time before) m.time m.cause (run-past w before come.0) come.1.next
 
 airs-early : (w : World) (ms : List Moment) (x : Aired) → HaveCome w ms → Among x (airs w ms) → x.stamp.time ≤ last_time ms

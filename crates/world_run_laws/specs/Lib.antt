@@ -3,3 +3,4 @@ pub mod Sound
 pub mod SourceWorld
 pub mod Promise
 pub mod Bound
+pub mod Windows

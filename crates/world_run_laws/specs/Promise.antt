@@ -16,18 +16,18 @@ use Rattle.report_writer.specs.Tidy.{IsTidy}
 use Rattle.script_steps.specs.declared.world.World.{World as Script}
 use Rattle.world_rules.specs.Report.{IsWorldReport}
 use Rattle.world_run_laws.specs.SourceWorld.{source_world}
-use Rattle.world_run_laws.specs.Bound.{KeepsTheBound}
+use Rattle.world_run_laws.specs.Windows.{KeepsTheWindows}
 
 -- It is a report of a run, that ends so, of the world whose programs, which are right, mean their sources. It is tidy, and
--- its numbers are in the ranges of their types: so its text is read back. If suppression is off and no link loses a packet,
--- it keeps the hop bound. In each node's journal, wherever no start follows, some invocation is ready, or one waits for the
--- outside, or none is live; and conflicting invocations end in the order of their posts.
+-- its numbers are in the ranges of their types: so its text is read back. Over each path of windows that it shows or its script
+-- promises, whatever else is lost or suppressed, a version passes in time. In each node's journal, wherever no start follows, some
+-- invocation is ready, or one waits for the outside, or none is live; and conflicting invocations end in the order of their posts.
 pub record IsReportOfWorld (d : Description) (script : Script) (ps : List Program) (how : RunEnd) (r : Report) : Type 0 where
   pub right : AreProgramsOfWorld d script ps
   pub run : IsWorldReport (source_world d script ps) how r
   pub tidy : IsTidy d r
   pub ranges : HasReportRanges r
-  pub bound : KeepsTheBound d script ps r
+  pub windows : KeepsTheWindows d script r
   pub progress : All (λ (l : Log). IsNeverStuck (source_world d script ps).machine (first_state (source_world d script ps).machine)
       (journal_of l)) r.nodes
   pub order : All (λ (l : Log). EndAsPosted (source_world d script ps).machine (first_state (source_world d script ps).machine)

@@ -6,7 +6,8 @@ ghost use Rattle.mate_journal.specs.OpenLog.{NumberFits, stamped_behind, joined}
 ghost use Rattle.mate_journal.specs.declared.entry.Stamped.{Stamped as StampedEntry};
 ghost use Rattle.world_runs.specs.Records.{FitsBehind};
 
-use mate_journal::{Air, Aired, Images, NodeLog, Stamped, Stores};
+use mate_journal::{Air, Aired, NodeLog, Stamped};
+use mate_num::{Image, Store};
 
 /// Appends a log behind another, its images and stores numbered anew.
 pub(crate) fn append(own: &mut NodeLog, told: &NodeLog)
@@ -21,35 +22,29 @@ pub(crate) fn append(own: &mut NodeLog, told: &NodeLog)
     copy_entries(own, told.entries(), images, stores);
 }
 
-fn copy_images(own: &mut NodeLog, images: &Images)
-    requires room { length images.now.items ≤ own.old.spare }
-    requires few { length own.old.images + length images.now.items < 4000000000 }
+fn copy_images(own: &mut NodeLog, images: &[Image])
+    requires room { length images.now ≤ own.old.spare }
+    requires few { length own.old.images + length images.now < 4000000000 }
     ensures entries { own.new.entries ≡ own.old.entries }
-    ensures images { own.new.images ≡ own.old.images ++ images.now.items }
+    ensures images { own.new.images ≡ own.old.images ++ images.now }
     ensures stores { own.new.stores ≡ own.old.stores }
-    ensures spare { own.old.spare ≤ own.new.spare + length images.now.items }
+    ensures spare { own.old.spare ≤ own.new.spare + length images.now }
 {
-    for index in 0..images.len() {
-        let Some(image) = images.get(index) else {
-            unreachable!()
-        };
-        own.add_image(&image.copy());
+    for image in images {
+        own.add_image(image);
     }
 }
 
-fn copy_stores(own: &mut NodeLog, stores: &Stores)
-    requires room { length stores.now.items ≤ own.old.spare }
-    requires few { length own.old.stores + length stores.now.items < 4000000000 }
+fn copy_stores(own: &mut NodeLog, stores: &[Store])
+    requires room { length stores.now ≤ own.old.spare }
+    requires few { length own.old.stores + length stores.now < 4000000000 }
     ensures entries { own.new.entries ≡ own.old.entries }
     ensures images { own.new.images ≡ own.old.images }
-    ensures stores { own.new.stores ≡ own.old.stores ++ stores.now.items }
-    ensures spare { own.old.spare ≤ own.new.spare + length stores.now.items }
+    ensures stores { own.new.stores ≡ own.old.stores ++ stores.now }
+    ensures spare { own.old.spare ≤ own.new.spare + length stores.now }
 {
-    for index in 0..stores.len() {
-        let Some(store) = stores.get(index) else {
-            unreachable!()
-        };
-        own.add_store(&store.copy());
+    for store in stores {
+        own.add_store(store);
     }
 }
 

@@ -17,9 +17,9 @@ ghost use Rattle.world_runs.specs.Counting.{MayCount, StartsCounted};
 ghost use Rattle.world_runs.specs.Writing.{StandsAtEnd};
 
 use crate::pieces::logs_are_kept;
-use mate_journal::{NodeLog, Programs, RECORDS_MAX};
+use mate_journal::{NodeLog, RECORDS_MAX, StoredPrograms};
 use mate_num::{NoMemory, Stamp};
-use radio_sim::Event;
+use radio_sim::SharedEvent;
 use report_writer::{LogTally, RunTally, Summary};
 use script_steps::World;
 use std::alloc::Global;
@@ -36,7 +36,7 @@ pub fn sum_world(
     alloc: Global,
     desc: &Description,
     world: &World,
-    programs: &Programs,
+    programs: &StoredPrograms,
 ) -> Result<Summary, NoMemory>
     requires { AreProgramsOfWorld desc.now world.now programs.now }
     ensures { IfOk result (IsRunSummary desc.now (IsReportOfWorld desc.now world.now programs.now)) }
@@ -55,7 +55,7 @@ fn sum_started(
     alloc: Global,
     desc: &Description,
     world: &World,
-    programs: &Programs,
+    programs: &StoredPrograms,
     mut sim: Simulation,
     mut tally: RunTally,
 ) -> Result<Summary, NoMemory>
@@ -67,7 +67,7 @@ fn sum_started(
     states_are_sound();
     let mut room = NodeLog::new(alloc);
     let mut effect = Effect::none();
-    let mut event = Event::Planned(0);
+    let mut event = SharedEvent::Planned(0);
     for events in 0..u64::MAX {
         let Some(time) = sim.radio.next_into(&mut event) else {
             return sum_ending(desc, world, programs, sim, events, tally);
@@ -100,9 +100,9 @@ fn sum_started(
 fn count_step(
     desc: &Description,
     world: &World,
-    programs: &Programs,
+    programs: &StoredPrograms,
     sim: &mut Simulation,
-    event: &Event,
+    event: &SharedEvent,
     at: Stamp,
     room: &mut NodeLog,
     effect: &mut Effect,
@@ -148,7 +148,7 @@ fn count_step(
 fn sum_ending(
     desc: &Description,
     world: &World,
-    programs: &Programs,
+    programs: &StoredPrograms,
     sim: Simulation,
     events: u64,
     mut tally: RunTally,

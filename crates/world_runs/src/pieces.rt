@@ -22,7 +22,7 @@ ghost use Rattle.world_laws.specs.EventText.{store_lines};
 use crate::record::Record;
 use crate::recording::record_stores;
 use mate_files::{Sink, SinkFault};
-use mate_journal::Programs;
+use mate_journal::StoredPrograms;
 use mate_num::{NoMemory, Stamp};
 use report_writer::{Pass, WriteFault, ended, stopped, write_end, write_event};
 use script_steps::World;
@@ -47,7 +47,7 @@ pub fn stopped_at(events: u64, fault: WriteFault) -> Pass
 pub fn write_start<S: Sink>(
     desc: &Description,
     world: &World,
-    programs: &Programs,
+    programs: &StoredPrograms,
     sim: &Simulation,
     out: &mut S,
 ) -> Result<(), WriteFault>
@@ -72,7 +72,7 @@ pub fn write_start<S: Sink>(
 pub fn write_ending<S: Sink>(
     desc: &Description,
     world: &World,
-    programs: &Programs,
+    programs: &StoredPrograms,
     sim: Simulation,
     events: u64,
     records: &mut Option<Record>,

@@ -103,7 +103,7 @@ fn add_air(air: &mut Airs, aired: &[Aired]) -> Result<(), NoMemory>
     let before = air.len();
     for one in aired {
         if air.push(aired_again(one)).is_err() {
-            air.truncate(before);
+            air.cut(before);
             return Err(NoMemory);
         }
     }

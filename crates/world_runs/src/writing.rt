@@ -20,9 +20,9 @@ use crate::record::Record;
 use crate::recording::record_event;
 use journal_laws::stamp_is_in_range;
 use mate_files::Sink;
-use mate_journal::{NodeLog, Programs, RECORDS_MAX};
+use mate_journal::{NodeLog, RECORDS_MAX, StoredPrograms};
 use mate_num::Stamp;
-use radio_sim::Event;
+use radio_sim::SharedEvent;
 use report_writer::{Pass, WriteFault, stopped};
 use script_steps::World;
 use std::alloc::Global;
@@ -39,7 +39,7 @@ pub fn write_world<S: Sink>(
     alloc: Global,
     desc: &Description,
     world: &World,
-    programs: &Programs,
+    programs: &StoredPrograms,
     out: &mut S,
 ) -> Result<(), WriteFault>
     requires { AreProgramsOfWorld desc.now world.now programs.now }
@@ -62,7 +62,7 @@ pub fn write_run<S: Sink>(
     alloc: Global,
     desc: &Description,
     world: &World,
-    programs: &Programs,
+    programs: &StoredPrograms,
     mut sim: Simulation,
     records: &mut Option<Record>,
     out: &mut S,
@@ -83,7 +83,7 @@ pub fn write_run<S: Sink>(
     }
     let mut room = NodeLog::new(alloc);
     let mut effect = Effect::none();
-    let mut event = Event::Planned(0);
+    let mut event = SharedEvent::Planned(0);
     for events in 0..u64::MAX {
         let Some(time) = sim.radio.next_into(&mut event) else {
             return write_ending(desc, world, programs, sim, events, records, out);
@@ -119,9 +119,9 @@ pub fn write_run<S: Sink>(
 fn write_step<S: Sink>(
     desc: &Description,
     world: &World,
-    programs: &Programs,
+    programs: &StoredPrograms,
     sim: &mut Simulation,
-    event: &Event,
+    event: &SharedEvent,
     at: Stamp,
     room: &mut NodeLog,
     effect: &mut Effect,

@@ -4,5 +4,5 @@
 pub mod running;
 pub mod writing;
 
-pub use running::run;
-pub use writing::run_into;
+pub use running::{run, run_stored};
+pub use writing::{run_into, run_stored_into};

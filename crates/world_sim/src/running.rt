@@ -3,7 +3,9 @@
 ghost use Rattle.node_programs.specs.WorldPrograms.{AreProgramsOfWorld};
 ghost use Rattle.world_run_laws.specs.Promise.{WorldRunGives};
 
-use mate_journal::{NodeLog, NodeLogs, Programs, RECORDS_MAX, Report, RunFault};
+use mate_journal::{
+    NodeLog, NodeLogs, Programs, RECORDS_MAX, Report, RunFault, StoredPrograms, stored,
+};
 use mate_num::Stamp;
 use script_steps::World;
 use std::alloc::Global;
@@ -14,12 +16,26 @@ use world_state::{Effect, Simulation, Written, report_of, see_stores};
 
 /// Runs a world on nodes of this machine, with the programs of its files: each event is the next that is due, and at the end
 /// each node's store is seen. `LogFull` comes exactly if there are 1,000,000 records or more and an event is left, with the
-/// report so far.
+/// report so far. It is for callers from outside: it copies the programs' images, and runs with these.
 pub fn run(
     alloc: Global,
     desc: &Description,
     world: &World,
     programs: &Programs,
+) -> Result<Report, RunFault>
+    requires { AreProgramsOfWorld desc.now world.now programs.now }
+    ensures { WorldRunGives desc.now world.now programs.now result }
+{
+    let programs = stored(alloc, programs)?;
+    run_stored(alloc, desc, world, &programs)
+}
+
+/// Runs a world as `run` does, with programs that are stored.
+pub fn run_stored(
+    alloc: Global,
+    desc: &Description,
+    world: &World,
+    programs: &StoredPrograms,
 ) -> Result<Report, RunFault>
     requires { AreProgramsOfWorld desc.now world.now programs.now }
     ensures { WorldRunGives desc.now world.now programs.now result }

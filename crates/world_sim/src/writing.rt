@@ -8,7 +8,7 @@ ghost use Rattle.world_run_laws.specs.Promise.{IsReportOfWorld};
 ghost use Rattle.world_run_laws.specs.Coming.{code_world};
 
 use mate_files::Sink;
-use mate_journal::{IntoFault, Programs, Report};
+use mate_journal::{IntoFault, Programs, Report, StoredPrograms, stored};
 use mate_num::NoMemory;
 use report_writer::nothing_run;
 use script_steps::World;
@@ -23,7 +23,7 @@ fn start_recorded(
     alloc: Global,
     desc: &Description,
     world: &World,
-    programs: &Programs,
+    programs: &StoredPrograms,
 ) -> Result<(Simulation, Record), NoMemory>
     requires { AreProgramsOfWorld desc.now world.now programs.now }
     ensures { IfOk result (λ made. StartsRecorded (code_world desc.now world.now programs.now) made.0 made.1) }
@@ -36,11 +36,31 @@ fn start_recorded(
 
 /// Runs a world as `run` does, and writes each event's lines when it ends, and then the last line. After a fault of the sink no
 /// further event is begun; the report then has the events that ended. The memory of the nodes is left to the end of the process.
+/// It is for callers from outside: it copies the programs' images, and runs with these.
 pub fn run_into<S: Sink>(
     alloc: Global,
     desc: &Description,
     world: &World,
     programs: &Programs,
+    out: &mut S,
+) -> Result<Report, IntoFault>
+    requires { AreProgramsOfWorld desc.now world.now programs.now }
+    ensures gives { RunsInto desc.now (IsReportOfWorld desc.now world.now programs.now) (S.written out.old) (S.written out.new)
+        (S.faults out.old) (S.faults out.new) result }
+    ensures later { S.faults out.old ≤ S.faults out.new }
+{
+    let Ok(programs) = stored(alloc, programs) else {
+        return Err(IntoFault::NoMemory(nothing_run(alloc)));
+    };
+    run_stored_into(alloc, desc, world, &programs, out)
+}
+
+/// Runs a world as `run_into` does, with programs that are stored.
+pub fn run_stored_into<S: Sink>(
+    alloc: Global,
+    desc: &Description,
+    world: &World,
+    programs: &StoredPrograms,
     out: &mut S,
 ) -> Result<Report, IntoFault>
     requires { AreProgramsOfWorld desc.now world.now programs.now }

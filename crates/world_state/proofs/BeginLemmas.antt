@@ -14,7 +14,7 @@ use Rattle.script_steps.specs.declared.world.World.{World as Script}
 use Rattle.event_queue.specs.declared.queue.Timed.{Timed}
 use Rattle.event_queue.specs.Agenda.{Agenda, due_at}
 use Rattle.radio_sim.specs.Radio.{Ether, StartsRadio}
-use Rattle.radio_sim.specs.declared.event.Event.{Event}
+use Rattle.radio_sim.specs.declared.shared_event.SharedEvent.{SharedEvent}
 use Rattle.trickle_timer.specs.Timer.{Timer}
 use Rattle.std.proofs.lemmas.List.Elements.{All-append, All-cons, All-nil}
 use Rattle.mate_journal.specs.Log.{Log, IsEmpty}
@@ -64,12 +64,12 @@ periods-from w node i [] at = refl
 periods-from w node i (h ∷ hs) at =
     first-by w node i (slice_get w.description.handlers.items i) h (filter_map (period_first w node) (range_with_len (i + 1) (length hs))) (ap (slice_get w.description.handlers.items) (omega arith) ∙ sym (at 0))
     ∙ ap (λ (n : ℕ). period_item node (record { 0 = i }) h.kind ++ timed_events w (filter_map (period_first w node) (range_with_len n (length hs)))) (omega arith)
-    ∙ ap (λ (xs : List (Timed Event)). period_item node (record { 0 = i }) h.kind ++ xs) (periods-from w node (suc i) hs (λ j. at (suc j) ∙ ap (slice_get w.description.handlers.items) (omega arith)))
+    ∙ ap (λ (xs : List (Timed SharedEvent)). period_item node (record { 0 = i }) h.kind ++ xs) (periods-from w node (suc i) hs (λ j. at (suc j) ∙ ap (slice_get w.description.handlers.items) (omega arith)))
 
 pub first-are : (w : World) (node : ℕ) (t : Timer) → t ≡ (start_node w node).timer → first_items w.description node t ≡ timed_events w (first_of w node)
 first-are w node t is =
     ap (first_items w.description node) is
-    ∙ ap (λ (xs : List (Timed Event)). timed_events w (of_interval node (start_node w node).timer) ++ xs) (sym (periods-from w node 0 w.description.handlers.items (λ j. ap (slice_get w.description.handlers.items) (omega arith))))
+    ∙ ap (λ (xs : List (Timed SharedEvent)). timed_events w (of_interval node (start_node w node).timer) ++ xs) (sym (periods-from w node 0 w.description.handlers.items (λ j. ap (slice_get w.description.handlers.items) (omega arith))))
     ∙ sym (map-append (timed_event w) (of_interval node (start_node w node).timer) (filter_map (period_first w node) (range_with_len 0 (handlers w))))
 
 -- ---- a node that begins
@@ -112,20 +112,20 @@ flat-behind : (w : World) (xs : List ℕ) (k : ℕ) → timed_events w (flat_map
 flat-behind w [] k = ap (timed_events w) (append-nil (first_of w k))
 flat-behind w (x ∷ xs) k =
     map-append (timed_event w) (first_of w x) (flat_map (first_of w) (xs ++ k ∷ []))
-    ∙ ap (λ (ys : List (Timed Event)). timed_events w (first_of w x) ++ ys) (flat-behind w xs k)
+    ∙ ap (λ (ys : List (Timed SharedEvent)). timed_events w (first_of w x) ++ ys) (flat-behind w xs k)
     ∙ sym (append_assoc (timed_events w (first_of w x)) (timed_events w (flat_map (first_of w) xs)) (timed_events w (first_of w k)))
-    ∙ ap (λ (ys : List (Timed Event)). ys ++ timed_events w (first_of w k)) (sym (map-append (timed_event w) (first_of w x) (flat_map (first_of w) xs)))
+    ∙ ap (λ (ys : List (Timed SharedEvent)). ys ++ timed_events w (first_of w k)) (sym (map-append (timed_event w) (first_of w x) (flat_map (first_of w) xs)))
 
 pub begun-more : (d : Description) (script : Script) (ps : List Program) (n : ℕ) (old mid new : Ether) (motes : List Mote) (m : Mote) → HaveBegun (code_world d script ps) n old mid motes → BeginsMote d script.random n m
     → AddsToAir mid new (aired_at beginning n (air.Interval m.timer.running.length) ∷ []) (first_items d n m.timer) → HaveBegun (code_world d script ps) (n + 1) old new (motes ++ m ∷ [])
 begun-more d script ps n old mid new motes m before begins adds =
     let P : List Aired → Type 0 = λ rs. AddsToAir old new rs (timed_events (code_world d script ps) (flat_map (first_of (code_world d script ps)) (range_with_len 0 (n + 1)))) in
-    let Q : List (Timed Event) → Type 0 = λ xs. AddsToAir old new (map (first_air (code_world d script ps)) (range_with_len 0 n) ++ aired_at beginning n (air.Interval m.timer.running.length) ∷ []) xs in
+    let Q : List (Timed SharedEvent) → Type 0 = λ xs. AddsToAir old new (map (first_air (code_world d script ps)) (range_with_len 0 n) ++ aired_at beginning n (air.Interval m.timer.running.length) ∷ []) xs in
     record {
       adds =
           subst P (ap (λ (t : Timer). map (first_air (code_world d script ps)) (range_with_len 0 n) ++ aired_at beginning n (air.Interval t.running.length) ∷ []) begins.timer
           ∙ sym (map-append (first_air (code_world d script ps)) (range_with_len 0 n) (n ∷ [])) ∙ ap (map (first_air (code_world d script ps))) (sym (range_push n)))
-          (subst Q (ap (λ (xs : List (Timed Event)). timed_events (code_world d script ps) (flat_map (first_of (code_world d script ps)) (range_with_len 0 n)) ++ xs) (first-are (code_world d script ps) n m.timer begins.timer)
+          (subst Q (ap (λ (xs : List (Timed SharedEvent)). timed_events (code_world d script ps) (flat_map (first_of (code_world d script ps)) (range_with_len 0 n)) ++ xs) (first-are (code_world d script ps) n m.timer begins.timer)
           ∙ sym (flat-behind (code_world d script ps) (range_with_len 0 n) n) ∙ ap (λ (ks : List ℕ). timed_events (code_world d script ps) (flat_map (first_of (code_world d script ps)) ks)) (sym (range_push n)))
           (adds-both old mid new (map (first_air (code_world d script ps)) (range_with_len 0 n)) (aired_at beginning n (air.Interval m.timer.running.length) ∷ []) (timed_events (code_world d script ps) (flat_map (first_of (code_world d script ps)) (range_with_len 0 n))) (first_items d n m.timer) before.adds adds));
       count = let long = length-more motes m in let was = before.count in omega (arith, long, was);
@@ -148,13 +148,13 @@ pub radio-first : (d : Description) (script : Script) (ps : List Program) (e0 e1
 radio-first d script ps e0 e1 e2 motes starts lines begun =
     let both = adds-both e0 e1 e2 [] _ (planned_items 0 script.events) _ lines begun.adds in record {
       due = λ t within.
-          both.grows.due t (subst (λ (n : ℕ). t ≤ n) (sym (ap (λ (q : Agenda Event). q.until) starts.agenda)) within)
-          ∙ ap (λ (q : Agenda Event). due_at t q.items ++ due_at t (planned_items 0 script.events ++ timed_events (code_world d script ps) (flat_map (first_of (code_world d script ps)) (range_with_len 0 script.nodes)))) starts.agenda
-          ∙ ap (λ (xs : List (Timed Event)). due_at t (xs ++ timed_events (code_world d script ps) (flat_map (first_of (code_world d script ps)) (range_with_len 0 script.nodes)))) (planned-are (code_world d script ps) (program_at ps) 0 script.events)
+          both.grows.due t (subst (λ (n : ℕ). t ≤ n) (sym (ap (λ (q : Agenda SharedEvent). q.until) starts.agenda)) within)
+          ∙ ap (λ (q : Agenda SharedEvent). due_at t q.items ++ due_at t (planned_items 0 script.events ++ timed_events (code_world d script ps) (flat_map (first_of (code_world d script ps)) (range_with_len 0 script.nodes)))) starts.agenda
+          ∙ ap (λ (xs : List (Timed SharedEvent)). due_at t (xs ++ timed_events (code_world d script ps) (flat_map (first_of (code_world d script ps)) (range_with_len 0 script.nodes)))) (planned-are (code_world d script ps) (program_at ps) 0 script.events)
           ∙ ap (due_at t) (sym (map-append (timed_event (code_world d script ps)) (lines_from 0 (code_world d script ps).plan) (flat_map (first_of (code_world d script ps)) (range_with_len 0 script.nodes))))
           ∙ due-timed (code_world d script ps) t (lines_from 0 (code_world d script ps).plan ++ flat_map (first_of (code_world d script ps)) (range_with_len 0 script.nodes));
-      until = both.grows.until ∙ ap (λ (q : Agenda Event). q.until) starts.agenda;
-      now = both.grows.now ∙ ap (λ (q : Agenda Event). q.now) starts.agenda;
+      until = both.grows.until ∙ ap (λ (q : Agenda SharedEvent). q.until) starts.agenda;
+      now = both.grows.now ∙ ap (λ (q : Agenda SharedEvent). q.now) starts.agenda;
       air = both.grows.air ∙ ap (λ (rs : List Aired). rs ++ map (first_air (code_world d script ps)) (range_with_len 0 script.nodes)) starts.air;
       stands = stands-added (code_world d script ps) [] e0 e2 _ _ both (record { stands = record { sent = starts.stands.sent; wires = starts.stands.wires }; delay = starts.delay });
       fit = tt;

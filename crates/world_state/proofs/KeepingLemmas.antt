@@ -19,7 +19,7 @@ use Rattle.node_state.specs.Keeps.{reading}
 use Rattle.node_open.specs.Journal.{KeepsJournal}
 use Rattle.node_open.specs.View.{heard_of}
 use Rattle.radio_sim.specs.Radio.{Ether}
-use Rattle.radio_sim.specs.declared.event.Event.{Event}
+use Rattle.radio_sim.specs.declared.shared_event.SharedEvent.{SharedEvent}
 use Rattle.mate_num.proofs.ListLemmas.{all-at}
 use Rattle.world_air.specs.Calls.{AreCallsOf}
 use Rattle.world_rules.specs.World.{World}
@@ -129,7 +129,7 @@ module _ (old mid : Simulation) (node : ℕ) (go : LetsGo old mid node) where
     own : IsSomeAnd (slice_get old.motes.items node) (IsMoteAfter w ms node) → IsMoteAfter w ms node go.before
     own is = subst (λ (o : Option Mote). IsSomeAnd o (IsMoteAfter w ms node)) go.found is
 
-  go-stands : (w : World) (e : Event) (at : Stamp) → node < length old.motes.items → StandsAtNext w e at old → StandsAtNext w e at mid
+  go-stands : (w : World) (e : SharedEvent) (at : Stamp) → node < length old.motes.items → StandsAtNext w e at old → StandsAtNext w e at mid
   go-stands w e at low b = record {
     moments = b.moments;
     cause = b.cause;
@@ -150,7 +150,7 @@ module _ (old mid : Simulation) (node : ℕ) (go : LetsGo old mid node) where
 
 -- ---- where it is let go, or kept
 
-pub stands-still : (written : Written) (old mid : Simulation) (node : ℕ) (w : World) (e : Event) (at : Stamp) → LetsGoAsTold written old mid node → node < length old.motes.items → StandsAtNext w e at old → StandsAtNext w e at mid
+pub stands-still : (written : Written) (old mid : Simulation) (node : ℕ) (w : World) (e : SharedEvent) (at : Stamp) → LetsGoAsTold written old mid node → node < length old.motes.items → StandsAtNext w e at old → StandsAtNext w e at mid
 stands-still Kept old mid node w e at go low b = subst (StandsAtNext w e at) (sym go) b
 stands-still Forgotten old mid node w e at go low b = go-stands old mid node go w e at low b
 
@@ -214,7 +214,7 @@ whole-shown at olds news shows whole k m below =
 
 -- ---- few stand before an event
 
-pub few-stand : (w : World) (e : Event) (at : Stamp) (s : Simulation) (node : ℕ) (m : Mote) → StandsAtNext w e at s → node < w.nodes → slice_get s.motes.items node ≡ Some m → length m.node.log.entries + length s.radio.air < 1000000
+pub few-stand : (w : World) (e : SharedEvent) (at : Stamp) (s : Simulation) (node : ℕ) (m : Mote) → StandsAtNext w e at s → node < w.nodes → slice_get s.motes.items node ≡ Some m → length m.node.log.entries + length s.radio.air < 1000000
 few-stand w e at s node m b low found =
     let own : IsMoteAfter w b.moments node m = subst (λ (o : Option Mote). IsSomeAnd o (IsMoteAfter w b.moments node)) found (b.motes node low) in
     let high = records-high w node b.moments in

@@ -3,7 +3,7 @@ use Rattle.std.proofs.Common.{◌≡◌, ℕ, ◌<◌, ◌≤◌, Bool, true, fa
 use Rattle.std.specs.Prelude.{◌==◌, if◌then◌else◌}
 use Rattle.std.proofs.lemmas.Bool.Decides.{eqb_tells}
 use Rattle.event_queue.specs.Agenda.{due_at, Comes}
-use Rattle.radio_sim.specs.declared.event.Event.{Event}
+use Rattle.radio_sim.specs.declared.shared_event.SharedEvent.{SharedEvent}
 use Rattle.radio_sim.specs.Radio.{Ether, wires_of}
 use Rattle.world_rules.specs.Cause.{Cause}
 use Rattle.world_rules.specs.Cause as event
@@ -19,25 +19,25 @@ use Rattle.world_state.specs.StandingAfter.{IsRadioAfter, coming}
 
 -- ---- lists of causes
 
-record Splits (w : World) (cs : List Cause) (e : Event) (es : List Event) : Type 0 where
+record Splits (w : World) (cs : List Cause) (e : SharedEvent) (es : List SharedEvent) : Type 0 where
   pub first : Cause
   pub others : List Cause
   pub split : cs ≡ first ∷ others
   pub is : radio_event w first ≡ e
   pub rest : map (radio_event w) others ≡ es
 
-first-of : Event → List Event → Event
+first-of : SharedEvent → List SharedEvent → SharedEvent
 first-of e [] = e
 first-of e (x ∷ xs) = x
 
-splits : (w : World) (cs : List Cause) (e : Event) (es : List Event) → map (radio_event w) cs ≡ e ∷ es → Splits w cs e es
+splits : (w : World) (cs : List Cause) (e : SharedEvent) (es : List SharedEvent) → map (radio_event w) cs ≡ e ∷ es → Splits w cs e es
 unfolding first-of
-splits w [] e es is = absurd (let long = ap (λ (xs : List Event). length xs) is in omega (arith, long))
+splits w [] e es is = absurd (let long = ap (λ (xs : List SharedEvent). length xs) is in omega (arith, long))
 splits w (c ∷ cs) e es is = record { first = c; others = cs; split = refl; is = ap (first-of e) is; rest = ap (drop 1) is }
 
 none-mapped : (w : World) (cs : List Cause) → map (radio_event w) cs ≡ [] → cs ≡ []
 none-mapped w [] is = refl
-none-mapped w (c ∷ cs) is = absurd (let long = ap (λ (xs : List Event). length xs) is in omega (arith, long))
+none-mapped w (c ∷ cs) is = absurd (let long = ap (λ (xs : List SharedEvent). length xs) is in omega (arith, long))
 
 near-one : (w : World) (c : Cause) → w.nodes ≤ 64 → event_node w c < w.nodes → IsNear (radio_event w c)
 near-one w (event.Planned line) few low = tt
@@ -55,14 +55,14 @@ of-rest w (c ∷ cs) are = are.1
 
 -- ---- the next event
 
-pub record IsBehind (w : World) (ms : List Moment) (time : ℕ) (e : Event) (new : Ether) : Type 0 where
+pub record IsBehind (w : World) (ms : List Moment) (time : ℕ) (e : SharedEvent) (new : Ether) : Type 0 where
   pub cause : Cause
   pub next : IsNext (state w ms) time cause
   pub is : radio_event w cause ≡ e
   pub taken : IsTakenFrom w (state w ms) (coming time cause) new
   pub within : time ≤ w.until
 
-module _ (w : World) (ms : List Moment) (old new : Ether) (time : ℕ) (e : Event) (few : w.nodes ≤ 64) (dues : DuesAreOfNodes w) (come : HaveCome w ms) (radio : IsRadioAfter w ms old)
+module _ (w : World) (ms : List Moment) (old new : Ether) (time : ℕ) (e : SharedEvent) (few : w.nodes ≤ 64) (dues : DuesAreOfNodes w) (come : HaveCome w ms) (radio : IsRadioAfter w ms old)
     (comes : Comes old.agenda (record { time = time; item = e }) new.agenda) (same : new ≡ record old { agenda = new.agenda }) where
   in-time : time ≤ w.until
   in-time = subst (λ (n : ℕ). time ≤ n) radio.until comes.in_time

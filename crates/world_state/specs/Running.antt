@@ -2,7 +2,7 @@
 use Rattle.std.specs.Prelude.{◌≡◌, ℕ, suc, ◌<◌, ◌≤◌, List, length, slice_get, IsSomeAnd}
 use Rattle.mate_num.specs.declared.call.Stamp.{Stamp}
 use Rattle.mate_journal.specs.NodeScript.{records_max}
-use Rattle.radio_sim.specs.declared.event.Event.{Event}
+use Rattle.radio_sim.specs.declared.shared_event.SharedEvent.{SharedEvent}
 use Rattle.world_rules.specs.World.{World}
 use Rattle.world_rules.specs.State.{Moment, state}
 use Rattle.world_rules.specs.Cause.{Cause}
@@ -25,7 +25,7 @@ pub record StandsAfter (w : World) (events : ℕ) (s : Simulation) : Type 0 wher
   pub well_formed : (k : ℕ) → k < w.nodes → HasWellFormed w k moments
 
 -- the next event that is due was taken from the radio: it has this stamp and, if it is to be begun, room
-pub record StandsAtNext (w : World) (event : Event) (at : Stamp) (s : Simulation) : Type 0 where
+pub record StandsAtNext (w : World) (event : SharedEvent) (at : Stamp) (s : Simulation) : Type 0 where
   pub moments : List Moment
   pub cause : Cause
   pub come : HaveCome w moments

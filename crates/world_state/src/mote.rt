@@ -17,7 +17,7 @@ ghost use Rattle.world_state.specs.Motes.{BeginsMote, IsTellable, TellsAlone, Re
 ghost use Rattle.world_state.specs.Motes.{HearsVector, plain_effect, at_fire, timed, counted_timer, begins_counted};
 
 use crate::effect::Effect;
-use capsule_exchange::Exchange;
+use capsule_exchange::StoredExchange;
 use mate_num::{ContextId, HandlerId, Image, NoMemory, Payload, Stamp};
 use node_open::{OpenNode, SharedMachine};
 use packet_codec::Packet;
@@ -30,7 +30,7 @@ use world_air::Calls;
 pub struct Mote {
     pub node: OpenNode,
     pub timer: Trickle,
-    pub exchange: Exchange,
+    pub exchange: StoredExchange,
     /// Whether a pump is due.
     pub pumps: bool,
     pub calls: Calls,
@@ -51,7 +51,7 @@ impl Mote {
         Ok(Mote {
             node: OpenNode::on(alloc, machine.share()?)?,
             timer: Trickle::start(desc.trickle, random, node, 0),
-            exchange: Exchange::new(alloc, desc.handlers.len() as u8)?,
+            exchange: StoredExchange::new(alloc, desc.handlers.len() as u8)?,
             pumps: false,
             calls: Calls::new(alloc, desc, random, node)?,
         })

@@ -23,11 +23,11 @@ ghost use Rattle.world_state.specs.Telling.{LogsAreKept};
 
 use crate::mote::Mote;
 use journal_laws::air_is_in_range_from;
-use mate_journal::{NodeLog, Programs, RECORDS_MAX};
+use mate_journal::{NodeLog, RECORDS_MAX, StoredPrograms};
 use mate_num::NoMemory;
 use node_open::{OpenNode, SharedMachine};
 use packet_codec::Packet;
-use radio_sim::{Event, Radio};
+use radio_sim::{Radio, SharedEvent};
 use script_steps::World;
 use std::alloc::Global;
 use vm_shape::Description;
@@ -56,7 +56,7 @@ impl Simulation {
         alloc: Global,
         desc: &Description,
         world: &World,
-        programs: &Programs,
+        programs: &StoredPrograms,
     ) -> Result<Simulation, NoMemory>
         requires { IsRightWorld desc.now world.now }
         ensures stands { IfOk result (λ sim. (ps : List ProgramOfFile) → StandsAfter (code_world desc.now world.now ps) 0 sim) }
@@ -188,15 +188,15 @@ fn begin_mote(
 
 /// Whether a node may record something in the event. Of its timer's events and of most packets it records nothing, so it needs no
 /// room then. No contract rests on it: a node makes room of its own if it has none.
-pub fn may_tell(desc: &Description, event: &Event) -> bool {
+pub fn may_tell(desc: &Description, event: &SharedEvent) -> bool {
     match event {
-        Event::Planned(_) => true,
-        Event::Period { .. } => true,
-        Event::Fire { .. } => false,
-        Event::Expire { .. } => false,
-        Event::Pump { .. } => false,
-        Event::Due { .. } => true,
-        Event::Deliver { bytes, .. } => match bytes.packet(desc) {
+        SharedEvent::Planned(_) => true,
+        SharedEvent::Period { .. } => true,
+        SharedEvent::Fire { .. } => false,
+        SharedEvent::Expire { .. } => false,
+        SharedEvent::Pump { .. } => false,
+        SharedEvent::Due { .. } => true,
+        SharedEvent::Deliver { bytes, .. } => match bytes.packet(desc) {
             Some(Packet::Vector { .. }) => false,
             Some(Packet::Status { .. }) => false,
             Some(Packet::Fragment { .. }) => true,

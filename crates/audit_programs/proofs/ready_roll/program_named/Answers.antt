@@ -1,8 +1,6 @@
 use Rattle.std.proofs.Common.{◌<◌, ◌∙◌, ℕ, List, get_or, length, true≢false, sym, ap, subst, arith}
 use Rattle.std.specs.List.{list_any}
-use Rattle.std.proofs.lemmas.Option.{slice_get-get_or}
 use Rattle.arrayvec.specs.ArrayVec.{ArrayVec}
-use Rattle.mate_journal.specs.Journal.{no_image}
 use Rattle.mate_journal.specs.declared.program.Program.{Program}
 use Rattle.node_programs.specs.Sources.{is_held_as}
 use Rattle.audit_programs.specs.Naming.{named_program, IsHeldAt}
@@ -13,9 +11,9 @@ pub returns-clause-right : goal.returns-clause-right
 returns-clause-right c =
     let l = c.args.trial.now.log.now in
     let ps : List Program = c.args.trial.now.programs.now in
-    let k = c.in-Some-find_program.found in
-    let at = image-at l.images c.images.result.now.items c.args.image c.in-Some.bytes c.images.ensures c.in-Some.ensures in
-    let held = subst (λ (image : ArrayVec ℕ). IsHeldAt (record { handler = c.args.handler; version = c.args.version; image = image }) ps k) at c.in-Some-find_program.ensures.held in
+    let k = c.in-Some.found in
+    let at = image-at l.images c.images.result.now c.args.image c.index-images-image.result c.images.ensures c.requires.known c.index-images-image.is in
+    let held = subst (λ (image : ArrayVec ℕ). IsHeldAt (record { handler = c.args.handler; version = c.args.version; image = image }) ps k) at c.in-Some.ensures.held in
     let p : Program = c.index-as_slice-found.result in
     (found-right c.args.trial.now.desc.now (named_program l c.args.handler c.args.version c.args.image) ps k p c.requires.right held
     (c.index-as_slice-found.is ∙ ap (λ (xs : List Program). get_or xs k p) c.as_slice.ensures)).0
@@ -24,9 +22,9 @@ pub returns-clause-image : goal.returns-clause-image
 returns-clause-image c =
     let l = c.args.trial.now.log.now in
     let ps : List Program = c.args.trial.now.programs.now in
-    let k = c.in-Some-find_program.found in
-    let at = image-at l.images c.images.result.now.items c.args.image c.in-Some.bytes c.images.ensures c.in-Some.ensures in
-    let held = subst (λ (image : ArrayVec ℕ). IsHeldAt (record { handler = c.args.handler; version = c.args.version; image = image }) ps k) at c.in-Some-find_program.ensures.held in
+    let k = c.in-Some.found in
+    let at = image-at l.images c.images.result.now c.args.image c.index-images-image.result c.images.ensures c.requires.known c.index-images-image.is in
+    let held = subst (λ (image : ArrayVec ℕ). IsHeldAt (record { handler = c.args.handler; version = c.args.version; image = image }) ps k) at c.in-Some.ensures.held in
     let p : Program = c.index-as_slice-found.result in
     held_image (named_program l c.args.handler c.args.version c.args.image) p
     (found-right c.args.trial.now.desc.now (named_program l c.args.handler c.args.version c.args.image) ps k p c.requires.right held
@@ -34,26 +32,19 @@ returns-clause-image c =
 
 pub unreachable-requires : goal.unreachable-requires
 unreachable-requires c =
-    let i = c.args.image in
-    c.in_default.not-Some (get_or c.images.result.now.items i no_image)
-    (c.get.ensures ∙ slice_get-get_or c.images.result.now.items i no_image (subst (λ (images : List (ArrayVec ℕ)). i < length images) (sym c.images.ensures) c.requires.known))
-
-pub unreachable-requires-in_default-find_program :
-    goal.unreachable-requires-in_default-find_program
-unreachable-requires-in_default-find_program c =
     let l = c.args.trial.now.log.now in
     let ps : List Program = c.args.trial.now.programs.now in
-    let at = image-at l.images c.images.result.now.items c.args.image c.in-Some.bytes c.images.ensures c.in-Some.ensures in
-    true≢false (sym c.requires.given ∙ sym (ap (λ (image : ArrayVec ℕ). list_any (is_held_as (record { handler = c.args.handler; version = c.args.version; image = image })) ps) at) ∙ sym c.in_default-find_program.ensures.any)
+    let at = image-at l.images c.images.result.now c.args.image c.index-images-image.result c.images.ensures c.requires.known c.index-images-image.is in
+    true≢false (sym c.requires.given ∙ sym (ap (λ (image : ArrayVec ℕ). list_any (is_held_as (record { handler = c.args.handler; version = c.args.version; image = image })) ps) at) ∙ sym c.in_default.ensures.any)
 
 pub bounds-as_slice-found : goal.bounds-as_slice-found
 bounds-as_slice-found c =
     let ps : List Program = c.args.trial.now.programs.now in
-    let k = c.in-Some-find_program.found in
+    let k = c.in-Some.found in
     subst (λ (qs : List Program). k < length qs) (sym c.as_slice.ensures)
-    (IsHeldAt-below (record { handler = c.args.handler; version = c.args.version; image = c.in-Some.bytes }) ps k c.in-Some-find_program.ensures.held)
+    (IsHeldAt-below (record { handler = c.args.handler; version = c.args.version; image = c.index-images-image.result }) ps k c.in-Some.ensures.held)
 
 pub offset_bounds-as_slice-found : goal.offset_bounds-as_slice-found
 offset_bounds-as_slice-found c =
-    let within : c.in-Some-find_program.found < length c.as_slice.result.now = bounds-as_slice-found c in
+    let within : c.in-Some.found < length c.as_slice.result.now = bounds-as_slice-found c in
     omega arith

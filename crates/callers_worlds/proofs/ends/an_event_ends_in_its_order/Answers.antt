@@ -8,8 +8,8 @@ use Rattle.world_rules.specs.World.{World}
 use Rattle.world_air.specs.Air.{radio_event, aired_at}
 use Rattle.world_run_laws.specs.Coming.{code_world}
 use Rattle.callers_worlds.proofs.EndLemmas.{end_is_gone, by_first, a_period, by_fourth, a_pump, no_interval, after_first, sent_first}
-use Rattle.radio_sim.specs.declared.event.Event.{Event}
-use Rattle.radio_sim.specs.declared.event.Event.TheVariants as radio_kind
+use Rattle.radio_sim.specs.declared.shared_event.SharedEvent.{SharedEvent}
+use Rattle.radio_sim.specs.declared.shared_event.SharedEvent.TheVariants as radio_kind
 use Rattle.mate_journal.specs.declared.air.Air.{Air}
 use Rattle.mate_journal.specs.declared.air.Air.TheVariants.{Sent}
 use Rattle.mate_journal.specs.declared.air.Aired.{Aired}
@@ -32,7 +32,7 @@ returns-clause-period c = λ programs s m h period before comes has.
     let is = before.is in
     let finished = c.in_ok-finish.ensures programs s m is.time_is is.cause_is is.node_is is.taken is.settled in
     let t : ℕ = m.time + period in
-    ap (λ (events : List Event). slice_get events 0) (finished.due t before.in_time)
+    ap (λ (events : List SharedEvent). slice_get events 0) (finished.due t before.in_time)
     ∙ by_first w t (left_due w s m t) (next_period w m.cause m.time) _ (record { time = t; cause = Period c.args.number h }) before.none_left
     (a_period w c.args.number m.time period h m.cause comes has) refl
 
@@ -43,7 +43,7 @@ returns-clause-pump c = λ programs s m before first.
     let finished = c.in_ok-finish.ensures programs s m is.time_is is.cause_is is.node_is is.taken is.settled in
     let t : ℕ = m.time + w.description.radio.gap in
     let node : ℕ = event_node w m.cause in
-    ap (λ (events : List Event). slice_get events 0) (finished.due t before.in_time)
+    ap (λ (events : List SharedEvent). slice_get events 0) (finished.due t before.in_time)
     ∙ by_fourth w t (left_due w s m t) (next_period w m.cause m.time) (new_interval node (begun_length (node_at w s m) (effect_at w s m)) (node_after w (node_at w s m) m).timer) _ _ _
     (record { time = t; cause = Pump node }) before.none_left first.no_period
     (no_interval node _ _ first.no_interval) first.no_deliveries (a_pump w node m.time _ first.falls_due) refl

@@ -3,7 +3,7 @@ use Rattle.std.specs.Option.{option_map_or}
 use Rattle.arrayvec.specs.ArrayVec.{ArrayVec}
 use Rattle.mate_journal.specs.declared.air.Air.{Air}
 use Rattle.mate_journal.specs.declared.air.Air.TheVariants.{Got}
-use Rattle.radio_sim.specs.declared.event.Event.TheVariants as radio
+use Rattle.radio_sim.specs.declared.shared_event.SharedEvent.TheVariants as radio
 use Rattle.script_steps.specs.declared.world.Link.{Link}
 use Rattle.world_rules.specs.Cause.{Deliver}
 use Rattle.callers_worlds.proofs.events.a_packet_is_got_from_its_sender.Goals as goal

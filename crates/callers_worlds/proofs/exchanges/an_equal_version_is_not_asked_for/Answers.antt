@@ -6,6 +6,6 @@ use Rattle.callers_worlds.proofs.exchanges.an_equal_version_is_not_asked_for.Goa
 
 pub returns : goal.returns
 returns c =
-    c.len.ensures.value ∙ ap (λ (ps : List Packet). length ps) (c.hear.ensures.asks 1 (Installs 0 2 (7 ∷ []) ∷ []) c.in_ok-exchange.ensures)
+    c.len.ensures.value ∙ ap (λ (ps : List Packet). length ps) (c.hear-heard.ensures.asks 1 (Installs 0 2 (7 ∷ []) ∷ []) c.a_holder-exchange.ensures)
     ∙ ap (λ (vs : List ℕ). length (asks_after 1 (Vector (record { items = vs })) (Installs 0 2 (7 ∷ []) ∷ [])))
     (c.push.ensures.items ∙ ap (λ (vs : List ℕ). vs ++ 2 ∷ []) c.new-versions.ensures)

@@ -5,4 +5,4 @@ use Rattle.callers_worlds.proofs.exchanges.another_version_is_not_marked.Goals a
 
 pub returns : goal.returns
 returns c =
-    c.marked.ensures 1 (Hears (Status (record { 0 = 0 }) 1 1) ∷ Installs 0 2 (7 ∷ []) ∷ []) (c.hear.ensures.learned 1 (Installs 0 2 (7 ∷ []) ∷ []) c.in_ok-exchange.ensures)
+    c.marked.ensures 1 (Hears (Status (record { 0 = 0 }) 1 1) ∷ Installs 0 2 (7 ∷ []) ∷ []) (c.hear.ensures.learned 1 (Installs 0 2 (7 ∷ []) ∷ []) c.a_holder-exchange.ensures)

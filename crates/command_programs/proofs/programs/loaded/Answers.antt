@@ -25,7 +25,7 @@ returns-clause-does g c =
     let same : c.deref.result.now ≡ c.in_ok-held.held.value = cc in
     let Is : VerifiedCapsule → Type 0 = λ h. capsule f c.args.desc.now c.args.name.now (Ok (parts_held h)) in
     goes_on (parts_held held) (subst Is (sym same) c.in_ok-held.ensures.does)
-    (record { handler = refl; version_is = refl; source = refl; image = c.in_ok-image.ensures.image })
+    (subst (IsLoaded (capsule_parts held.capsule)) (sym c.loaded.ensures) (record { handler = refl; version_is = refl; source = refl; image = c.in_ok-image.ensures.image }))
 
 pub returns-clause-right : goal.returns-clause-right
 returns-clause-right g c =
@@ -37,7 +37,8 @@ returns-clause-right g c =
     let machine : IsOfMachine c.args.desc.now (capsule_parts held.capsule) =
     subst (λ (h : VerifiedCapsule). IsOfMachine c.args.desc.now (capsule_parts h.capsule)) (sym same) c.in_ok-held.ensures.verified.of_machine in
     let p : Program = record { handler = held.capsule.handler; version = held.capsule.version; source = None; image = c.in_ok-image.image } in
-    IsRightProgram-loaded c.args.desc.now held.code.code text.1.marks (capsule_parts held.capsule) p text.1.accepted c.in_ok-image.ensures.fits machine refl refl refl c.in_ok-image.ensures.image
+    subst (IsRightProgram c.args.desc.now) (sym c.loaded.ensures)
+    (IsRightProgram-loaded c.args.desc.now held.code.code text.1.marks (capsule_parts held.capsule) p text.1.accepted c.in_ok-image.ensures.fits machine refl refl refl c.in_ok-image.ensures.image)
 
 pub returns-in_err-held-clause-reads : goal.returns-in_err-held-clause-reads
 returns-in_err-held-clause-reads g c = reads-err c.in_err-held.field-0.0 c.from_residual.result c.in_err-held.ensures.reads c.from_residual.ensures.1

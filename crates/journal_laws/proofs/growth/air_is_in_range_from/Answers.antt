@@ -3,5 +3,5 @@ use Rattle.std.specs.Prelude.{All}
 use Rattle.mate_journal.specs.Ranges.{HasAiredRanges}
 use Rattle.journal_laws.proofs.growth.air_is_in_range_from.Goals as goal
 
-pub returns-then-count-air : goal.returns-then-count-air
-returns-then-count-air c = subst (All HasAiredRanges) c.split_at.ensures.back c.airs_are_in_range.ensures
+pub returns : goal.returns
+returns c = subst (All HasAiredRanges) c.behind.ensures c.airs_are_in_range.ensures

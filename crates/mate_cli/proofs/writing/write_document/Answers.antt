@@ -4,4 +4,4 @@ use Rattle.command_documents.specs.Documents.{document_text}
 use Rattle.mate_cli.proofs.writing.write_document.Goals as goal
 
 pub returns : goal.returns
-returns g c = text-written (document_text c.args.document.now) true _ _ c.write-written.result c.ended.result c.told.result c.write-written.ensures c.ended.ensures c.told.ensures
+returns g c = text-written (document_text c.args.document.now) true _ _ c.write.result c.ended.result c.write.ensures c.ended.ensures

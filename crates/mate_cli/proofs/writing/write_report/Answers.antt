@@ -1,5 +1,5 @@
 use Rattle.std.proofs.Common.{sym, subst}
-use Rattle.mate_cli.specs.Ends.{Sinks, IsReportWritten, IsRunWritten}
+use Rattle.mate_cli.specs.Ends.{SinkState, ending_of, IsReportWritten, IsRunWritten}
 use Rattle.vm_shape.specs.declared.description.Description.{Description}
 use Rattle.command_documents.specs.Outputs.{HasPrograms}
 use Rattle.command_documents.specs.declared.output.Run.{Run}
@@ -12,46 +12,26 @@ use Rattle.mate_cli.proofs.writing.write_report.Goals as goal
 
 pub returns-in-Script : goal.returns-in-Script
 returns-in-Script g c =
-    let s : Sinks = record {
-      out = g.S.Sink.written c.args.out.now;
-      out_faults = g.S.Sink.faults c.args.out.now;
-      err = g.E.Sink.written c.args.err.now;
-      err_faults = g.E.Sink.faults c.args.err.now;
-    } in
-    let t : Sinks = record {
-      out = g.S.Sink.written c.write_steps-written.new.out;
-      out_faults = g.S.Sink.faults c.write_steps-written.new.out;
-      err = g.E.Sink.written c.told.new.err;
-      err_faults = g.E.Sink.faults c.told.new.err;
-    } in
+    let s : SinkState = record { written = g.S.Sink.written c.args.out.now; faults = g.S.Sink.faults c.args.out.now } in
+    let t : SinkState = record { written = g.S.Sink.written c.write_steps.new.out; faults = g.S.Sink.faults c.write_steps.new.out } in
     let d = c.description.result.now in
-    subst (λ (r : Run). IsReportWritten r s t c.told.result) (sym c.in-Script.is)
-    (subst (λ (d : Description). IsRunWritten d (IsReportOf d c.in-Script.script c.in-Script.programs) s t c.told.result) c.description.ensures
-    (run-written d (IsReportOf d c.in-Script.script c.in-Script.programs) s t c.write_steps-written.result c.told.result c.write_steps-written.ensures.gives c.told.ensures))
+    subst (λ (r : Run). IsReportWritten r s t (ending_of c.write_steps.result)) (sym c.in-Script.is)
+    (subst (λ (d : Description). IsRunWritten d (IsReportOf d c.in-Script.script c.in-Script.programs) s t (ending_of c.write_steps.result)) c.description.ensures
+    (run-written d (IsReportOf d c.in-Script.script c.in-Script.programs) s t c.write_steps.result c.write_steps.ensures.gives))
 
 pub returns-in-World : goal.returns-in-World
 returns-in-World g c =
-    let s : Sinks = record {
-      out = g.S.Sink.written c.args.out.now;
-      out_faults = g.S.Sink.faults c.args.out.now;
-      err = g.E.Sink.written c.args.err.now;
-      err_faults = g.E.Sink.faults c.args.err.now;
-    } in
-    let t : Sinks = record {
-      out = g.S.Sink.written c.write_world-written.new.out;
-      out_faults = g.S.Sink.faults c.write_world-written.new.out;
-      err = g.E.Sink.written c.told-in-World.new.err;
-      err_faults = g.E.Sink.faults c.told-in-World.new.err;
-    } in
+    let s : SinkState = record { written = g.S.Sink.written c.args.out.now; faults = g.S.Sink.faults c.args.out.now } in
+    let t : SinkState = record { written = g.S.Sink.written c.write_world.new.out; faults = g.S.Sink.faults c.write_world.new.out } in
     let d = c.description-in-World.result.now in
-    subst (λ (r : Run). IsReportWritten r s t c.told-in-World.result) (sym c.in-World.is)
-    (subst (λ (d : Description). IsRunWritten d (IsReportOfWorld d c.in-World.world c.in-World.programs) s t c.told-in-World.result) c.description-in-World.ensures
-    (run-written d (IsReportOfWorld d c.in-World.world c.in-World.programs) s t c.write_world-written.result c.told-in-World.result c.write_world-written.ensures.gives c.told-in-World.ensures))
+    subst (λ (r : Run). IsReportWritten r s t (ending_of c.write_world.result)) (sym c.in-World.is)
+    (subst (λ (d : Description). IsRunWritten d (IsReportOfWorld d c.in-World.world c.in-World.programs) s t (ending_of c.write_world.result)) c.description-in-World.ensures
+    (run-written d (IsReportOfWorld d c.in-World.world c.in-World.programs) s t c.write_world.result c.write_world.ensures.gives))
 
-pub write_steps-written-requires : goal.write_steps-written-requires
-write_steps-written-requires g c =
+pub write_steps-requires : goal.write_steps-requires
+write_steps-requires g c =
     subst (λ (d : Description). AreProgramsOf d c.in-Script.script c.in-Script.programs) (sym c.description.ensures) (subst HasPrograms c.in-Script.is c.requires)
 
-pub write_world-written-requires : goal.write_world-written-requires
-write_world-written-requires g c =
+pub write_world-requires : goal.write_world-requires
+write_world-requires g c =
     subst (λ (d : Description). AreProgramsOfWorld d c.in-World.world c.in-World.programs) (sym c.description-in-World.ensures) (subst HasPrograms c.in-World.is c.requires)

@@ -4,4 +4,4 @@ use Rattle.mate_cli.proofs.writing.write_summary.Goals as goal
 
 pub returns : goal.returns
 returns g c =
-    text-written (summary_text c.args.desc.now c.args.summary.now) c.args.summary.now.whole _ _ c.write-written.result c.ended.result c.told.result c.write-written.ensures c.ended.ensures c.told.ensures
+    text-written (summary_text c.args.desc.now c.args.summary.now) c.args.summary.now.whole _ _ c.write.result c.ended.result c.write.ensures c.ended.ensures

@@ -1,5 +1,6 @@
 -- The store is told.
-use Rattle.std.proofs.Common.{arith}
+use Rattle.std.proofs.Common.{[], ◌∷◌, ◌++◌, ap, ◌∙◌, arith}
+use Rattle.mate_num.specs.declared.store.Store.{Store}
 use Rattle.node_calls.proofs.ReadyLemmas.{TellsStore-pushed}
 use Rattle.journal_laws.proofs.TidyLemmas.{stores-few}
 use Rattle.node_calls.proofs.showing.seen_in.Goals as goal
@@ -10,7 +11,7 @@ returns-clause-tells c =
     (record {
       entries = c.push_seen.ensures.entries;
       images = c.push_seen.ensures.images;
-      stores = c.push_seen.ensures.stores;
+      stores = c.push_seen.ensures.stores ∙ ap (λ (s : Store). c.args.parts.now.log.all.stores ++ s ∷ []) c.store.ensures;
     }) c.push_seen.ensures.spare
 
 pub push_seen-requires-clause-count : goal.push_seen-requires-clause-count

@@ -1,7 +1,5 @@
-use Rattle.std.proofs.Common.{◌<◌, List, ℕ, get_or, length, sym, ◌∙◌, subst}
-use Rattle.std.proofs.lemmas.Option.{slice_get-get_or}
+use Rattle.std.proofs.Common.{◌<◌, List, ℕ, length, sym, subst}
 use Rattle.arrayvec.specs.ArrayVec.{ArrayVec}
-use Rattle.mate_journal.specs.Journal.{no_image}
 use Rattle.journal_laws.specs.Growth.{IsNamedBelow}
 use Rattle.report_audit.proofs.ImageLemmas.{none-installed, versions-kept}
 use Rattle.report_audit.proofs.images.installs_right.Goals as goal
@@ -12,10 +10,9 @@ returns-in_default c = record {
   held = λ x versions. versions-kept c.args.log.now c.args.held.now x c.args.entry.now c.in_default.not-Install versions;
 }
 
-pub unreachable-requires : goal.unreachable-requires
-unreachable-requires c =
+pub bounds-images-image : goal.bounds-images-image
+bounds-images-image c =
     let l = c.args.log.now in
     let k = c.in-Install.image in
     let below : k < length l.images = subst (IsNamedBelow (length l.images) (length l.stores)) c.in-Install.is c.requires.named in
-    c.in_default-get.not-Some (get_or c.images.result.now.items k no_image)
-    (c.get.ensures ∙ slice_get-get_or c.images.result.now.items k no_image (subst (λ (images : List (ArrayVec ℕ)). k < length images) (sym c.images.ensures) below))
+    subst (λ (images : List (ArrayVec ℕ)). k < length images) (sym c.images.ensures) below

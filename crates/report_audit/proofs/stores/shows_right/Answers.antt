@@ -1,6 +1,6 @@
 use Rattle.std.proofs.Common.{◌≡◌, ◌<◌, ℕ, Bool, true, List, length, get_or, refl, sym, ◌∙◌, ap, subst}
 use Rattle.std.specs.Prelude.{IfOk}
-use Rattle.std.proofs.lemmas.Option.{slice_get-get_or, get_or_from_slice_get}
+use Rattle.std.proofs.lemmas.List.{get_or_default}
 use Rattle.mate_num.specs.declared.store.Store.{Store}
 use Rattle.mate_journal.specs.Journal.{journal_entry, no_store}
 use Rattle.mate_journal.specs.Log.{Log}
@@ -24,13 +24,12 @@ returns-in_default c =
     let t = c.args.trial.now in
     shows_none (machine_for t) (roll_in t.log.now.images c.args.roll.now.roll) c.args.store.now t.log.now c.args.entry.now c.in_default.not-Seen
 
-pub unreachable-requires : goal.unreachable-requires
-unreachable-requires c =
+pub bounds-stores-number : goal.bounds-stores-number
+bounds-stores-number c =
     let l = c.args.trial.now.log.now in
     let k = c.in-Seen.number in
     let below : k < length l.stores = subst (IsNamedBelow (length l.images) (length l.stores)) c.in-Seen.is c.requires.named in
-    c.in_default-get.not-Some (get_or c.stores.result.now.items k no_store)
-    (c.get.ensures ∙ slice_get-get_or c.stores.result.now.items k no_store (subst (λ (stores : List Store). k < length stores) (sym c.stores.ensures) below))
+    subst (λ (stores : List Store). k < length stores) (sym c.stores.ensures) below
 
 pub returns : goal.returns
 returns c =
@@ -40,9 +39,9 @@ returns c =
     let x : Roll = roll_in l.images c.args.roll.now.roll in
     let store = c.args.store.now in
     let k = c.in-Seen.number in
-    let seen : Store = c.in-Some.seen in
-    let at = get_or_from_slice_get c.stores.result.now.items k seen no_store (sym c.in-Some.ensures) in
+    let seen : Store = c.index-stores-number.result in
+    let at = c.index-stores-number.is ∙ get_or_default c.stores.result.now k seen no_store (bounds-stores-number c) in
     subst (λ (shown : Bool). IfOk c.is_store_shown.result (λ b. b ≡ shown))
-    (ap (λ (s : Store). is_store_shown m x store s) (sym at ∙ ap (λ (stores : List Store). get_or stores k no_store) c.stores.ensures)
+    (ap (λ (s : Store). is_store_shown m x store s) (at ∙ ap (λ (stores : List Store). get_or stores k no_store) c.stores.ensures)
     ∙ ap (λ (e : Entry). shows_right m x store (journal_entry l e)) (sym c.in-Seen.is))
     c.is_store_shown.ensures

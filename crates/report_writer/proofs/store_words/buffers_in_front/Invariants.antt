@@ -7,9 +7,9 @@ use Rattle.report_writer.proofs.store_words.buffers_in_front.Given as goal
 
 abbrev pub invariant-loop-left : goal.invariant-loop-left
 invariant-loop-left g l = record {
-  pieces : IsInFront l.initial.line l.line (flat_map buffer_word (drop l.left (zip l.names l.store.buffers.items)));
+  pieces : IsInFront l.initial.line l.line (flat_map buffer_word (drop l.left (zip l.names l.buffers)));
   named : l.left ≤ length l.names;
-  valued : l.left ≤ length l.store.buffers.items;
+  valued : l.left ≤ length l.buffers;
   fits : length l.line + 89 * l.left ≤ length l.initial.line + 89 * length l.names;
 }
 

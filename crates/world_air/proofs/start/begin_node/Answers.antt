@@ -2,8 +2,8 @@ use Rattle.std.proofs.Common.{◌≡◌, ◌+◌, ℕ, List, [], ◌∷◌, ◌�
 use Rattle.std.proofs.lemmas.Result.{IfOk-from_err}
 use Rattle.mate_journal.specs.declared.air.Air.TheVariants.{Interval}
 use Rattle.event_queue.specs.declared.queue.Timed.{Timed}
-use Rattle.radio_sim.specs.declared.event.Event.{Event}
-use Rattle.radio_sim.specs.declared.event.Event.TheVariants.{Fire, Expire}
+use Rattle.radio_sim.specs.declared.shared_event.SharedEvent.{SharedEvent}
+use Rattle.radio_sim.specs.declared.shared_event.SharedEvent.TheVariants.{Fire, Expire}
 use Rattle.world_air.specs.Air.{aired_at}
 use Rattle.world_air.specs.Changes.{AddsToAir}
 use Rattle.world_air.specs.Starting.{beginning}
@@ -36,8 +36,8 @@ returns c =
     let noted = c.note_interval.new.radio in
     let timed = c.schedule_interval.new.radio in
     let running = c.args.timer.now.running in
-    let items : ℕ → ℕ → ℕ → List (Timed Event) = λ point begin length. record { time = point; item = Fire c.args.node } ∷ record { time = begin + length; item = Expire c.args.node } ∷ [] in
+    let items : ℕ → ℕ → ℕ → List (Timed SharedEvent) = λ point begin length. record { time = point; item = Fire c.args.node } ∷ record { time = begin + length; item = Expire c.args.node } ∷ [] in
     let same : items c.point.result c.begin.result c.length-2.result ≡ items running.point running.begin running.length = λ i. items (c.point.ensures.value i) (c.begin.ensures.value i) (c.length-2.ensures.value i) in
     let first = subst (λ (n : ℕ). AddsToAir old noted (aired_at beginning c.args.node (Interval n) ∷ []) []) c.length.ensures.value c.in_ok-note_interval.ensures in
-    let then = subst (λ (xs : List (Timed Event)). AddsToAir noted timed [] xs) same c.in_ok-schedule_interval.ensures in
+    let then = subst (λ (xs : List (Timed SharedEvent)). AddsToAir noted timed [] xs) same c.in_ok-schedule_interval.ensures in
     adds-both old noted c.schedule_periods.new.radio _ [] [] _ first (adds-both noted timed c.schedule_periods.new.radio [] [] _ _ then c.in_ok-schedule_periods.ensures)

@@ -1,4 +1,4 @@
-use Rattle.radio_sim.specs.declared.event.Event.TheVariants as radio_event
+use Rattle.radio_sim.specs.declared.shared_event.SharedEvent.TheVariants as radio_event
 use Rattle.world_air.proofs.ChangeLemmas.{adds-event}
 use Rattle.world_air.proofs.start.plan_line.Goals as goal
 

@@ -5,7 +5,7 @@ use Rattle.event_queue.specs.declared.queue.Timed.{Timed}
 use Rattle.mate_journal.specs.Journal.{journal_entry}
 use Rattle.mate_journal.specs.Entries.{IsEntryInRange}
 use Rattle.mate_journal.specs.declared.entry.Stamped.{Stamped}
-use Rattle.radio_sim.specs.declared.event.Event.{Event}
+use Rattle.radio_sim.specs.declared.shared_event.SharedEvent.{SharedEvent}
 use Rattle.node_open.specs.View.{heard_of}
 use Rattle.world_rules.specs.State.{answers_due, calls_in}
 use Rattle.world_air.specs.Calls.{AreCallsOf}
@@ -41,7 +41,7 @@ loop-stamped-preserved c =
     let below = c.loop-stamped-test.true in record {
       due = λ w called l has are apart awaited.
           let before = called ++ calls_in (told_by_entries l (take i es)) in
-          let P : List (Timed Event) → Type 0 = λ xs. AddsToAir c.args.radio.now c.answer_entry.new.radio [] xs in
+          let P : List (Timed SharedEvent) → Type 0 = λ xs. AddsToAir c.args.radio.now c.answer_entry.new.radio [] xs in
           subst P (due-more w c.args.number c.args.now (heard_of c.args.node.now) called l es i c.stamped-item.result below c.stamped-item.is)
           (adds-both c.args.radio.now c.loop-stamped.radio c.answer_entry.new.radio [] [] (timed_events w (answers_due w c.args.number c.args.now (heard_of c.args.node.now) called (told_by_entries l (take i es))))
           (timed_events w (answer_items w c.args.number c.args.now (heard_of c.args.node.now) (called ++ calls_in (told_by_entries l (take i es))) (asked_of (journal_entry l c.stamped-item.result.entry)))) (c.loop-stamped.invariant.due w called l has are apart awaited)

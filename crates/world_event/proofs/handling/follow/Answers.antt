@@ -3,6 +3,7 @@ use Rattle.std.specs.Prelude.{Option, slice_get, OnOk}
 use Rattle.std.proofs.lemmas.Option.{slice_get_read}
 use Rattle.std.proofs.lemmas.Result.{on_ok_weaker}
 use Rattle.arrayvec.specs.ArrayVec.{ArrayVec}
+use Rattle.mate_num.specs.declared.id.HandlerId.{HandlerId}
 use Rattle.mate_journal.specs.declared.program.Program.{Program}
 use Rattle.node_programs.specs.Right.{IsRightProgram}
 use Rattle.node_programs.specs.ScriptSteps.{program_at, held_or_none}
@@ -32,9 +33,10 @@ returns-in-Inject-clause-does c =
     let want : want_of (program_at ps) c.args.what.now ≡ Inject (held_as x) = ap (want_of (program_at ps)) c.in-Inject.is ∙ ap (λ (o : Option Program). Inject (held_or_none o)) there in
     let new = c.install.new.self in
     let r = c.install.new.effect in
-    let P : ArrayVec ℕ → Type 0 =
-    λ image. OnOk c.install.result (InstallsImage at x.handler x.version image.items old new r ⊎ LeavesImage x.handler x.version image.items old new r) in
-    let installed : P x.image = subst P c.image-image.ensures c.install.ensures in
+    let P : HandlerId → ℕ → ArrayVec ℕ → Type 0 =
+    λ handler version image. OnOk c.install.result (InstallsImage at handler version image.items old new r ⊎ LeavesImage handler version image.items old new r) in
+    let by_fields = subst (λ (image : ArrayVec ℕ). P c.program.inside.handler c.program.inside.version image) c.image-image.ensures c.install.ensures in
+    let installed : P x.handler x.version x.image = subst (λ (q : Program). P q.handler q.version q.image) c.program.view_is by_fields in
     on_ok_weaker c.install.result (λ installs. by-want ps c.args.what.now (Inject (held_as x)) at old new r want (does-inject at old new r (held_as x) below installs)) installed
 
 pub returns-in-Post-clause-does : goal.returns-in-Post-clause-does

@@ -8,7 +8,7 @@ use Rattle.std.proofs.lemmas.Result.{on_ok_weaker}
 use Rattle.arrayvec.specs.ArrayVec.{ArrayVec}
 use Rattle.packet_codec.specs.Packet.{IsRightPacket}
 use Rattle.packet_codec.specs.declared.packet.Packet.{Packet}
-use Rattle.radio_sim.specs.declared.event.Event.{Event}
+use Rattle.radio_sim.specs.declared.shared_event.SharedEvent.{SharedEvent}
 use Rattle.script_steps.specs.declared.world.Link.{Link}
 use Rattle.script_steps.specs.declared.world.Planned.{Planned}
 use Rattle.world_rules.specs.Effect.{of_line}
@@ -29,12 +29,12 @@ returns-in-Planned-clause-handled c =
     let new = c.follow.new.mote in
     let line = c.in-Planned.line in
     let x : Planned = c.index-as_slice-line.result in
-    let R : Event → Type 0 = λ e. IsFitEvent d script old.timer c.args.at.time e in
+    let R : SharedEvent → Type 0 = λ e. IsFitEvent d script old.timer c.args.at.time e in
     let below : line < length script.events = subst R c.in-Planned.is c.requires.event in
     let there : slice_get script.events line ≡ Some x = slice_get_read script.events (length script.events) line x refl below (c.index-as_slice-line.is ∙ ap (λ (xs : List Planned). get_or xs line x) c.as_slice.ensures) in
     let r = c.follow.new.effect in
     on_ok_weaker c.follow.result
-    (λ does. subst (λ (e : Event). HandlesEvent d script ps e c.args.at old new r) (sym c.in-Planned.is) (handles-planned d script ps c.args.at old new r line x there does)) c.follow.ensures.does
+    (λ does. subst (λ (e : SharedEvent). HandlesEvent d script ps e c.args.at old new r) (sym c.in-Planned.is) (handles-planned d script ps c.args.at old new r line x there does)) c.follow.ensures.does
 
 pub returns-in-Period-clause-handled : goal.returns-in-Period-clause-handled
 returns-in-Period-clause-handled c =
@@ -45,30 +45,30 @@ returns-in-Period-clause-handled c =
     let P : ArrayVec ℤ → Type 0 = λ payload. DoesBy c.args.at (λ _ _. of_line (Post h payload)) old new r in
     let A : List ℤ → ArrayVec ℤ = λ xs. record { items = xs } in
     on_ok_weaker c.post.result
-    (λ told. subst (λ (e : Event). HandlesEvent c.args.desc.now c.args.world.now c.args.programs.now e c.args.at old new r) (sym c.in-Period.is)
+    (λ told. subst (λ (e : SharedEvent). HandlesEvent c.args.desc.now c.args.world.now c.args.programs.now e c.args.at old new r) (sym c.in-Period.is)
     (handles-period c.args.desc.now c.args.world.now c.args.programs.now c.args.at old new r c.in-Period.node h
     (subst P (ap A c.new.ensures) (does-post c.args.at old new r h c.new.result told c.requires.plain)))) c.post.ensures
 
 pub returns-in-Fire-clause-handled : goal.returns-in-Fire-clause-handled
 returns-in-Fire-clause-handled c =
-    subst (λ (e : Event). HandlesEvent c.args.desc.now c.args.world.now c.args.programs.now e c.args.at c.args.mote.now c.fire.new.self c.fire.new.effect) (sym c.in-Fire.is)
+    subst (λ (e : SharedEvent). HandlesEvent c.args.desc.now c.args.world.now c.args.programs.now e c.args.at c.args.mote.now c.fire.new.self c.fire.new.effect) (sym c.in-Fire.is)
     (handles-fire c.args.desc.now c.args.world.now c.args.programs.now c.args.at c.args.mote.now c.fire.new.self c.fire.new.effect c.in-Fire.node c.requires.tellable.timely c.fire.ensures.same c.fire.ensures.effect)
 
 pub returns-in-Expire-clause-handled : goal.returns-in-Expire-clause-handled
 returns-in-Expire-clause-handled c =
-    subst (λ (e : Event). HandlesEvent c.args.desc.now c.args.world.now c.args.programs.now e c.args.at c.args.mote.now c.expire.new.self c.expire.new.effect) (sym c.in-Expire.is)
+    subst (λ (e : SharedEvent). HandlesEvent c.args.desc.now c.args.world.now c.args.programs.now e c.args.at c.args.mote.now c.expire.new.self c.expire.new.effect) (sym c.in-Expire.is)
     (handles-expire c.args.desc.now c.args.world.now c.args.programs.now c.args.at c.args.mote.now c.expire.new.self c.expire.new.effect c.in-Expire.node c.requires.tellable.timely c.expire.ensures.timer c.expire.ensures.effect)
 
 pub returns-in-Pump-clause-handled : goal.returns-in-Pump-clause-handled
 returns-in-Pump-clause-handled c =
-    subst (λ (e : Event). HandlesEvent c.args.desc.now c.args.world.now c.args.programs.now e c.args.at c.args.mote.now c.pump.new.self c.pump.new.effect) (sym c.in-Pump.is)
+    subst (λ (e : SharedEvent). HandlesEvent c.args.desc.now c.args.world.now c.args.programs.now e c.args.at c.args.mote.now c.pump.new.self c.pump.new.effect) (sym c.in-Pump.is)
     (handles-pump c.args.desc.now c.args.world.now c.args.programs.now c.args.at c.args.mote.now c.pump.new.self c.pump.new.effect c.in-Pump.node c.requires.tellable.timely c.pump.ensures.pumps)
 
 pub returns-in-Due-clause-handled : goal.returns-in-Due-clause-handled
 returns-in-Due-clause-handled c =
     let r = c.args.effect.now in
     on_ok_weaker c.answer.result
-    (λ told. subst (λ (e : Event). HandlesEvent c.args.desc.now c.args.world.now c.args.programs.now e c.args.at c.args.mote.now c.answer.new.self r) (sym c.in-Due.is)
+    (λ told. subst (λ (e : SharedEvent). HandlesEvent c.args.desc.now c.args.world.now c.args.programs.now e c.args.at c.args.mote.now c.answer.new.self r) (sym c.in-Due.is)
     (handles-due c.args.desc.now c.args.world.now c.args.programs.now c.args.at c.args.mote.now c.answer.new.self r c.in-Due.node c.in-Due.ctx c.in-Due.inv c.in-Due.value told c.requires.plain))
     (rw (to_z-of_z w16 c.in-Due.value (search rules)) at c.answer.ensures)
 
@@ -84,14 +84,14 @@ returns-in-Deliver-clause-handled c =
     let bytes = c.in-Deliver.bytes in
     let links : List Link = c.as_slice-in-Deliver.result.now in
     let x : Link = get_or links place (record { from = 0; to = 0; loss = 0 }) in
-    let R : Event → Type 0 = λ e. IsFitEvent d script old.timer c.args.at.time e in
+    let R : SharedEvent → Type 0 = λ e. IsFitEvent d script old.timer c.args.at.time e in
     let below : place < length script.links = subst R c.in-Deliver.is c.requires.event in
     let same : links ≡ script.links = c.as_slice-in-Deliver.ensures in
     let there : slice_get script.links place ≡ Some x =
     subst (λ (ls : List Link). slice_get script.links place ≡ Some (get_or ls place (record { from = 0; to = 0; loss = 0 }))) (sym same) (slice_get-get_or script.links place (record { from = 0; to = 0; loss = 0 }) below) in
     let r = c.receive.new.effect in
     on_ok_weaker c.receive.result
-    (λ does. subst (λ (e : Event). HandlesEvent d script ps e c.args.at old new r) (sym c.in-Deliver.is) (handles-deliver d script ps c.args.at old new r place number bytes x there does)) c.receive.ensures.does
+    (λ does. subst (λ (e : SharedEvent). HandlesEvent d script ps e c.args.at old new r) (sym c.in-Deliver.is) (handles-deliver d script ps c.args.at old new r place number bytes x there does)) c.receive.ensures.does
 
 plain-right : (n : ℕ) (r : Effect) → r ≡ plain_effect → All (IsRightPacket n) r.sends.items
 plain-right n r plain = All-same (IsRightPacket n) r.sends.items [] (ap (λ (x : Effect). x.sends.items) plain) (All-nil (IsRightPacket n))

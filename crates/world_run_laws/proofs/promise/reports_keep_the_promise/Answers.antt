@@ -16,7 +16,7 @@ returns c = λ d script ps how r right of ranges.
       run = run;
       tidy = c.world_report_is_tidy.ensures d _ script (program_at ps) how r right.world of;
       ranges = ranges;
-      bound = c.reports_keep_the_bound.ensures.shown d script ps how r right run;
+      windows = c.reports_keep_the_bound.ensures.windows d script ps how r right run;
       progress = each-journal (source_world d script ps) how r (λ (es : List Entered). IsNeverStuck m (first_state m) es) (c.is_never_stuck.ensures m) run;
       order = each-journal (source_world d script ps) how r (λ (es : List Entered). EndAsPosted m (first_state m) es) (c.ends_as_posted.ensures m) run;
     }
