@@ -49,6 +49,23 @@ struct Hop {
     heard: Option<u64>,
 }
 
+/// What a node heard of.
+#[derive(Clone, Copy)]
+struct Ears {
+    /// The newest version since its last reset began, 0 for none.
+    newest: u32,
+    /// The newest version at this time, in ms.
+    now: u32,
+    time: u64,
+}
+
+impl Ears {
+    /// What was heard at a time so far.
+    fn at(&self, time: u64) -> u32 {
+        if self.time == time { self.now } else { 0 }
+    }
+}
+
 /// A version that was injected, on its way.
 #[derive(Drop)]
 pub struct Passing {
@@ -60,9 +77,9 @@ pub struct Passing {
     /// The hops to nodes that have no bound yet.
     hops: Vec<Hop>,
     losses: Vec<Loss>,
-    /// The version that each node holds, and the newer one that it aims at, 0 for none.
+    /// The version that each node holds, 0 for none.
     held: [u32; NODES_MAX],
-    aims: [u32; NODES_MAX],
+    ears: [Ears; NODES_MAX],
     owns: Vec<Own>,
     /// No window ends before.
     due: u64,
@@ -94,7 +111,11 @@ impl Passing {
             hops,
             losses: Vec::new(alloc),
             held: [0; NODES_MAX],
-            aims: [0; NODES_MAX],
+            ears: [Ears {
+                newest: 0,
+                now: 0,
+                time: 0,
+            }; NODES_MAX],
             owns: Vec::new(alloc),
             due: 0,
         })
@@ -182,10 +203,10 @@ impl Passing {
         Ok(())
     }
 
-    /// A hop whose window can begin at a time, if the receiver aims at nothing newer than the sender holds.
+    /// A hop whose window can begin at a time, if the receiver heard of nothing newer than the sender holds.
     fn anew(&self, hop: Hop, time: u64) -> Hop {
         let (from, to) = (usize::from(hop.from), usize::from(hop.to));
-        let free = from < NODES_MAX && to < NODES_MAX && self.aims[to] <= self.held[from];
+        let free = from < NODES_MAX && to < NODES_MAX && self.ears[to].newest <= self.held[from];
         Hop {
             begun: true,
             clear: if free { Some(time) } else { None },
@@ -196,7 +217,7 @@ impl Passing {
 
     /// Something happens.
     fn take(&mut self, what: &Happening, now: u64) -> Result<(), ViewFault> {
-        self.learn(what);
+        self.learn(what, now);
         for place in 0..self.hops.len() {
             if place < self.hops.len() && self.hops[place].begun {
                 self.hops[place] = self.changed(self.hops[place], what, now);
@@ -239,8 +260,8 @@ impl Passing {
         }
     }
 
-    /// Follows what nodes hold and aim at.
-    fn learn(&mut self, what: &Happening) {
+    /// Follows what nodes hold and heard of.
+    fn learn(&mut self, what: &Happening, time: u64) {
         let (node, version) = match what {
             Happening::Installed { node, version } | Happening::Heard { node, version } => {
                 (usize::from(*node), *version)
@@ -251,26 +272,24 @@ impl Passing {
         if node >= NODES_MAX {
             return;
         }
+        let ears = self.ears[node];
         match what {
-            Happening::Installed { .. } => {
-                self.held[node] = version;
-                self.aims[node] = 0;
-            }
+            Happening::Installed { .. } => self.held[node] = version,
             Happening::Heard { .. } => {
-                if version > self.held[node] {
-                    self.aims[node] = self.aims[node].max(version);
+                self.ears[node] = Ears {
+                    newest: ears.newest.max(version),
+                    now: ears.at(time).max(version),
+                    time,
                 }
             }
-            _ => self.aims[node] = 0,
+            _ => self.ears[node].newest = ears.at(time),
         }
     }
 
     /// Whether a window of the hop ends here, so that another one is waited for.
     fn closes(&self, hop: &Hop, what: &Happening) -> bool {
         match what {
-            Happening::Installed { node, .. } => {
-                *node == hop.from || (*node == hop.to && hop.clear.is_none())
-            }
+            Happening::Installed { node, .. } => *node == hop.from,
             Happening::Reset { node } => *node == hop.from || *node == hop.to,
             Happening::Heard { node, version } => {
                 let from = usize::from(hop.from);
