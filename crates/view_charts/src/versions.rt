@@ -152,6 +152,15 @@ fn draw_curve(part: &Part, installs: &[Install], first: &Install, top: u64, ink:
             Number(bottom),
         ],
     );
+    draw_steps(part, installs, first, bottom, ink);
+    ink.line(
+        "H{}\"><title>share of the nodes that hold version {}</title></path>\n",
+        &[Tenths((LEFT + PLOT) * 10), Number(u64::from(first.version))],
+    );
+}
+
+/// Draws the steps of a curve above its bottom.
+fn draw_steps(part: &Part, installs: &[Install], first: &Install, bottom: u64, ink: &mut Ink) {
     let mut holders = 0u64;
     for install in installs {
         if install.handler == first.handler && part.is_before_end(install.at) {
@@ -175,10 +184,6 @@ fn draw_curve(part: &Part, installs: &[Install], first: &Install, top: u64, ink:
             }
         }
     }
-    ink.line(
-        "H{}\"><title>share of the nodes that hold version {}</title></path>\n",
-        &[Tenths((LEFT + PLOT) * 10), Number(u64::from(first.version))],
-    );
 }
 
 /// Draws the versions of each node.
