@@ -153,10 +153,11 @@ fn draw_curve(part: &Part, installs: &[Install], first: &Install, top: u64, ink:
         ],
     );
     draw_steps(part, installs, first, bottom, ink);
-    ink.line(
-        "H{}\"><title>share of the nodes that hold version {}</title></path>\n",
-        &[Tenths((LEFT + PLOT) * 10), Number(u64::from(first.version))],
-    );
+    ink.text("H");
+    ink.number(LEFT + PLOT);
+    ink.text("\"><title>share of the nodes that hold version ");
+    ink.number(u64::from(first.version));
+    ink.text("</title></path>\n");
 }
 
 /// Draws the steps of a curve above its bottom.

@@ -57,30 +57,24 @@ impl<'a> Cells<'a> {
 
     /// What a line has; the nodes are as they were before it.
     pub fn of_line(desc: &'a Description, nodes: &Nodes, line: &'a Line) -> Cells<'a> {
+        let mut cells = Cells::of(record_of(line));
         match &line.told {
-            Told::OnAir(air) => Cells::of_air(air),
+            Told::OnAir(air) => cells.set_air(air),
             Told::Made(entry) => {
-                let mut cells = Cells::of(entry_word(entry));
                 cells.set_entry(desc, entry);
                 cells.set_invocation(desc, nodes, line.node, entry);
-                cells
             }
             Told::Installed {
                 handler,
                 version,
                 image,
             } => {
-                let mut cells = Cells::of("install");
                 cells.set_version(desc, *handler, *version);
                 cells.bytes = Cell::Hex(image.as_slice());
-                cells
             }
-            Told::Shown(store) => {
-                let mut cells = Cells::of("seen");
-                cells.store = Some(store);
-                cells
-            }
+            Told::Shown(store) => cells.store = Some(store),
         }
+        cells
     }
 
     fn set_version(&mut self, desc: &'a Description, handler: HandlerId, version: u32) {
@@ -88,26 +82,24 @@ impl<'a> Cells<'a> {
         self.version = Cell::Number(u64::from(version));
     }
 
-    fn of_air(air: &'a Air) -> Cells<'a> {
-        let mut cells = Cells::of(air_word(air));
+    fn set_air(&mut self, air: &'a Air) {
         match air {
-            Air::Interval { length } => cells.length = Cell::Number(u64::from(*length)),
+            Air::Interval { length } => self.length = Cell::Number(u64::from(*length)),
             Air::Keep => {}
             Air::Sent { number, bytes } => {
-                cells.packet = Cell::Number(u64::from(*number));
-                cells.bytes = Cell::Hex(bytes.as_slice());
+                self.packet = Cell::Number(u64::from(*number));
+                self.bytes = Cell::Hex(bytes.as_slice());
             }
             Air::Lost { number, to: other }
             | Air::Got {
                 number,
                 from: other,
             } => {
-                cells.packet = Cell::Number(u64::from(*number));
-                cells.other = Cell::Number(u64::from(*other));
+                self.packet = Cell::Number(u64::from(*number));
+                self.other = Cell::Number(u64::from(*other));
             }
-            Air::Noise { bytes } => cells.bytes = Cell::Hex(bytes.as_slice()),
+            Air::Noise { bytes } => self.bytes = Cell::Hex(bytes.as_slice()),
         }
-        cells
     }
 
     /// What an entry has of its own. A kind that isn't named here has its word alone.
@@ -164,14 +156,20 @@ impl<'a> Cells<'a> {
     }
 }
 
-fn air_word(air: &Air) -> &'static str {
-    match air {
-        Air::Interval { .. } => "interval",
-        Air::Keep => "keep",
-        Air::Sent { .. } => "sent",
-        Air::Lost { .. } => "lost",
-        Air::Got { .. } => "got",
-        Air::Noise { .. } => "noise",
+/// The word of a line's record.
+fn record_of(line: &Line) -> &str {
+    match &line.told {
+        Told::OnAir(air) => match air {
+            Air::Interval { .. } => "interval",
+            Air::Keep => "keep",
+            Air::Sent { .. } => "sent",
+            Air::Lost { .. } => "lost",
+            Air::Got { .. } => "got",
+            Air::Noise { .. } => "noise",
+        },
+        Told::Made(entry) => entry_word(entry),
+        Told::Installed { .. } => "install",
+        Told::Shown(_) => "seen",
     }
 }
 

@@ -2,11 +2,10 @@
 
 use crate::cells::Cells;
 use mate_files::Sink;
-use mate_num::Store;
+use mate_num::{Name, Store};
 use report_line_reader::Line;
 use std::alloc::Global;
 use std::io::Read;
-use view_records::Fill::Text;
 use view_records::row::write_values;
 use view_records::{Cell, Form, Ink, Nodes, Source, ViewFault, write_head, write_row};
 use vm_shape::Description;
@@ -101,16 +100,24 @@ fn write_event<'a>(
 
 /// A store as the report has it.
 fn write_store(desc: &Description, store: &Store, ink: &mut Ink) {
-    let mut before = "";
+    let mut begun = false;
     for (name, value) in desc.shared.as_slice().iter().zip(store.shared.as_slice()) {
-        ink.line("{}{}=", &[Text(before), Text(name.as_str())]);
+        write_name(begun, name, ink);
+        ink.text("=");
         ink.value(i32::from(*value));
-        before = " ";
+        begun = true;
     }
     for (name, buffer) in desc.buffers.as_slice().iter().zip(store.buffers.as_slice()) {
-        ink.line("{}{}=[", &[Text(before), Text(name.as_str())]);
+        write_name(begun, name, ink);
+        ink.text("=[");
         write_values(buffer.as_slice(), " ", ink);
         ink.text("]");
-        before = " ";
+        begun = true;
     }
+}
+
+/// Writes a name behind those before it.
+fn write_name(begun: bool, name: &Name, ink: &mut Ink) {
+    ink.text(if begun { " " } else { "" });
+    ink.text(name.as_str());
 }

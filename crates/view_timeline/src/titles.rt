@@ -13,7 +13,8 @@ use vm_shape::Description;
 
 /// Writes the title of a mark, and the end of its element.
 pub fn end_mark(desc: &Description, mark: &Mark, element: &str, ink: &mut Ink) {
-    ink.line("><title>node {}", &[Number(u64::from(mark.node))]);
+    ink.text("><title>node ");
+    ink.number(u64::from(mark.node));
     write_what(desc, &mark.what, ink);
     let to = match mark.what {
         What::Interval { .. } => mark.from,
