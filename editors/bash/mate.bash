@@ -78,7 +78,7 @@ _mate_view() {
     local LC_ALL=C word=${COMP_WORDS[COMP_CWORD]} before=${COMP_WORDS[COMP_CWORD - 1]} view='' i
     COMPREPLY=()
     for ((i = 1; i < COMP_CWORD; i++)); do
-        case ${COMP_WORDS[i]} in timeline | spread | csv | waits | store | stats) view=${COMP_WORDS[i]}; break ;; esac
+        case ${COMP_WORDS[i]} in timeline | spread | csv | waits | bounds | store | stats) view=${COMP_WORDS[i]}; break ;; esac
     done
     case $before in
         --vm) mapfile -t COMPREPLY < <(_mate_machines "$word"); return ;;
@@ -98,12 +98,13 @@ _mate_view() {
             spread) options='--vm --world --from --to --nodes --events' ;;
             csv) options='--vm --what --json' ;;
             waits) options='--vm --json' ;;
+            bounds) options='--vm --world --json' ;;
             store) options='--vm --json --svg --from --to --nodes --events' ;;
             stats) options='--vm --from --to --events --json' ;;
         esac
         mapfile -t COMPREPLY < <(compgen -W "$options" -- "$word")
     elif [[ -z $view ]]; then
-        mapfile -t COMPREPLY < <(compgen -W 'timeline spread csv waits store stats' -- "$word")
+        mapfile -t COMPREPLY < <(compgen -W 'timeline spread csv waits bounds store stats' -- "$word")
     else
         mapfile -t COMPREPLY < <(compgen -f -- "$word")
     fi

@@ -76,7 +76,7 @@ end
 complete -c mate-explain -n '__mate_at any 0' -l help -d 'the commands'
 complete -c mate-explain -n '__mate_at any 0' -l version -d 'the version'
 
-set -l views timeline spread csv waits store stats
+set -l views timeline spread csv waits bounds store stats
 complete -c mate-view -n "not __fish_seen_subcommand_from $views" -f -a "$views"
 complete -c mate-view -n "not __fish_seen_subcommand_from $views" -l version -d 'the version'
 complete -c mate-view -l vm -x -a '(__mate_machines)' -d 'the machine'
@@ -85,9 +85,9 @@ complete -c mate-view -n '__fish_seen_subcommand_from timeline spread store stat
 complete -c mate-view -n '__fish_seen_subcommand_from timeline spread store' -l nodes -x -d 'nodes, as 0,3,8-15'
 complete -c mate-view -n '__fish_seen_subcommand_from timeline' -l only -x -a 'invocations installs drops resets vectors statuses fragments messages losses noise intervals' -d 'what is drawn'
 complete -c mate-view -n '__fish_seen_subcommand_from timeline spread store stats' -l events -d 'over events in place of ms'
-complete -c mate-view -n '__fish_seen_subcommand_from spread' -l world -x -a '(__mate_scripts nodes)' -d 'the world that was run'
+complete -c mate-view -n '__fish_seen_subcommand_from spread bounds' -l world -x -a '(__mate_scripts nodes)' -d 'the world that was run'
 complete -c mate-view -n '__fish_seen_subcommand_from csv' -l what -x -a 'events spread calls' -d 'the rows'
-complete -c mate-view -n '__fish_seen_subcommand_from csv waits store stats' -l json -d 'objects, one a line'
+complete -c mate-view -n '__fish_seen_subcommand_from csv waits bounds store stats' -l json -d 'objects, one a line'
 complete -c mate-view -n '__fish_seen_subcommand_from store' -l svg -d 'a picture'
 
 # The words of a sweep but its options and their values.

@@ -8,7 +8,6 @@ use std::process::ExitCode;
 use std::rt::Files;
 use std::{fs, io};
 use view_cli::{Request, Stop, VERSION, Words, read, view};
-use view_records::Ink;
 
 /// How many bytes are written to standard output at once.
 const OUT_BLOCK: usize = 65_536;
@@ -60,9 +59,9 @@ fn written<T: Files + Print + AllocGlobal, R: Read + Drop, E: Sink>(
         return Refusal::NoMemory.refuse(err);
     };
     let mut files = OsFiles::new(rt.alloc(), rt);
-    let mut ink = Ink::new(OsSink::new(writer));
-    let made = view(rt.alloc(), request, &mut files, reader, &mut ink);
-    let mut writer = ink.into_sink().into_inner();
+    let mut sink = OsSink::new(writer);
+    let made = view(rt.alloc(), request, &mut files, reader, &mut sink);
+    let mut writer = sink.into_inner();
     let flushed = writer.flush().is_ok();
     match made {
         Ok(()) if flushed => Status::Ok,

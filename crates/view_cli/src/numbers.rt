@@ -2,7 +2,7 @@
 
 use mate_num::NODES_MAX;
 use report_line_reader::numbers::{below, unsigned};
-use view_records::Kind;
+use view_records::kind_bit;
 
 /// The number in a word, below 2^64, with no sign and no 0 before it; `none` if there is no word.
 pub fn number_or(word: Option<&str>, none: u64) -> Option<u64> {
@@ -31,7 +31,7 @@ pub fn nodes_of(word: &str) -> Option<u64> {
 pub fn kinds_of(word: &str) -> Option<u32> {
     let mut kinds = 0u32;
     for part in word.split(',') {
-        kinds |= Kind::of(part)?.bit();
+        kinds |= kind_bit(part)?;
     }
     Some(kinds)
 }

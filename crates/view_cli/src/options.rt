@@ -7,8 +7,7 @@ use clap::parser::ValueSource;
 use clap::{Arg, ArgAction, ArgMatches, Command, Error};
 use command_refusals::Refusal;
 use std::alloc::{AllocError, Global};
-use view_records::{Window, all_nodes};
-use view_tables::Form;
+use view_records::{Form, Window, all_nodes};
 
 /// Reads the words, without the program's own name.
 #[inline(never)]
@@ -119,6 +118,11 @@ impl Given {
         !self.json && !self.what && !self.svg
     }
 
+    /// Whether none is given that the rows of bounds don't take.
+    fn is_of_bounds(&self) -> bool {
+        !self.svg && !self.what && !self.only && !self.nodes && !self.part
+    }
+
     fn is_nothing(&self) -> bool {
         self.is_of_rows() && !self.json && !self.what
     }
@@ -141,6 +145,10 @@ fn view_of<'a>(matches: &ArgMatches<'a>) -> Option<View<'a>> {
         }),
         "waits" if given.is_of_rows() && !given.what => Some(View::Rows {
             rows: Rows::Waits,
+            form,
+        }),
+        "bounds" if given.is_of_bounds() => Some(View::Bounds {
+            world: matches.get_str("world")?,
             form,
         }),
         "store" if given.is_of_rows() && !given.what => Some(View::Rows {

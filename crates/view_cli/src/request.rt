@@ -1,7 +1,6 @@
 //! What is asked for.
 
-use view_records::Window;
-use view_tables::Form;
+use view_records::{Form, Window};
 
 /// A view of a report.
 #[derive(Clone, Copy)]
@@ -16,6 +15,11 @@ pub enum View<'a> {
     /// Rows of a table.
     Rows {
         rows: Rows,
+        form: Form,
+    },
+    /// By when nodes have to hold the versions of the world of a script, as rows.
+    Bounds {
+        world: &'a str,
         form: Form,
     },
     /// What stores hold over time, as a picture.

@@ -3,7 +3,8 @@
 ghost use Rattle.std.specs.Prelude.{◌≤◌};
 
 use crate::fault::ViewFault;
-use mate_num::Stamp;
+use mate_num::{HANDLERS_MAX, Stamp};
+use report_line_reader::Line;
 use std::alloc::Global;
 use std::collections::VecDeque;
 
@@ -67,6 +68,22 @@ pub struct Flight {
     pub sent: Stamp,
     /// Where its mark is, for who keeps marks.
     pub mark: usize,
+    /// The version of each handler that it names, for who asks for them.
+    pub versions: [u32; HANDLERS_MAX],
+}
+
+impl Flight {
+    /// The packet of this number that a line sends.
+    pub fn of(line: &Line, number: u32, bytes: &[u8]) -> Flight {
+        Flight {
+            number,
+            node: line.node,
+            kind: PacketKind::of(bytes),
+            sent: line.stamp,
+            mark: usize::MAX,
+            versions: [0; HANDLERS_MAX],
+        }
+    }
 }
 
 /// The packets that may still come to a receiver, in the order in which they were sent.

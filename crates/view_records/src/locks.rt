@@ -4,14 +4,13 @@ ghost use Rattle.std.specs.Prelude.{IsTrue};
 ghost use Rattle.mate_num.specs.Locks.{is_resource};
 
 use crate::fault::ViewFault;
-use crate::ink::Ink;
+use crate::ink::{Fill, Ink};
 use capsule_codec::decode_in_place;
 use code_verifier::verify;
 use lock_inference::locks;
 use mate_code::Table;
-use mate_files::Sink;
 use mate_num::{
-    BUFFERS_MAX, BufId, DEVICES_MAX, DeviceId, HANDLERS_MAX, LockSet, NODES_MAX, Resource,
+    BUFFERS_MAX, BufId, DEVICES_MAX, DeviceId, HANDLERS_MAX, LockSet, NODES_MAX, Name, Resource,
     SHARED_MAX, VarId,
 };
 use std::alloc::Global;
@@ -64,61 +63,34 @@ fn locks_of(desc: &Description, image: &[u8]) -> LockSet {
 }
 
 /// Writes the names of what one of two programs writes and the other uses, with spaces between them.
-pub fn write_shared<S: Sink>(desc: &Description, one: &LockSet, other: &LockSet, ink: &mut Ink<S>) {
-    let mut begun = false;
-    let mut place = 0u8;
-    for name in desc.shared.as_slice() {
-        if place < SHARED_MAX as u8 && is_shared(one, other, Resource::Shared(VarId(place))) {
-            begun = write_next(begun, name.as_str(), ink);
+pub fn write_shared(desc: &Description, one: &LockSet, other: &LockSet, ink: &mut Ink) {
+    let mut before = "";
+    for place in 0..SHARED_MAX as u8 {
+        if is_shared(one, other, Resource::Shared(VarId(place))) {
+            before = write_name(desc.shared.as_slice(), place, before, ink);
         }
-        place = place.saturating_add(1);
     }
-    begun = write_buffers(desc, one, other, begun, ink);
-    write_devices(desc, one, other, begun, ink);
-}
-
-fn write_buffers<S: Sink>(
-    desc: &Description,
-    one: &LockSet,
-    other: &LockSet,
-    begun: bool,
-    ink: &mut Ink<S>,
-) -> bool {
-    let mut begun = begun;
-    let mut place = 0u8;
-    for name in desc.buffers.as_slice() {
-        if place < BUFFERS_MAX as u8 && is_shared(one, other, Resource::Buffer(BufId(place))) {
-            begun = write_next(begun, name.as_str(), ink);
+    for place in 0..BUFFERS_MAX as u8 {
+        if is_shared(one, other, Resource::Buffer(BufId(place))) {
+            before = write_name(desc.buffers.as_slice(), place, before, ink);
         }
-        place = place.saturating_add(1);
     }
-    begun
-}
-
-fn write_devices<S: Sink>(
-    desc: &Description,
-    one: &LockSet,
-    other: &LockSet,
-    begun: bool,
-    ink: &mut Ink<S>,
-) {
-    let mut begun = begun;
-    let mut place = 0u8;
-    for name in desc.devices.as_slice() {
-        if place < DEVICES_MAX as u8 && is_shared(one, other, Resource::Device(DeviceId(place))) {
-            begun = write_next(begun, name.as_str(), ink);
+    for place in 0..DEVICES_MAX as u8 {
+        if is_shared(one, other, Resource::Device(DeviceId(place))) {
+            before = write_name(desc.devices.as_slice(), place, before, ink);
         }
-        place = place.saturating_add(1);
     }
 }
 
-/// Writes a name behind those before it.
-fn write_next<S: Sink>(begun: bool, name: &str, ink: &mut Ink<S>) -> bool {
-    if begun {
-        ink.text(" ");
+/// Writes a name of a list behind `before`; the result comes before the next one.
+fn write_name(names: &[Name], place: u8, before: &'static str, ink: &mut Ink) -> &'static str {
+    match names.get(usize::from(place)) {
+        Some(name) => {
+            ink.line("{}{}", &[Fill::Text(before), Fill::Text(name.as_str())]);
+            " "
+        }
+        None => before,
     }
-    ink.text(name);
-    true
 }
 
 /// Whether one of two programs writes the resource and the other uses it.

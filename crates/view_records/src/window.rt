@@ -1,6 +1,22 @@
 //! The part of a report that is looked at.
 
+use crate::flights::PacketKind;
 use mate_num::{NODES_MAX, Stamp};
+
+/// The names of the kinds, in order.
+const KIND_NAMES: [&str; 11] = [
+    "invocations",
+    "installs",
+    "drops",
+    "resets",
+    "vectors",
+    "statuses",
+    "fragments",
+    "messages",
+    "losses",
+    "noise",
+    "intervals",
+];
 
 /// What a timeline can show.
 #[derive(Clone, Copy)]
@@ -19,40 +35,32 @@ pub enum Kind {
 }
 
 impl Kind {
-    /// The kind of this name, if there is one.
-    pub fn of(word: &str) -> Option<Kind> {
-        match word {
-            "invocations" => Some(Kind::Invocations),
-            "installs" => Some(Kind::Installs),
-            "drops" => Some(Kind::Drops),
-            "resets" => Some(Kind::Resets),
-            "vectors" => Some(Kind::Vectors),
-            "statuses" => Some(Kind::Statuses),
-            "fragments" => Some(Kind::Fragments),
-            "messages" => Some(Kind::Messages),
-            "losses" => Some(Kind::Losses),
-            "noise" => Some(Kind::Noise),
-            "intervals" => Some(Kind::Intervals),
-            _ => None,
+    /// The kind of the packets of a kind.
+    pub fn of_packet(packet: PacketKind) -> Kind {
+        match packet {
+            PacketKind::Vector => Kind::Vectors,
+            PacketKind::Status => Kind::Statuses,
+            PacketKind::Fragment => Kind::Fragments,
+            PacketKind::Message | PacketKind::Other => Kind::Messages,
         }
     }
 
     /// The word with the bit of this kind.
-    pub fn bit(self) -> u32 {
-        match self {
-            Kind::Invocations => 1,
-            Kind::Installs => 2,
-            Kind::Drops => 4,
-            Kind::Resets => 8,
-            Kind::Vectors => 16,
-            Kind::Statuses => 32,
-            Kind::Fragments => 64,
-            Kind::Messages => 128,
-            Kind::Losses => 256,
-            Kind::Noise => 512,
-            Kind::Intervals => 1024,
-        }
+    fn bit(self) -> u32 {
+        1u32.wrapping_shl(u32::from(self as u8))
     }
+}
+
+/// The word with the bit of the kind of this name, if there is one.
+pub fn kind_bit(word: &str) -> Option<u32> {
+    let mut bit = 1u32;
+    for name in &KIND_NAMES {
+        if word == *name {
+            return Some(bit);
+        }
+        bit = bit.wrapping_shl(1);
+    }
+    None
 }
 
 /// Which part of a report is looked at.

@@ -1,36 +1,37 @@
 //! What a line of a report has, by columns.
 
 use mate_journal::{Air, Entry, VoidCause};
-use mate_num::{ContextId, FunId, HandlerId, Store};
+use mate_num::{HandlerId, Store};
 use report_line_reader::{Line, Told, entry_word};
 use report_writer::words::{drop_word, fault_word};
-use view_records::words::void_word;
-use view_records::{Live, Nodes};
+use view_records::words::{function_name, handler_name, void_word};
+use view_records::{Cell, Nodes};
+use vm_shape::Description;
 
 /// What a line has.
 #[derive(Clone, Copy)]
 pub struct Cells<'a> {
     /// The word of the record.
     pub record: &'a str,
-    pub inv: Option<u32>,
-    pub handler: Option<HandlerId>,
-    pub ctx: Option<ContextId>,
-    pub fun: Option<FunId>,
+    pub invocation: Cell<'a>,
+    pub handler: Cell<'a>,
+    pub context: Cell<'a>,
+    pub function: Cell<'a>,
     /// The version that is installed, or that a node already holds.
-    pub version: Option<u32>,
-    /// Why, by the report's word; empty for no cause.
-    pub cause: &'a str,
+    pub version: Cell<'a>,
+    /// Why, by the report's word.
+    pub cause: Cell<'a>,
     /// The number of a packet.
-    pub packet: Option<u32>,
+    pub packet: Cell<'a>,
     /// The other node: the one that a packet doesn't reach, or the sender.
-    pub other: Option<u8>,
+    pub other: Cell<'a>,
     /// The length of an interval, in ms.
-    pub length: Option<u32>,
-    pub values: Option<&'a [i16]>,
+    pub length: Cell<'a>,
+    pub values: Cell<'a>,
     /// An answer.
-    pub value: Option<i16>,
+    pub value: Cell<'a>,
     pub store: Option<&'a Store>,
-    pub bytes: Option<&'a [u8]>,
+    pub bytes: Cell<'a>,
 }
 
 impl<'a> Cells<'a> {
@@ -38,148 +39,149 @@ impl<'a> Cells<'a> {
     fn of(record: &'a str) -> Cells<'a> {
         Cells {
             record,
-            inv: None,
-            handler: None,
-            ctx: None,
-            fun: None,
-            version: None,
-            cause: "",
-            packet: None,
-            other: None,
-            length: None,
-            values: None,
-            value: None,
+            invocation: Cell::Nothing,
+            handler: Cell::Nothing,
+            context: Cell::Nothing,
+            function: Cell::Nothing,
+            version: Cell::Nothing,
+            cause: Cell::Nothing,
+            packet: Cell::Nothing,
+            other: Cell::Nothing,
+            length: Cell::Nothing,
+            values: Cell::Nothing,
+            value: Cell::Nothing,
             store: None,
-            bytes: None,
-        }
-    }
-
-    /// A record of an invocation, which has its handler and its context if it is live.
-    fn of_invocation(record: &'a str, inv: u32, live: Option<Live>) -> Cells<'a> {
-        let cells = Cells {
-            inv: Some(inv),
-            ..Cells::of(record)
-        };
-        match live {
-            Some(live) => Cells {
-                handler: Some(live.handler),
-                ctx: Some(live.ctx),
-                ..cells
-            },
-            None => cells,
+            bytes: Cell::Nothing,
         }
     }
 
     /// What a line has; the nodes are as they were before it.
-    pub fn of_line(nodes: &Nodes, line: &'a Line) -> Cells<'a> {
+    pub fn of_line(desc: &'a Description, nodes: &Nodes, line: &'a Line) -> Cells<'a> {
+        let mut cells = Cells::of(record_of(line));
         match &line.told {
-            Told::OnAir(air) => Cells::of_air(air),
-            Told::Made(entry) => Cells::of_entry(nodes, line.node, entry),
+            Told::OnAir(air) => cells.set_air(air),
+            Told::Made(entry) => {
+                cells.set_entry(desc, entry);
+                cells.set_invocation(desc, nodes, line.node, entry);
+            }
             Told::Installed {
                 handler,
                 version,
                 image,
-            } => Cells {
-                handler: Some(*handler),
-                version: Some(*version),
-                bytes: Some(image.as_slice()),
-                ..Cells::of("install")
-            },
-            Told::Shown(store) => Cells {
-                store: Some(store),
-                ..Cells::of("seen")
-            },
+            } => {
+                cells.set_version(desc, *handler, *version);
+                cells.bytes = Cell::Hex(image.as_slice());
+            }
+            Told::Shown(store) => cells.store = Some(store),
         }
+        cells
     }
 
-    fn of_air(air: &'a Air) -> Cells<'a> {
+    fn set_version(&mut self, desc: &'a Description, handler: HandlerId, version: u32) {
+        self.handler = Cell::Text(handler_name(desc, handler));
+        self.version = Cell::Number(u64::from(version));
+    }
+
+    fn set_air(&mut self, air: &'a Air) {
         match air {
-            Air::Interval { length } => Cells {
-                length: Some(*length),
-                ..Cells::of("interval")
-            },
-            Air::Keep => Cells::of("keep"),
-            Air::Sent { number, bytes } => Cells {
-                packet: Some(*number),
-                bytes: Some(bytes.as_slice()),
-                ..Cells::of("sent")
-            },
-            Air::Lost { number, to } => Cells {
-                packet: Some(*number),
-                other: Some(*to),
-                ..Cells::of("lost")
-            },
-            Air::Got { number, from } => Cells {
-                packet: Some(*number),
-                other: Some(*from),
-                ..Cells::of("got")
-            },
-            Air::Noise { bytes } => Cells {
-                bytes: Some(bytes.as_slice()),
-                ..Cells::of("noise")
-            },
+            Air::Interval { length } => self.length = Cell::Number(u64::from(*length)),
+            Air::Keep => {}
+            Air::Sent { number, bytes } => {
+                self.packet = Cell::Number(u64::from(*number));
+                self.bytes = Cell::Hex(bytes.as_slice());
+            }
+            Air::Lost { number, to: other }
+            | Air::Got {
+                number,
+                from: other,
+            } => {
+                self.packet = Cell::Number(u64::from(*number));
+                self.other = Cell::Number(u64::from(*other));
+            }
+            Air::Noise { bytes } => self.bytes = Cell::Hex(bytes.as_slice()),
         }
     }
 
-    /// What an entry has. A kind that isn't named here has its word alone.
-    fn of_entry(nodes: &Nodes, node: u8, entry: &'a Entry) -> Cells<'a> {
-        let record = entry_word(entry);
+    /// What an entry has of its own. A kind that isn't named here has its word alone.
+    fn set_entry(&mut self, desc: &'a Description, entry: &'a Entry) {
         match entry {
             Entry::Post {
-                inv,
+                inv: _,
                 handler,
                 ctx,
                 payload,
-            } => Cells {
-                inv: Some(*inv),
-                handler: Some(*handler),
-                ctx: Some(*ctx),
-                values: Some(payload.as_slice()),
-                ..Cells::of(record)
-            },
-            Entry::Dropped { handler, cause } => Cells {
-                handler: Some(*handler),
-                cause: drop_word(*cause),
-                ..Cells::of(record)
-            },
-            Entry::Start { inv } => Cells::of_invocation(record, *inv, nodes.live(node, *inv)),
-            Entry::Ask { inv, fun, args } => Cells {
-                fun: Some(*fun),
-                values: Some(args.as_slice()),
-                ..Cells::of_invocation(record, *inv, nodes.live(node, *inv))
-            },
-            Entry::Answer { inv, value } => Cells {
-                value: Some(*value),
-                ..Cells::of_invocation(record, *inv, nodes.live(node, *inv))
-            },
-            Entry::Halt { inv } => Cells::of_invocation(record, *inv, nodes.live(node, *inv)),
-            Entry::Fault { inv, kind } => Cells {
-                cause: fault_word(*kind),
-                ..Cells::of_invocation(record, *inv, nodes.live(node, *inv))
-            },
+            } => {
+                self.handler = Cell::Text(handler_name(desc, *handler));
+                self.context = Cell::Number(u64::from(ctx.0));
+                self.values = Cell::Values(payload.as_slice());
+            }
+            Entry::Dropped { handler, cause } => {
+                self.handler = Cell::Text(handler_name(desc, *handler));
+                self.cause = Cell::Text(drop_word(*cause));
+            }
+            Entry::Ask { inv: _, fun, args } => {
+                self.function = Cell::Text(function_name(desc, *fun));
+                self.values = Cell::Values(args.as_slice());
+            }
+            Entry::Answer { inv: _, value } => self.value = Cell::Value(*value),
+            Entry::Fault { inv: _, kind } => self.cause = Cell::Text(fault_word(*kind)),
             Entry::Install {
                 handler,
                 version,
                 image: _,
-            } => Cells {
-                handler: Some(*handler),
-                version: Some(*version),
-                ..Cells::of(record)
-            },
-            Entry::Void { cause } => Cells {
-                cause: void_word(*cause),
-                version: held_version(*cause),
-                ..Cells::of(record)
-            },
-            _ => Cells::of(record),
+            } => self.set_version(desc, *handler, *version),
+            Entry::Void { cause } => {
+                self.cause = Cell::Text(void_word(*cause));
+                if let VoidCause::NotNewer { held } = cause {
+                    self.version = Cell::Number(u64::from(*held));
+                }
+            }
+            _ => {}
+        }
+    }
+
+    /// The invocation of an entry, with its handler and its context if it is live.
+    fn set_invocation(&mut self, desc: &'a Description, nodes: &Nodes, node: u8, entry: &Entry) {
+        let Some(inv) = invocation_of(entry) else {
+            return;
+        };
+        self.invocation = Cell::Number(u64::from(inv));
+        if let Entry::Post { .. } = entry {
+            return;
+        }
+        if let Some(live) = nodes.live(node, inv) {
+            self.handler = Cell::Text(handler_name(desc, live.handler));
+            self.context = Cell::Number(u64::from(live.ctx.0));
         }
     }
 }
 
-/// The version that a node already holds.
-fn held_version(cause: VoidCause) -> Option<u32> {
-    match cause {
-        VoidCause::NotNewer { held } => Some(held),
-        VoidCause::NotReady | VoidCause::NotWaiting => None,
+/// The word of a line's record.
+fn record_of(line: &Line) -> &str {
+    match &line.told {
+        Told::OnAir(air) => match air {
+            Air::Interval { .. } => "interval",
+            Air::Keep => "keep",
+            Air::Sent { .. } => "sent",
+            Air::Lost { .. } => "lost",
+            Air::Got { .. } => "got",
+            Air::Noise { .. } => "noise",
+        },
+        Told::Made(entry) => entry_word(entry),
+        Told::Installed { .. } => "install",
+        Told::Shown(_) => "seen",
+    }
+}
+
+/// The invocation that an entry is of, if it is of one.
+fn invocation_of(entry: &Entry) -> Option<u32> {
+    match entry {
+        Entry::Post { inv, .. }
+        | Entry::Start { inv }
+        | Entry::Ask { inv, .. }
+        | Entry::Answer { inv, .. }
+        | Entry::Halt { inv }
+        | Entry::Fault { inv, .. } => Some(*inv),
+        _ => None,
     }
 }

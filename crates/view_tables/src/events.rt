@@ -1,18 +1,35 @@
 //! The records of a report as rows.
 
 use crate::cells::Cells;
-use crate::row::{Form, Row, write_head, write_values};
 use mate_files::Sink;
-use mate_num::{Name, Payload, Store};
+use mate_num::{Name, Store};
 use report_line_reader::Line;
 use std::alloc::Global;
 use std::io::Read;
-use view_records::words::{function_name, handler_name};
-use view_records::{Ink, Nodes, Source, ViewFault};
+use view_records::row::write_values;
+use view_records::{Cell, Form, Ink, Nodes, Source, ViewFault, write_head, write_row};
 use vm_shape::Description;
 
-const COLUMNS: &str =
-    "line,event,time,node,record,invocation,handler,context,function,version,cause,packet,other,length,values,value,store,bytes";
+const COLUMNS: [&str; 18] = [
+    "line",
+    "event",
+    "time",
+    "node",
+    "record",
+    "invocation",
+    "handler",
+    "context",
+    "function",
+    "version",
+    "cause",
+    "packet",
+    "other",
+    "length",
+    "values",
+    "value",
+    "store",
+    "bytes",
+];
 
 /// Writes a row for each record, when it is read. A bad line ends the table after the rows of the lines before it.
 pub fn write_events<R: Read, S: Sink>(
@@ -20,119 +37,87 @@ pub fn write_events<R: Read, S: Sink>(
     desc: &Description,
     form: Form,
     source: &mut Source<R>,
-    ink: &mut Ink<S>,
+    sink: &mut S,
 ) -> Result<(), ViewFault> {
     let mut nodes = Nodes::new(alloc)?;
     let mut ended = Vec::new(alloc);
-    write_head(ink, form, COLUMNS);
+    let (mut ink, mut store) = (Ink::new(alloc), Ink::new(alloc));
+    write_head(form, &COLUMNS, &mut ink);
+    ink.flush(sink)?;
     for _ in 0..u64::MAX {
         let Some(line) = source.next(desc)? else {
             break;
         };
-        write_event(desc, form, source.count(), &nodes, &line, ink);
-        ink.check()?;
+        let cells = Cells::of_line(desc, &nodes, &line);
+        store.clear();
+        if let Some(seen) = cells.store {
+            write_store(desc, seen, &mut store);
+        }
+        let number = source.count();
+        write_event(form, number, &line, &cells, store.as_bytes(), &mut ink);
+        ink.flush(sink)?;
         nodes.follow(desc, &line, &mut ended)?;
         ended.clear();
     }
-    ink.check()
+    Ok(())
 }
 
-/// The row of a line.
-fn write_event<S: Sink>(
-    desc: &Description,
+/// The row of a line; `store` has the text of its store, if it has one.
+fn write_event<'a>(
     form: Form,
     number: u64,
-    nodes: &Nodes,
     line: &Line,
-    ink: &mut Ink<S>,
+    cells: &Cells<'a>,
+    store: &'a [u8],
+    ink: &mut Ink,
 ) {
-    let mut row = Row::begin(ink, form);
-    row.number(ink, "line", number);
-    row.number(ink, "event", line.stamp.event);
-    row.number(ink, "time", u64::from(line.stamp.time));
-    row.number(ink, "node", u64::from(line.node));
-    let cells = Cells::of_line(nodes, line);
-    write_what(desc, &cells, &mut row, ink);
-    write_more(desc, &cells, &mut row, ink);
-    row.end(ink);
-}
-
-/// The cells from `record` to `cause`.
-fn write_what<S: Sink>(desc: &Description, cells: &Cells<'_>, row: &mut Row, ink: &mut Ink<S>) {
-    row.word(ink, "record", cells.record);
-    row.number_or_none(ink, "invocation", cells.inv);
-    match cells.handler {
-        Some(handler) => row.word(ink, "handler", handler_name(desc, handler)),
-        None => row.empty(ink),
-    }
-    match cells.ctx {
-        Some(ctx) => row.number(ink, "context", u64::from(ctx.0)),
-        None => row.empty(ink),
-    }
-    match cells.fun {
-        Some(fun) => row.word(ink, "function", function_name(desc, fun)),
-        None => row.empty(ink),
-    }
-    row.number_or_none(ink, "version", cells.version);
-    row.word(ink, "cause", cells.cause);
-}
-
-/// The cells from `packet` to `bytes`.
-fn write_more<S: Sink>(desc: &Description, cells: &Cells<'_>, row: &mut Row, ink: &mut Ink<S>) {
-    row.number_or_none(ink, "packet", cells.packet);
-    row.small_or_none(ink, "other", cells.other);
-    row.number_or_none(ink, "length", cells.length);
-    match cells.values {
-        Some(values) => row.values(ink, "values", values),
-        None => row.empty(ink),
-    }
-    row.value_or_none(ink, "value", cells.value);
-    match cells.store {
-        Some(store) => {
-            row.open(ink, "store");
-            write_store(desc, store, ink);
-            row.close(ink);
-        }
-        None => row.empty(ink),
-    }
-    match cells.bytes {
-        Some(bytes) => row.hex(ink, "bytes", bytes),
-        None => row.empty(ink),
-    }
+    let store = match cells.store {
+        Some(_) => Cell::Bytes(store),
+        None => Cell::Nothing,
+    };
+    let row = [
+        Cell::Number(number),
+        Cell::Number(line.stamp.event),
+        Cell::Number(u64::from(line.stamp.time)),
+        Cell::Number(u64::from(line.node)),
+        Cell::Text(cells.record),
+        cells.invocation,
+        cells.handler,
+        cells.context,
+        cells.function,
+        cells.version,
+        cells.cause,
+        cells.packet,
+        cells.other,
+        cells.length,
+        cells.values,
+        cells.value,
+        store,
+        cells.bytes,
+    ];
+    write_row(form, &COLUMNS, &row, ink);
 }
 
 /// A store as the report has it.
-fn write_store<S: Sink>(desc: &Description, store: &Store, ink: &mut Ink<S>) {
-    write_shared(desc.shared.as_slice(), store.shared.as_slice(), ink);
-    if !desc.shared.is_empty() && !desc.buffers.is_empty() {
-        ink.text(" ");
-    }
-    write_buffers(desc.buffers.as_slice(), store.buffers.as_slice(), ink);
-}
-
-fn write_shared<S: Sink>(names: &[Name], values: &[i16], ink: &mut Ink<S>) {
-    let mut first = true;
-    for (name, value) in names.iter().zip(values) {
-        if !first {
-            ink.text(" ");
-        }
-        first = false;
-        ink.text(name.as_str());
+fn write_store(desc: &Description, store: &Store, ink: &mut Ink) {
+    let mut begun = false;
+    for (name, value) in desc.shared.as_slice().iter().zip(store.shared.as_slice()) {
+        write_name(begun, name, ink);
         ink.text("=");
-        ink.value(*value);
+        ink.value(i32::from(*value));
+        begun = true;
+    }
+    for (name, buffer) in desc.buffers.as_slice().iter().zip(store.buffers.as_slice()) {
+        write_name(begun, name, ink);
+        ink.text("=[");
+        write_values(buffer.as_slice(), " ", ink);
+        ink.text("]");
+        begun = true;
     }
 }
 
-fn write_buffers<S: Sink>(names: &[Name], buffers: &[Payload], ink: &mut Ink<S>) {
-    let mut first = true;
-    for (name, buffer) in names.iter().zip(buffers) {
-        if !first {
-            ink.text(" ");
-        }
-        first = false;
-        ink.text(name.as_str());
-        ink.text("=[");
-        write_values(ink, buffer.as_slice(), " ");
-        ink.text("]");
-    }
+/// Writes a name behind those before it.
+fn write_name(begun: bool, name: &Name, ink: &mut Ink) {
+    ink.text(if begun { " " } else { "" });
+    ink.text(name.as_str());
 }

@@ -1,22 +1,17 @@
-//! The tables of a report: its records, its calls and its installs as rows, and the sums of a run.
+//! The tables of a report: its records, its calls, its waits, its stores, its installs and its bounds as rows.
 #![tactic(auto)]
 
+mod bounds;
 mod calls;
 mod cells;
 mod events;
-mod row;
 mod spread;
-mod stats;
 mod store;
-mod sums;
-mod table;
-mod updates;
 mod waits;
 
+pub use bounds::write_bounds;
 pub use calls::write_calls;
 pub use events::write_events;
-pub use row::Form;
 pub use spread::write_spread;
-pub use stats::write_stats;
 pub use store::write_store_changes;
 pub use waits::write_waits;

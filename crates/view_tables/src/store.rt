@@ -1,16 +1,15 @@
 //! What variables and buffers hold over time, as rows.
 
-use crate::row::{Form, Row, write_head};
 use mate_files::Sink;
 use mate_num::{Name, Payload, Stamp, Store};
 use report_line_reader::Told;
 use std::alloc::Global;
 use std::io::Read;
 use view_records::stores::{Seen, same_values};
-use view_records::{Ink, Source, ViewFault};
+use view_records::{Cell, Form, Ink, Source, ViewFault, write_head, write_row};
 use vm_shape::Description;
 
-const COLUMNS: &str = "event,time,node,name,value,values";
+const COLUMNS: [&str; 6] = ["event", "time", "node", "name", "value", "values"];
 
 /// When and on which node a store was seen.
 #[derive(Clone, Copy)]
@@ -26,10 +25,12 @@ pub fn write_store_changes<R: Read, S: Sink>(
     desc: &Description,
     form: Form,
     source: &mut Source<R>,
-    ink: &mut Ink<S>,
+    sink: &mut S,
 ) -> Result<(), ViewFault> {
     let mut seen = Seen::new(alloc)?;
-    write_head(ink, form, COLUMNS);
+    let mut ink = Ink::new(alloc);
+    write_head(form, &COLUMNS, &mut ink);
+    ink.flush(sink)?;
     for _ in 0..u64::MAX {
         let Some(line) = source.next(desc)? else {
             break;
@@ -40,22 +41,22 @@ pub fn write_store_changes<R: Read, S: Sink>(
                 node: line.node,
             };
             let before = seen.before(line.node);
-            write_shared(desc, form, &sight, before, store, ink);
-            write_buffers(desc, form, &sight, before, store, ink);
-            ink.check()?;
+            write_shared(desc, form, &sight, before, store, &mut ink);
+            write_buffers(desc, form, &sight, before, store, &mut ink);
+            ink.flush(sink)?;
             seen.take(line.node, store);
         }
     }
-    ink.check()
+    Ok(())
 }
 
-fn write_shared<S: Sink>(
+fn write_shared(
     desc: &Description,
     form: Form,
     sight: &Sight,
     before: Option<&Store>,
     store: &Store,
-    ink: &mut Ink<S>,
+    ink: &mut Ink,
 ) {
     let mut place = 0usize;
     for (name, value) in desc.shared.as_slice().iter().zip(store.shared.as_slice()) {
@@ -68,22 +69,19 @@ fn write_shared<S: Sink>(
             None => false,
         };
         if !same {
-            let mut row = begin_row(form, sight, name, ink);
-            row.value_or_none(ink, "value", Some(*value));
-            row.empty(ink);
-            row.end(ink);
+            write_thing(form, sight, name, Cell::Value(*value), Cell::Nothing, ink);
         }
         place = place.saturating_add(1);
     }
 }
 
-fn write_buffers<S: Sink>(
+fn write_buffers(
     desc: &Description,
     form: Form,
     sight: &Sight,
     before: Option<&Store>,
     store: &Store,
-    ink: &mut Ink<S>,
+    ink: &mut Ink,
 ) {
     let mut place = 0usize;
     for (name, values) in desc.buffers.as_slice().iter().zip(store.buffers.as_slice()) {
@@ -92,10 +90,8 @@ fn write_buffers<S: Sink>(
             None => None,
         };
         if !is_same(old, values) {
-            let mut row = begin_row(form, sight, name, ink);
-            row.empty(ink);
-            row.list(ink, "values", values.as_slice());
-            row.end(ink);
+            let list = Cell::List(values.as_slice());
+            write_thing(form, sight, name, Cell::Nothing, list, ink);
         }
         place = place.saturating_add(1);
     }
@@ -109,11 +105,21 @@ fn is_same(old: Option<&Payload>, values: &Payload) -> bool {
     }
 }
 
-fn begin_row<S: Sink>(form: Form, sight: &Sight, name: &Name, ink: &mut Ink<S>) -> Row {
-    let mut row = Row::begin(ink, form);
-    row.number(ink, "event", sight.stamp.event);
-    row.number(ink, "time", u64::from(sight.stamp.time));
-    row.number(ink, "node", u64::from(sight.node));
-    row.word(ink, "name", name.as_str());
-    row
+fn write_thing<'a>(
+    form: Form,
+    sight: &Sight,
+    name: &'a Name,
+    value: Cell<'a>,
+    values: Cell<'a>,
+    ink: &mut Ink,
+) {
+    let row = [
+        Cell::Number(sight.stamp.event),
+        Cell::Number(u64::from(sight.stamp.time)),
+        Cell::Number(u64::from(sight.node)),
+        Cell::Text(name.as_str()),
+        value,
+        values,
+    ];
+    write_row(form, &COLUMNS, &row, ink);
 }

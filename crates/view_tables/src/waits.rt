@@ -1,6 +1,5 @@
 //! Which invocations wait for which, as rows.
 
-use crate::row::{Form, Row, write_head};
 use mate_files::Sink;
 use mate_journal::Entry;
 use mate_num::CONTEXTS_MAX;
@@ -9,11 +8,27 @@ use std::alloc::Global;
 use std::io::Read;
 use view_records::locks::write_shared;
 use view_records::words::handler_name;
-use view_records::{Ink, Live, Nodes, Source, Stretch, StretchEnd, ViewFault};
+use view_records::{
+    Cell, Form, Ink, Live, Nodes, Source, Stretch, StretchEnd, ViewFault, write_head, write_row,
+};
 use vm_shape::Description;
 
-const COLUMNS: &str =
-    "node,invocation,handler,context,holder,holder_handler,holder_context,resources,since_event,since_time,until_event,until_time,wait,end";
+const COLUMNS: [&str; 14] = [
+    "node",
+    "invocation",
+    "handler",
+    "context",
+    "holder",
+    "holder_handler",
+    "holder_context",
+    "resources",
+    "since_event",
+    "since_time",
+    "until_event",
+    "until_time",
+    "wait",
+    "end",
+];
 
 /// An invocation that waits to start, and an older one whose locks it has to wait for.
 #[derive(Clone, Copy)]
@@ -30,25 +45,41 @@ pub fn write_waits<R: Read, S: Sink>(
     desc: &Description,
     form: Form,
     source: &mut Source<R>,
-    ink: &mut Ink<S>,
+    sink: &mut S,
 ) -> Result<(), ViewFault> {
     let mut nodes = Nodes::new(alloc)?;
     let mut ended = Vec::new(alloc);
     let mut waits = Vec::new(alloc);
-    write_head(ink, form, COLUMNS);
+    let (mut ink, mut names) = (Ink::new(alloc), Ink::new(alloc));
+    write_head(form, &COLUMNS, &mut ink);
+    ink.flush(sink)?;
     for _ in 0..u64::MAX {
         let Some(line) = source.next(desc)? else {
             break;
         };
         nodes.follow(desc, &line, &mut ended)?;
-        write_ended(desc, form, ended.as_slice(), &mut waits, ink);
-        ink.check()?;
+        write_ended(
+            desc,
+            form,
+            ended.as_slice(),
+            &mut waits,
+            &mut names,
+            &mut ink,
+        );
+        ink.flush(sink)?;
         ended.clear();
         begin_waits(&nodes, &line, &mut waits)?;
     }
     nodes.finish(StretchEnd::Open, &mut ended)?;
-    write_ended(desc, form, ended.as_slice(), &mut waits, ink);
-    ink.check()
+    write_ended(
+        desc,
+        form,
+        ended.as_slice(),
+        &mut waits,
+        &mut names,
+        &mut ink,
+    );
+    ink.flush(sink)
 }
 
 /// A post may begin waits: for each live invocation of the node whose locks conflict with those of the new one.
@@ -81,13 +112,14 @@ fn begin_waits(nodes: &Nodes, line: &Line, waits: &mut Vec<Wait>) -> Result<(), 
     Ok(())
 }
 
-/// Writes the waits that end with some stretches, and forgets them.
-fn write_ended<S: Sink>(
+/// Writes the waits that end with some stretches, and forgets them. `names` is room for the names of resources.
+fn write_ended(
     desc: &Description,
     form: Form,
     ended: &[Stretch],
     waits: &mut Vec<Wait>,
-    ink: &mut Ink<S>,
+    names: &mut Ink,
+    ink: &mut Ink,
 ) {
     if waits.is_empty() {
         return;
@@ -95,7 +127,9 @@ fn write_ended<S: Sink>(
     for stretch in ended {
         for wait in waits.as_slice() {
             if ends(stretch, wait) {
-                write_wait(desc, form, wait, stretch, ink);
+                names.clear();
+                write_shared(desc, &wait.waiter.locks, &wait.holder.locks, names);
+                write_wait(desc, form, wait, stretch, names.as_bytes(), ink);
             }
         }
         waits.retain(|wait| !ends(stretch, wait));
@@ -105,58 +139,50 @@ fn write_ended<S: Sink>(
 /// Whether a wait ends with a stretch: the last one of the holder, or the waiter's own.
 fn ends(stretch: &Stretch, wait: &Wait) -> bool {
     let inv = stretch.live.inv;
-    stretch.node == wait.node
-        && (inv == wait.waiter.inv || (inv == wait.holder.inv && is_last(stretch.end)))
-}
-
-/// Whether an invocation ends so.
-fn is_last(end: StretchEnd) -> bool {
-    match end {
+    let is_last = match stretch.end {
         StretchEnd::Next | StretchEnd::Answered(_) => false,
         StretchEnd::Halted
         | StretchEnd::Faulted(_)
         | StretchEnd::Cut
         | StretchEnd::Open
         | StretchEnd::Unseen => true,
-    }
+    };
+    stretch.node == wait.node && (inv == wait.waiter.inv || (inv == wait.holder.inv && is_last))
 }
 
-fn write_wait<S: Sink>(
-    desc: &Description,
+/// The row of a wait; `names` has the names of what the two share.
+fn write_wait<'a>(
+    desc: &'a Description,
     form: Form,
     wait: &Wait,
     stretch: &Stretch,
-    ink: &mut Ink<S>,
+    names: &'a [u8],
+    ink: &mut Ink,
 ) {
-    let (waiter, holder) = (wait.waiter, wait.holder);
+    let (waiter, holder) = (&wait.waiter, &wait.holder);
     let since = waiter.since;
-    let mut row = Row::begin(ink, form);
-    row.number(ink, "node", u64::from(wait.node));
-    row.number(ink, "invocation", u64::from(waiter.inv));
-    row.word(ink, "handler", handler_name(desc, waiter.handler));
-    row.number(ink, "context", u64::from(waiter.ctx.0));
-    row.number(ink, "holder", u64::from(holder.inv));
-    row.word(ink, "holder_handler", handler_name(desc, holder.handler));
-    row.number(ink, "holder_context", u64::from(holder.ctx.0));
-    row.open(ink, "resources");
-    write_shared(desc, &waiter.locks, &holder.locks, ink);
-    row.close(ink);
-    row.number(ink, "since_event", since.event);
-    row.number(ink, "since_time", u64::from(since.time));
-    row.number(ink, "until_event", stretch.to.event);
-    row.number(ink, "until_time", u64::from(stretch.to.time));
-    let wait = stretch.to.time.saturating_sub(since.time);
-    row.number(ink, "wait", u64::from(wait));
-    row.word(ink, "end", end_word(stretch.end));
-    row.end(ink);
-}
-
-/// How a wait ended.
-fn end_word(end: StretchEnd) -> &'static str {
-    match end {
+    let end = match stretch.end {
         StretchEnd::Cut => "cut",
         StretchEnd::Open | StretchEnd::Unseen => "open",
         StretchEnd::Next | StretchEnd::Answered(_) | StretchEnd::Halted | StretchEnd::Faulted(_) =>
             "released",
-    }
+    };
+    let wait_ms = stretch.to.time.saturating_sub(since.time);
+    let row = [
+        Cell::Number(u64::from(wait.node)),
+        Cell::Number(u64::from(waiter.inv)),
+        Cell::Text(handler_name(desc, waiter.handler)),
+        Cell::Number(u64::from(waiter.ctx.0)),
+        Cell::Number(u64::from(holder.inv)),
+        Cell::Text(handler_name(desc, holder.handler)),
+        Cell::Number(u64::from(holder.ctx.0)),
+        Cell::Bytes(names),
+        Cell::Number(since.event),
+        Cell::Number(u64::from(since.time)),
+        Cell::Number(stretch.to.event),
+        Cell::Number(u64::from(stretch.to.time)),
+        Cell::Number(u64::from(wait_ms)),
+        Cell::Text(end),
+    ];
+    write_row(form, &COLUMNS, &row, ink);
 }
