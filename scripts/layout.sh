@@ -40,8 +40,8 @@ lay_out() {
         [ -e "$1/bin/mate-sweep" ] || ln -s ../share/mate/scripts/sweep "$1/bin/mate-sweep" || exit
         [ -e "$1/bin/mate-page" ] || ln -s ../share/mate/scripts/page "$1/bin/mate-page" || exit
         cd "$share" || exit
-        for page in docs/*.1; do
-            mv "$page" ../man/man1/ && ln -s "../../man/man1/${page##*/}" "$page" || exit
+        for page in docs/using/*.1; do
+            mv "$page" ../man/man1/ && ln -s "../../../man/man1/${page##*/}" "$page" || exit
         done
         for file in editors/bash/*.bash; do
             [ -f "$file" ] || continue

@@ -78,7 +78,7 @@ line_of_table() {
     return 1
 }
 
-# TABLE: the keys that docs/FORMATS.md has for a table of a description, or without a name those of the whole.
+# TABLE: the keys that docs/understanding/FORMATS.md has for a table of a description, or without a name those of the whole.
 keys_of() {
     TABLE=$1 awk -F' *[|] *' '
         seen && $0 == "" { exit }
@@ -86,7 +86,7 @@ keys_of() {
             seen = 1; gsub(/`/, "", $2); count = split($2, part, ".")
             if (ENVIRON["TABLE"] == "") { if (!told[part[1]]++) print part[1] }
             else if (count == 2 && part[1] == ENVIRON["TABLE"]) print part[2]
-        }' "$top/docs/FORMATS.md"
+        }' "$top/docs/understanding/FORMATS.md"
 }
 
 # N: which keys may stand where line N, which has a wrong one, stands.
@@ -104,10 +104,10 @@ tell_keys() {
     ! is_among "$key" vm shared buffers devices turns quantum || echo "\`$key\` stands before the first table."
 }
 
-# KEY: what docs/FORMATS.md says of a key of descriptions.
+# KEY: what docs/understanding/FORMATS.md says of a key of descriptions.
 key_says() {
     KEY=$1 awk -F' *[|] *' '$2 == "`" ENVIRON["KEY"] "`" { print "`" ENVIRON["KEY"] "` is " $3 ($4 == "required" ? "; it must be there" : $4 == "none" ? "" : "; without it: " $4) "."; found = 1 }
-        END { exit !found }' "$top/docs/FORMATS.md"
+        END { exit !found }' "$top/docs/understanding/FORMATS.md"
 }
 
 # The line begins with `bad description`.
@@ -125,7 +125,7 @@ explain_description() {
     esac
     [ -z "$place" ] || show_line "$vm" "$place"
     case $line in
-    *' field unknown') echo 'No description has this key here (docs/FORMATS.md).'; [ -z "$place" ] || tell_keys "$place" ;;
+    *' field unknown') echo 'No description has this key here (docs/understanding/FORMATS.md).'; [ -z "$place" ] || tell_keys "$place" ;;
     *' toml')
         echo 'Up to the line before this one the text is TOML.'
         key=$(sed -nE "$place{s/^[[:blank:]]*\\[(handler|function)\\].*/\\1/p;q;}" "$path")

@@ -1,12 +1,12 @@
 # shellcheck shell=bash
 # Read by ./explain: refusals of a script or a world.
 
-# The forms of lines that docs/GUIDE.md tells for the command: `FORM|MEANING` a line, with backquotes taken out of the form.
+# The forms of lines that docs/using/GUIDE.md tells for the command: `FORM|MEANING` a line, with backquotes taken out of the form.
 forms() {
     HEADING=$([ "${words[0]}" = node ] && echo '## The steps of a script' || echo '### The lines of a world') awk -F' *[|] *' '
         /^#/ { on = $0 == ENVIRON["HEADING"] }
         on && $2 ~ /^`/ { count = split($2, form, /`, `/); for (i = 1; i <= count; i++) { gsub(/`/, "", form[i]); print form[i] "|" $3 } }
-    ' "$top/docs/GUIDE.md"
+    ' "$top/docs/using/GUIDE.md"
 }
 
 # TEXT: the form of a line that begins as this one, and what it says.

@@ -1,5 +1,5 @@
 # shellcheck shell=bash
-# Read by ./explain: how files and words are shown, and the sentences of docs/REFUSALS.md.
+# Read by ./explain: how files and words are shown, and the sentences of docs/using/REFUSALS.md.
 
 # NAME: puts the path at which this file can be read again into $path, or fails.
 find_again() {
@@ -42,7 +42,7 @@ quoted() {
     if [ $# -eq 0 ]; then echo none; else listed "${@/%/\`}" | sed 's/^/`/; s/, /, `/g'; fi
 }
 
-# The sentence of docs/REFUSALS.md for a line: the row whose small words are those of the line, one after another.
+# The sentence of docs/using/REFUSALS.md for a line: the row whose small words are those of the line, one after another.
 sentence() {
     LINE=$1 awk -F' *[|] *' -v status="$status" '
         $2 == status && $3 ~ /^`/ {
@@ -64,7 +64,7 @@ sentence() {
                 for (j = 1; j <= last; j++) if (kept[j] ~ /^(N|NEED|HAVE)$/ && match(said[i], "^" kept[j] "[.,:]?$")) said[i] = word[words - last + j] substr(said[i], length(kept[j]) + 1)
                 printf "%s%s", said[i], (i < many ? " " : "\n")
             }
-        }' "$top/docs/REFUSALS.md"
+        }' "$top/docs/using/REFUSALS.md"
 }
 
 # NAME BYTE: the line of a byte of the file at $path with a caret under it, and of a long line what is round it.

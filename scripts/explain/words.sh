@@ -1,9 +1,9 @@
 # shellcheck shell=bash
 # Read by ./explain: the words of the command line.
 
-# The commands, a line each, as docs/GUIDE.md has them.
+# The commands, a line each, as docs/using/GUIDE.md has them.
 synopsis() {
-    awk -F' *[|] *' '/^#/ { on = $0 == "## Commands" } on && $2 ~ /^`/ { gsub(/`/, ""); printf "  %-38s%-20s%s\n", $2, $3, $4 }' "$top/docs/GUIDE.md"
+    awk -F' *[|] *' '/^#/ { on = $0 == "## Commands" } on && $2 ~ /^`/ { gsub(/`/, ""); printf "  %-38s%-20s%s\n", $2, $3, $4 }' "$top/docs/using/GUIDE.md"
 }
 
 explain_usage() {
@@ -32,7 +32,7 @@ show_help() {
     echo 'usage: mate WORDS..      runs one of these commands'
     echo '       explain WORDS..   runs the same, shows the place of a refusal, and says what a source costs and how a run ends'
     synopsis
-    echo 'VM is the file of a machine, or `builtin`. Flags may come anywhere before `--`. What each line means: docs/GUIDE.md.'
+    echo 'VM is the file of a machine, or `builtin`. Flags may come anywhere before `--`. What each line means: docs/using/GUIDE.md.'
 }
 
 # The version, and which program it is: by the sum of the texts that it was proved from, and the kit (which an install has in the second line of scripts/version).
