@@ -5,7 +5,7 @@ use Rattle.std.specs.Result.{is_ok}
 use Rattle.std.specs.Io.KnownBytes.{Keeps, append_known}
 use Rattle.command_refusals.specs.declared.refusal.Refusal.{Refusal}
 use Rattle.command_refusals.specs.declared.refusal.Refusal.TheVariants as refusal
-use Rattle.mate_cli.specs.Ends.{IsHandedOn, all_came, lost, part_came, IsWhole, refusal_in, after_flush}
+use Rattle.mate_cli.specs.Ends.{IsHandedOn, all_came, lost, part_came, IsAllWritten, refusal_in, after_flush}
 
 none-appended : (put got : Option (List ℕ)) → Keeps put (append_known got []) → Keeps put got
 none-appended None got k = k
@@ -16,7 +16,7 @@ pub when-ok : {A E : Type 0} (r : Result A E) (P : Type 0) → OnOk r P → is_o
 when-ok (Ok x) P p is = p
 when-ok (Err e) P p is = cc is
 
-full : (r : Refusal) → IsWhole (Some r) → r ≡ refusal.LogFull
+full : (r : Refusal) → IsAllWritten (Some r) → r ≡ refusal.LogFull
 full r (inl e) = cc e
 full r (inr e) = cc e
 

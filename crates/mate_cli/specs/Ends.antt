@@ -119,15 +119,15 @@ pub record CallEnds (f : Folder) (words : List (List ℕ)) (before now : ℕ) (s
 -- ---- with a buffer before the writer
 
 -- an ending at which all that is owed was written
-abbrev pub IsWhole : Option Refusal → Type 0
-IsWhole ending = (ending ≡ None) ⊎ (ending ≡ Some LogFull)
+abbrev pub IsAllWritten : Option Refusal → Type 0
+IsAllWritten ending = (ending ≡ None) ⊎ (ending ≡ Some LogFull)
 
 -- What the writer has got of the bytes that were put: all, or a prefix of them. If all that is owed was put, and the writer may lack some
 -- of it, that is refused.
 pub data IsHandedOn (came : Option Refusal) (put got : Option (List ℕ)) (ending : Option Refusal) : Type 0 where
   all_came : Keeps put got → ending ≡ came → IsHandedOn came put got ending
-  lost : (rest : List ℕ) → Keeps put (append_known got rest) → IsWhole came → ending ≡ Some SinkFault → IsHandedOn came put got ending
-  part_came : (rest : List ℕ) → Keeps put (append_known got rest) → (IsWhole came → ⊥) → ending ≡ came → IsHandedOn came put got ending
+  lost : (rest : List ℕ) → Keeps put (append_known got rest) → IsAllWritten came → ending ≡ Some SinkFault → IsHandedOn came put got ending
+  part_came : (rest : List ℕ) → Keeps put (append_known got rest) → (IsAllWritten came → ⊥) → ending ≡ came → IsHandedOn came put got ending
 
 -- How a call ends that puts its output to a buffer: `out` has what the buffer and the writer held before, and `got` what the writer has at
 -- the end.
