@@ -204,7 +204,8 @@ impl<'a> KeptRun<'a> {
     pub fn serves(&self, program: &StoredProgram, payload: &Payload, calls: &[Call]) -> bool
         ensures { IsTrue result → Serves program.now.image payload.now (answers_to calls.now) self.now }
     {
-        if program.image.as_slice() != self.program.image.as_slice() {
+        let own = self.program;
+        if program.image.as_slice() != own.image.as_slice() {
             return false;
         }
         if !same_values(payload.as_slice(), self.payload.as_slice()) {
