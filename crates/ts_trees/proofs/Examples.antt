@@ -1,4 +1,4 @@
--- The examples of docs/using/TINYSCRIPT.md, each by a derivation or by computation.
+-- The examples of docs/TINYSCRIPT.md, each by a derivation or by computation.
 use Rattle.std.proofs.Common.{◌≡◌, ℕ, [], ◌∷◌, ◌++◌, Ok, Err, Some, None, refl, codes, replicate, arith}
 use Rattle.std.specs.Prelude.{flat_map}
 use Rattle.std.specs.Fmt.{digits}

@@ -1,4 +1,4 @@
-//! How a version passes over pairs of links in a run: what the law of windows promises of it (`docs/understanding/NETWORK.md`, "Where packets are lost").
+//! How a version passes over pairs of links in a run: what the law of windows promises of it (`docs/NETWORK.md`, "Where packets are lost").
 
 use crate::around::Pair;
 use mate_num::NODES_MAX;
