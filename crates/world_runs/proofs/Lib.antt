@@ -1,4 +1,3 @@
-mod CopyLemmas
 pub mod RecordLemmas
 pub mod KeptLemmas
 pub mod RecordingLemmas
