@@ -24,8 +24,8 @@ pub use made::{Generated, generate};
 pub use reader::world_script;
 pub use refusal::Refusal;
 pub use script_steps::{
-    Cause, Lines, Link, Links, Plan, Planned, ScriptFault, Series, SeriesList, Step,
-    Steps, Values, What, Words, World, newest_of, node_script, note_newest, spells,
+    Cause, Lines, Link, Links, Plan, Planned, ScriptFault, Series, SeriesList, Step, Steps, Values,
+    What, Words, World, newest_of, node_script, note_newest, spells,
 };
 pub use source::source_of;
 pub use stage::Stage;
