@@ -1,5 +1,5 @@
 -- When a fact, and an expectation, holds of a run.
-use Rattle.std.specs.Prelude.{ℕ, ◌==◌, nat_le, nat_lt, ◌+◌, Bool, false, not, ◌&&◌, if◌then◌else◌, Option, None, Some, List, length, sum_by, slice_get}
+use Rattle.std.specs.Prelude.{ℕ, ◌==◌, nat_le, nat_lt, ◌+◌, Bool, false, not, ◌&&◌, ◌||◌, if◌then◌else◌, Option, None, Some, List, length, sum_by, slice_get}
 use Rattle.std.specs.List.{list_all, list_any}
 use Rattle.std.specs.Str.{bytes_eq}
 use Rattle.mate_journal.specs.Log.{Log}
@@ -22,9 +22,14 @@ use Rattle.test_expectations.specs.declared.seen.Sighting.{Sighting}
 abbrev pub is_seen_on : List Sighting → ℕ → Bool
 is_seen_on seen node = list_any (λ s. s.node == node) seen
 
--- a sighting is in an earlier event than another one; or in the same event or a later one, at most so many ms after it
+-- a sighting is in an earlier event than another one, or in the same event on the same node in an earlier place
+abbrev pub is_earlier : Sighting → Sighting → Bool
+is_earlier s other = nat_lt s.stamp.event other.stamp.event
+    || (s.stamp.event == other.stamp.event && s.node == other.node && nat_lt s.place other.place)
+
+-- a sighting is earlier than another one; or in the same event or a later one, at most so many ms after it
 abbrev pub is_related : Relation → Sighting → Sighting → Bool
-is_related relation.Earlier other s = nat_lt s.stamp.event other.stamp.event
+is_related relation.Earlier other s = is_earlier s other
 is_related (relation.SoonAfter ms) other s = nat_le other.stamp.event s.stamp.event && nat_le s.stamp.time (other.stamp.time + ms)
 
 -- each of the first ones has a second one that is so related to it

@@ -16,7 +16,7 @@ use mate_num::NoMemory;
 use std::alloc::Global;
 
 /// Whether one of the sightings is on a node.
-fn is_seen_on(seen: &[Sighting], node: usize) -> bool
+pub(crate) fn is_seen_on(seen: &[Sighting], node: usize) -> bool
     ensures { result ≡ is_seen_on seen.now node }
 {
     seen.iter().any(|sighting| sighting.node == node)
@@ -56,7 +56,7 @@ fn bytes_sent(node: Option<u8>, aired: &Aired) -> u64
 }
 
 /// How many bytes the packets of a node have together, or those of all nodes.
-fn all_bytes_sent(node: Option<u8>, air: &[Aired]) -> u64
+pub(crate) fn all_bytes_sent(node: Option<u8>, air: &[Aired]) -> u64
     ensures { result ≡ sum_by (bytes_sent node) air.now }
 {
     let mut bytes = 0;
@@ -113,7 +113,7 @@ pub fn fact_holds(alloc: Global, outcome: &RunOutcome<'_>, fact: &Fact) -> Resul
     }
 }
 
-fn literal_holds(
+pub(crate) fn literal_holds(
     alloc: Global,
     outcome: &RunOutcome<'_>,
     literal: &Literal,

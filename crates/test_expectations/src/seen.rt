@@ -3,7 +3,7 @@
 ghost use Rattle.std.specs.Prelude.{◌≡◌, ◌++◌, filter_map, IfOk, OnOk};
 ghost use Rattle.std.specs.Option.{option_to_list};
 ghost use Rattle.test_expectations.specs.Patterns.{post_handler, posted};
-ghost use Rattle.test_expectations.specs.Sightings.{entry_sighting, log_sightings, sightings_from, air_sighting, sightings};
+ghost use Rattle.test_expectations.specs.Sightings.{by_number, entry_sighting, entry_sightings, log_sightings, air_sighting, sightings};
 
 use crate::pattern::{Pattern, is_asked_node};
 use mate_journal::{Aired, Entry, NodeLog, Report, Stamped};
@@ -11,9 +11,11 @@ use mate_num::{HandlerId, NoMemory, Stamp};
 use std::alloc::Global;
 
 /// Where and when something is seen in a report.
-#[derive(Drop)]
+#[derive(Clone, Copy)]
 pub struct Sighting {
     pub node: usize,
+    /// The number of its entry in the node's log, from 1; 0 for what happens on the air.
+    pub place: usize,
     pub stamp: Stamp,
 }
 
@@ -55,13 +57,15 @@ fn entry_sighting(
     pattern: &Pattern,
     posts: &[HandlerId],
     node: usize,
+    place: usize,
     stamped: &Stamped,
 ) -> Option<Sighting>
-    ensures { result ≡ entry_sighting pattern.now posts.now node stamped.now }
+    ensures { result ≡ entry_sighting pattern.now posts.now node place stamped.now }
 {
     if pattern.matches(posts, stamped) {
         Some(Sighting {
             node,
+            place,
             stamp: stamped.stamp,
         })
     } else {
@@ -77,10 +81,11 @@ fn add_entries(
     entries: &[Stamped],
     seen: &mut Vec<Sighting>,
 ) -> Result<(), NoMemory>
-    ensures { OnOk result (seen.new.items ≡ seen.old.items ++ filter_map (entry_sighting pattern.now posts.now node) entries.now) }
+    ensures { OnOk result (seen.new.items ≡ seen.old.items ++ by_number (entry_sightings pattern.now posts.now node) 1 entries.now) }
 {
-    for stamped in entries {
-        push_some(seen, entry_sighting(pattern, posts, node, stamped))?;
+    for at in 0..entries.len() {
+        let sighting = entry_sighting(pattern, posts, node, at + 1, &entries[at]);
+        push_some(seen, sighting)?;
     }
     Ok(())
 }
@@ -109,7 +114,7 @@ fn add_logs(
     logs: &[NodeLog],
     seen: &mut Vec<Sighting>,
 ) -> Result<(), NoMemory>
-    ensures { OnOk result (seen.new.items ≡ seen.old.items ++ sightings_from pattern.now 0 logs.now) }
+    ensures { OnOk result (seen.new.items ≡ seen.old.items ++ by_number (log_sightings pattern.now) 0 logs.now) }
 {
     for node in 0..logs.len() {
         add_log(alloc, pattern, node, &logs[node], seen)?;
@@ -124,6 +129,7 @@ fn air_sighting(pattern: &Pattern, aired: &Aired) -> Option<Sighting>
     if pattern.matches_air(aired) {
         Some(Sighting {
             node: usize::from(aired.node),
+            place: 0,
             stamp: aired.stamp,
         })
     } else {

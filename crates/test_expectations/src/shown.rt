@@ -23,7 +23,7 @@ fn values_in(store: &Store, buffer: BufId) -> &[i16]
 }
 
 impl Place {
-    fn holds(&self, store: &Store) -> bool
+    pub(crate) fn holds(&self, store: &Store) -> bool
         ensures { result ≡ place_holds self.now store.now }
     {
         match self {
@@ -51,7 +51,7 @@ fn shown_in<'a>(stores: &'a [Store], entry: &Entry) -> Option<&'a Store>
 }
 
 /// The store that an entry of a log shows up to a time.
-fn shown_by<'a>(by: u32, log: &'a NodeLog, stamped: &Stamped) -> Option<&'a Store>
+pub(crate) fn shown_by<'a>(by: u32, log: &'a NodeLog, stamped: &Stamped) -> Option<&'a Store>
     ensures { option_copied result ≡ shown_by by log.now.stores stamped.now }
 {
     if stamped.stamp.time <= by {
@@ -83,7 +83,7 @@ impl When {
 
 /// What held of the stores so far, with one more, if there is one.
 fn held_after(place: &Place, when: When, held: bool, store: Option<&Store>) -> bool
-    ensures { result ≡ fold (λ before s. with_next when before (place_holds place.now s)) held (option_to_list (option_copied store)) }
+    ensures { result ≡ fold (λ before s. with_next when before (place_holds place.now s)) held (option_to_list (option_copied store.entry)) }
 {
     match store {
         Some(store) => when.with_next(held, place.holds(store)),

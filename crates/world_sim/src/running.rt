@@ -7,6 +7,7 @@ use mate_journal::{
     NodeLog, NodeLogs, Programs, RECORDS_MAX, Report, RunFault, StoredPrograms, stored,
 };
 use mate_num::Stamp;
+use radio_sim::SharedEvent;
 use script_steps::World;
 use std::alloc::Global;
 use vm_shape::Description;
@@ -47,8 +48,9 @@ pub fn run_stored(
     // (nothing is let go, so nothing takes its place)
     let mut room = NodeLog::new(alloc);
     let mut effect = Effect::none();
+    let mut event = SharedEvent::Planned(0);
     for events in 0..u64::MAX {
-        let Some((time, event)) = sim.radio.next() else {
+        let Some(time) = sim.radio.next_into(&mut event) else {
             let at = Stamp {
                 event: events + 1,
                 time: world.until,

@@ -40,7 +40,9 @@ returns-clause-shown c =
     let store = c.args.store.now in
     let k = c.in-Seen.number in
     let seen : Store = c.index-stores-number.result in
-    let at = c.index-stores-number.is ∙ get_or_default c.stores.result.now k seen no_store (bounds-stores-number c) in
+    let named : k < length l.stores = subst (IsNamedBelow (length l.images) (length l.stores)) c.in-Seen.is c.requires.named in
+    let below = subst (λ (stores : List Store). k < length stores) (sym c.stores.ensures) named in
+    let at = c.index-stores-number.is ∙ get_or_default c.stores.result.now k seen no_store below in
     subst (λ (shown : Bool). IfOk c.is_store_shown.result (λ b. b ≡ shown))
     (ap (λ (s : Store). is_store_shown m x store s) (at ∙ ap (λ (stores : List Store). get_or stores k no_store) c.stores.ensures)
     ∙ ap (λ (e : Entry). shows_right m x store (journal_entry l e)) (sym c.in-Seen.is))

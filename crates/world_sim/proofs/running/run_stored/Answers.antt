@@ -23,9 +23,9 @@ returns-in_default c =
     let next : c.loop-events.events + 1 ≡ suc (length c.loop-events.invariant.stands.moments) = omega (arith, count) in
     c.reports_keep_the_promise.ensures c.args.desc.now c.args.world.now c.args.programs.now Whole c.report_of.result c.requires
     (whole-report c.args.desc.now c.args.world.now c.args.programs.now c.loop-events.invariant.stands.moments c.loop-events.events (record { event = c.loop-events.events + 1; time = c.args.world.now.until }) c.loop-events.sim.motes.items
-    (record { radio = c.next.new.self; motes = c.see_stores.new.motes; records = c.loop-events.sim.records }) c.report_of.result c.loop-events.invariant.stands.come
+    (record { radio = c.next_into.new.self; motes = c.see_stores.new.motes; records = c.loop-events.sim.records }) c.report_of.result c.loop-events.invariant.stands.come
     (is-done (code_world c.args.desc.now c.args.world.now c.args.programs.now) c.loop-events.invariant.stands.moments c.loop-events.sim.radio c.loop-events.invariant.stands.radio c.in_default.ensures.first)
-    (ap (λ (e : Ether). e.air) c.next.ensures.others ∙ c.loop-events.invariant.stands.radio.air) c.loop-events.invariant.stands.nodes c.loop-events.invariant.stands.motes (sym count)
+    (ap (λ (e : Ether). e.air) c.next_into.ensures.others ∙ c.loop-events.invariant.stands.radio.air) c.loop-events.invariant.stands.nodes c.loop-events.invariant.stands.motes (sym count)
     (λ i. record { event = next i; time = c.args.world.now.until }) c.in_ok-see_stores.ensures
     (c.report_of.ensures.keeps c.args.desc.now (shown-machine c.args.desc.now _ c.loop-events.sim.motes.items c.see_stores.new.motes.items c.in_ok-see_stores.ensures
     (of-machine c.args.desc.now c.args.world.now c.args.programs.now c.loop-events.invariant.stands.moments c.loop-events.sim.motes.items c.loop-events.invariant.stands.nodes c.loop-events.invariant.stands.motes)))
@@ -37,13 +37,13 @@ report_of-requires-then-sim-ge-RECORDS_MAX-clause-count c = c.loop-events.invari
 
 pub returns-then-sim-ge-RECORDS_MAX : goal.returns-then-sim-ge-RECORDS_MAX
 returns-then-sim-ge-RECORDS_MAX c =
-    let b = behind (code_world c.args.desc.now c.args.world.now c.args.programs.now) c.loop-events.invariant.stands.moments c.loop-events.sim.radio c.next.new.self c.in-Some.time c.in-Some.event c.requires.world.nodes_high
-    (c.states_are_sound.ensures.dues c.args.desc.now c.args.world.now c.args.programs.now c.requires) c.loop-events.invariant.stands.come c.loop-events.invariant.stands.radio c.in-Some.ensures.first c.next.ensures.others in
+    let b = behind (code_world c.args.desc.now c.args.world.now c.args.programs.now) c.loop-events.invariant.stands.moments c.loop-events.sim.radio c.next_into.new.self c.in-Some.time c.next_into.new.event c.requires.world.nodes_high
+    (c.states_are_sound.ensures.dues c.args.desc.now c.args.world.now c.args.programs.now c.requires) c.loop-events.invariant.stands.come c.loop-events.invariant.stands.radio c.in-Some.ensures.first c.next_into.ensures.others in
     c.reports_keep_the_promise.ensures c.args.desc.now c.args.world.now c.args.programs.now Full c.report_of-then-sim-ge-RECORDS_MAX.result c.requires
     (full-report c.args.desc.now c.args.world.now c.args.programs.now c.loop-events.invariant.stands.moments c.loop-events.events
-    (record { radio = c.next.new.self; motes = c.loop-events.sim.motes; records = c.loop-events.sim.records }) c.report_of-then-sim-ge-RECORDS_MAX.result c.loop-events.invariant.stands.come
+    (record { radio = c.next_into.new.self; motes = c.loop-events.sim.motes; records = c.loop-events.sim.records }) c.report_of-then-sim-ge-RECORDS_MAX.result c.loop-events.invariant.stands.come
     (subst (λ (n : ℕ). 1000000 ≤ n) c.loop-events.invariant.stands.records c.if-sim-ge-RECORDS_MAX.true, c.in-Some.time, b.cause, b.within, b.next)
-    (ap (λ (e : Ether). e.air) c.next.ensures.others ∙ c.loop-events.invariant.stands.radio.air) c.loop-events.invariant.stands.nodes c.loop-events.invariant.stands.motes (sym c.loop-events.invariant.stands.count)
+    (ap (λ (e : Ether). e.air) c.next_into.ensures.others ∙ c.loop-events.invariant.stands.radio.air) c.loop-events.invariant.stands.nodes c.loop-events.invariant.stands.motes (sym c.loop-events.invariant.stands.count)
     (c.report_of-then-sim-ge-RECORDS_MAX.ensures.keeps c.args.desc.now
     (of-machine c.args.desc.now c.args.world.now c.args.programs.now c.loop-events.invariant.stands.moments c.loop-events.sim.motes.items c.loop-events.invariant.stands.nodes c.loop-events.invariant.stands.motes))
     c.report_of-then-sim-ge-RECORDS_MAX.ensures.is)
@@ -52,8 +52,8 @@ returns-then-sim-ge-RECORDS_MAX c =
 pub step-requires-clause-stands : goal.step-requires-clause-stands
 step-requires-clause-stands c =
     let count = c.loop-events.invariant.stands.count in
-    let b = behind (code_world c.args.desc.now c.args.world.now c.args.programs.now) c.loop-events.invariant.stands.moments c.loop-events.sim.radio c.next.new.self c.in-Some.time c.in-Some.event c.requires.world.nodes_high
-    (c.states_are_sound.ensures.dues c.args.desc.now c.args.world.now c.args.programs.now c.requires) c.loop-events.invariant.stands.come c.loop-events.invariant.stands.radio c.in-Some.ensures.first c.next.ensures.others in
+    let b = behind (code_world c.args.desc.now c.args.world.now c.args.programs.now) c.loop-events.invariant.stands.moments c.loop-events.sim.radio c.next_into.new.self c.in-Some.time c.next_into.new.event c.requires.world.nodes_high
+    (c.states_are_sound.ensures.dues c.args.desc.now c.args.world.now c.args.programs.now c.requires) c.loop-events.invariant.stands.come c.loop-events.invariant.stands.radio c.in-Some.ensures.first c.next_into.ensures.others in
     record {
       moments = c.loop-events.invariant.stands.moments;
       cause = b.cause;
@@ -64,7 +64,7 @@ step-requires-clause-stands c =
       is = b.is;
       stamp = omega (arith, count);
       taken = b.taken;
-      air = ap (λ (e : Ether). e.air) c.next.ensures.others ∙ c.loop-events.invariant.stands.radio.air;
+      air = ap (λ (e : Ether). e.air) c.next_into.ensures.others ∙ c.loop-events.invariant.stands.radio.air;
       nodes = c.loop-events.invariant.stands.nodes;
       motes = c.loop-events.invariant.stands.motes;
       records = c.loop-events.invariant.stands.records;
@@ -75,12 +75,12 @@ step-requires-clause-stands c =
 pub report_of-requires-clause-whole : goal.report_of-requires-clause-whole
 report_of-requires-clause-whole c = record {
   nodes = whole-shown _ c.loop-events.sim.motes.items c.see_stores.new.motes.items c.in_ok-see_stores.ensures c.loop-events.invariant.whole.nodes;
-  air = ap (λ (e : Ether). e.gone) c.next.ensures.others ∙ c.loop-events.invariant.whole.air;
+  air = ap (λ (e : Ether). e.gone) c.next_into.ensures.others ∙ c.loop-events.invariant.whole.air;
 }
 
 pub report_of-requires-then-sim-ge-RECORDS_MAX-clause-whole : goal.report_of-requires-then-sim-ge-RECORDS_MAX-clause-whole
 report_of-requires-then-sim-ge-RECORDS_MAX-clause-whole c =
-    record { nodes = c.loop-events.invariant.whole.nodes; air = ap (λ (e : Ether). e.gone) c.next.ensures.others ∙ c.loop-events.invariant.whole.air }
+    record { nodes = c.loop-events.invariant.whole.nodes; air = ap (λ (e : Ether). e.gone) c.next_into.ensures.others ∙ c.loop-events.invariant.whole.air }
 
 pub loop-events-init : goal.loop-events-init
 loop-events-init c = record { stands = c.in_ok-sim.ensures.stands c.args.programs.now; empty = record { entries = c.new-room.ensures.entries; images = c.new-room.ensures.images; stores = c.new-room.ensures.stores }; plain = c.none-effect.ensures; logs = c.in_ok-logs.ensures.count; whole = c.in_ok-sim.ensures.whole }
@@ -93,5 +93,5 @@ loop-events-preserved c =
       plain = c.in_ok-step.ensures.plain;
       logs = c.loop-events.invariant.logs;
       whole = whole-still (c.loop-events.events + 1) c.in_ok-step.field-0 a.mid c.step.new.sim a.adds
-          (subst IsWhole (sym a.lets_go) (record { nodes = c.loop-events.invariant.whole.nodes; air = ap (λ (e : Ether). e.gone) c.next.ensures.others ∙ c.loop-events.invariant.whole.air }));
+          (subst IsWhole (sym a.lets_go) (record { nodes = c.loop-events.invariant.whole.nodes; air = ap (λ (e : Ether). e.gone) c.next_into.ensures.others ∙ c.loop-events.invariant.whole.air }));
     }

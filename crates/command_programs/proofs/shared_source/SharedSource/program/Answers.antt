@@ -1,6 +1,7 @@
 use Rattle.std.proofs.Common.{◌≡◌, ℕ, List, Some, refl, sym, subst}
 use Rattle.capsule_codec.specs.Image.{CapsuleParts, IsCapsule, capsule_image}
 use Rattle.mate_journal.specs.declared.program.Program.{Program}
+use Rattle.node_programs.specs.Right.{IsRightProgram}
 use Rattle.command_steps.specs.SourceCode.{IsCompiledOf}
 use Rattle.command_steps.specs.declared.code.CompiledScript.{CompiledScript}
 use Rattle.vm_shape.specs.Shapes.{shape_of}
