@@ -1,6 +1,6 @@
 //! What a node exchanges with its neighbours: capsules, and the radio that carries them.
 
-ghost use Rattle.std.specs.Prelude.{◌<◌, ◌≤◌, length};
+ghost use Rattle.std.specs.Prelude.{◌≡◌, ◌<◌, ◌≤◌, length};
 ghost use Rattle.mate_num.specs.declared.bounds.TheConstants.{HANDLERS_MAX, HOUR};
 ghost use Rattle.packet_codec.specs.Packet.{IsRightPacket};
 ghost use Rattle.script_steps.specs.World.{IsRightWorld};
